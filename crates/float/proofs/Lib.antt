@@ -1,0 +1,19 @@
+-- Laws that the functions' proofs use.
+pub mod Signs
+pub mod Pack
+pub mod Rounding
+pub mod RoundLaws
+pub mod FloorLaws
+pub mod Extend
+pub mod Hypots
+pub mod Sums
+pub mod Floors
+pub mod Keys
+pub mod TotalOrder
+pub mod Extremes
+pub mod Whole
+pub mod Lengths
+pub mod Digit
+pub mod Words
+pub mod Packing
+pub mod Patterns

@@ -1,0 +1,9 @@
+pub mod Small
+pub mod Ops
+pub mod Key
+pub mod TotalOrder
+pub mod Hypot
+pub mod Cases
+pub mod Steps
+pub mod Floor
+pub mod Rounding
