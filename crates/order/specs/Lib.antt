@@ -1,0 +1,4 @@
+pub mod Order
+pub mod Merge
+pub mod Table
+pub mod Median
