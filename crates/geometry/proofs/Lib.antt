@@ -1,0 +1,2 @@
+-- Laws that the functions above this crate use.
+pub mod Clips

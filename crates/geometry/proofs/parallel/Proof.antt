@@ -1,0 +1,24 @@
+use Rattle.geometry.specs.Cross.{parallel}
+use borrow.Author.Needs.{needs}
+use Rattle.geometry.proofs.parallel.Statement.{statement}
+use Rattle.geometry.proofs.parallel.Tie as tie
+
+abs-requires : tie.Need-abs-requires
+abs-requires c κs = search needs
+
+hypot-requires : tie.Need-hypot-requires
+hypot-requires c κs = search needs
+
+hypot-requires-2 : tie.Need-hypot-requires-2
+hypot-requires-2 c κs = search needs
+
+max-requires : tie.Need-max-requires
+max-requires c κs = search needs
+
+returns : tie.Need-returns
+unfolding parallel
+returns c = cc
+
+pub parallel-spec : {M : Type 1} → statement M
+parallel-spec =
+    tie.close (tie.spec abs-requires hypot-requires hypot-requires-2 max-requires returns)

@@ -1,0 +1,4 @@
+pub mod Plane
+pub mod Clip
+pub mod Cross
+pub mod Cases

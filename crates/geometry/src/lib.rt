@@ -1,0 +1,182 @@
+// Points, boxes and pieces: the clip test, the crossing test and the place on a segment.
+ghost use mathlib.Core.Path.{_≡_};
+ghost use mathlib.Core.Bool.{_&&_};
+ghost use Prim.Native.Nat.{_+_, _*_, _<_};
+ghost use lib.ListN.{length, getD};
+ghost use lib.Ieee.{nan};
+ghost use Rattle.geometry.specs.Plane.{pointAt, boxAt};
+ghost use Rattle.geometry.specs.Clip.{part, clipBy, met, hits};
+ghost use Rattle.geometry.specs.Cross.{orient, crosses, parallel, param, placeOr};
+use float::hypot::hypot;
+use float::small::abs;
+use float::small::clamp;
+use float::small::max;
+use float::small::min;
+
+// A point of the drawing.
+pub struct Point {
+    pub x: f64,
+    pub y: f64,
+}
+
+// A box: its sides.
+pub struct Box {
+    pub left: f64,
+    pub top: f64,
+    pub right: f64,
+    pub bottom: f64,
+}
+
+// What is left of a piece after some of a box's four sides: nothing, or the part between two places on it.
+pub enum Clip {
+    Miss,
+    Part(f64, f64),
+}
+
+// Where the line through two points crosses a segment, between its ends (0 and 1), or that they are parallel.
+pub enum Param {
+    At(f64),
+    Parallel,
+}
+
+// The part from t0 to t1, unless it is turned round.
+fn part(t0: f64, t1: f64) -> Clip
+    ensures { λ r. ⌜ r ≡ part t0 t1 ⌝ }
+{
+    if t1 < t0 {
+        Clip::Miss
+    } else {
+        Clip::Part(t0, t1)
+    }
+}
+
+// One side of a box: p is how fast the piece nears it, q how far off it starts.
+fn clip_by(p: f64, q: f64, c: Clip) -> Clip
+    ensures { λ r. ⌜ r ≡ clipBy p q c ⌝ }
+{
+    let Clip::Part(t0, t1) = c else {
+        return Clip::Miss;
+    };
+    if p == 0.0 {
+        if q < 0.0 {
+            return Clip::Miss;
+        }
+        return c;
+    }
+    if p < 0.0 {
+        return part(max(t0, q / p), t1);
+    }
+    part(t0, min(t1, q / p))
+}
+
+// Whether anything is left.
+fn met(c: Clip) -> bool
+    ensures { λ r. ⌜ r ≡ met c ⌝ }
+{
+    if let Clip::Part(_, _) = c {
+        true
+    } else {
+        false
+    }
+}
+
+// Whether the piece from p to q meets the box.
+pub fn piece_hits(p: Point, q: Point, b: Box) -> bool
+    ensures { λ r. ⌜ r ≡ hits p q b ⌝ }
+{
+    let dx = q.x - p.x;
+    let dy = q.y - p.y;
+    let c1 = clip_by(-dx, p.x - b.left, Clip::Part(0.0, 1.0));
+    let c2 = clip_by(dx, b.right - p.x, c1);
+    let c3 = clip_by(-dy, p.y - b.top, c2);
+    met(clip_by(dy, b.bottom - p.y, c3))
+}
+
+// Whether the piece from p to q meets the box whose four numbers are b, a part of a box list.
+pub fn segment_hits_box(p: Point, q: Point, b: &[f64]) -> bool
+    requires { ⌜ length (now b) ≡ 4 ⌝ }
+    ensures { λ r. ⌜ r ≡ hits p q (boxAt (now (b .entry)) 0) ⌝ }
+{
+    piece_hits(
+        p,
+        q,
+        Box {
+            left: b[0],
+            top: b[1],
+            right: b[2],
+            bottom: b[3],
+        },
+    )
+}
+
+// Twice the area of the triangle o, a, b, with its sense.
+fn orient(o: Point, a: Point, b: Point) -> f64
+    ensures { λ r. ⌜ r ≡ orient o a b ⌝ }
+{
+    (a.x - o.x) * (b.y - o.y) - (a.y - o.y) * (b.x - o.x)
+}
+
+// Whether p q and a b cross at a point inside both.
+pub fn segments_cross(p: Point, q: Point, a: Point, b: Point) -> bool
+    ensures { λ r. ⌜ r ≡ crosses p q a b ⌝ }
+{
+    if orient(a, b, p) * orient(a, b, q) < 0.0 {
+        return orient(p, q, a) * orient(p, q, b) < 0.0;
+    }
+    false
+}
+
+// Whether the directions r and s are parallel, where denom is their cross product.
+fn parallel(denom: f64, r: Point, s: Point) -> bool
+    ensures { λ b. ⌜ b ≡ parallel denom r s ⌝ }
+{
+    abs(denom) < 1e-12 * max(hypot(r.x, r.y) * hypot(s.x, s.y), 2.2250738585072014e-308)
+}
+
+// Where the line through p and q crosses the segment from u to w.
+pub fn line_param(p: Point, q: Point, u: Point, w: Point) -> Param
+    ensures { λ r. ⌜ r ≡ param p q u w ⌝ }
+{
+    let r = Point {
+        x: q.x - p.x,
+        y: q.y - p.y,
+    };
+    let s = Point {
+        x: w.x - u.x,
+        y: w.y - u.y,
+    };
+    let denom = r.x * s.y - r.y * s.x;
+    if parallel(denom, r, s) {
+        return Param::Parallel;
+    }
+    let t = ((u.x - p.x) * r.y - (u.y - p.y) * r.x) / denom;
+    Param::At(clamp(t, 0.0, 1.0))
+}
+
+// The place, or another where the lines are parallel.
+pub fn place_or(x: Param, other: f64) -> f64
+    ensures { λ r. ⌜ r ≡ placeOr x other ⌝ }
+{
+    match x {
+        Param::At(t) => t,
+        Param::Parallel => other,
+    }
+}
+
+// The element i, a NaN past the end.
+pub fn number_at(list: &[f64], i: usize) -> f64
+    ensures { λ r. ⌜ r ≡ getD (now (list .entry)) i nan ⌝ }
+{
+    if i < list.len() { list[i] } else { 0.0 / 0.0 }
+}
+
+// The point i of a list of coordinates.
+pub fn point_at(list: &[f64], i: usize) -> Point
+    requires { ⌜ i < 0x1_0000_0000 ⌝ }
+    ensures { λ r. ⌜ r ≡ pointAt (now (list .entry)) i ⌝ }
+{
+    Point {
+        x: number_at(list, 2 * i),
+        y: number_at(list, 2 * i + 1),
+    }
+}
