@@ -1,0 +1,5 @@
+-- Laws that the functions' proofs and the crates above use.
+pub mod Sides
+pub mod Scans
+pub mod Fills
+pub mod Apart

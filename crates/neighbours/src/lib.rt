@@ -1,0 +1,130 @@
+// Neighbours over all pairs: boxes that overlap, the distance to the nearest other point, and how many points are near.
+ghost use mathlib.Core.Path.{_≡_};
+ghost use mathlib.Core.List.{_++_};
+ghost use Prim.Native.Nat.{_+_, _*_, _<_, _≤_};
+ghost use lib.ListN.{length, drop};
+ghost use lib.Ieee.{le};
+ghost use Rattle.float.specs.Hypot.{hypotOf};
+ghost use Rattle.order.specs.Table.{table};
+ghost use Rattle.neighbours.specs.Overlap.{meet, overlap};
+ghost use Rattle.neighbours.specs.Near.{NotPast, nearer, nearest, within, neighbours};
+use float::hypot::hypot;
+use float::small::max;
+use float::small::min;
+use geometry::Box;
+
+// Whether each of l0 to r0 and l1 to r1 begins before the other ends.
+fn meet(l0: f64, r0: f64, l1: f64, r1: f64) -> bool
+    ensures { λ r. ⌜ r ≡ meet l0 r0 l1 r1 ⌝ }
+{
+    if l0 < r1 {
+        return l1 < r0;
+    }
+    false
+}
+
+// Whether two boxes strictly overlap.
+pub fn overlaps(p: Box, q: Box) -> bool
+    ensures { λ r. ⌜ r ≡ overlap p q ⌝ }
+{
+    if meet(p.left, p.right, q.left, q.right) {
+        return meet(p.top, p.bottom, q.top, q.bottom);
+    }
+    false
+}
+
+// The longer of two sides x and y, which the hypotenuse is not below. Branch free.
+fn longer(x: f64, y: f64) -> f64
+    ensures { λ r. ⌜ NotPast r (hypotOf x y) ⌝ }
+{
+    max(max(x, -x), max(y, -y))
+}
+
+// The lesser of best and the length of (x, y), where that is above 0. A side longer than best settles it.
+fn closer(best: f64, x: f64, y: f64) -> f64
+    ensures { λ r. ⌜ r ≡ nearer best (hypotOf x y) ⌝ }
+{
+    if best < longer(x, y) {
+        return best;
+    }
+    let d = hypot(x, y);
+    if 0.0 < d {
+        return min(best, d);
+    }
+    best
+}
+
+// The least positive distance from point i to another of the first n, infinity if none.
+pub fn nearest_distance(points: &[f64], n: usize, i: usize) -> f64
+    requires { ⌜ (2 * n ≤ length (now points)) × (i < n) ⌝ }
+    ensures { λ r. ⌜ r ≡ nearest (now (points .entry)) n i ⌝ }
+{
+    let x = points[2 * i];
+    let y = points[2 * i + 1];
+    let mut best = f64::from_bits(0x7ff0_0000_0000_0000);
+    let mut j = 0;
+    while j < n {
+        if j == i {
+            j += 1;
+        } else {
+            best = closer(best, points[2 * j] - x, points[2 * j + 1] - y);
+            j += 1;
+        }
+    }
+    best
+}
+
+// The nearest distances of the first n points, in order, at the front of out.
+pub fn nearest_neighbour_distances(points: &[f64], n: usize, out: &mut [f64])
+    requires { ⌜ (2 * n ≤ length (now points)) × (n ≤ length (now out)) ⌝ }
+    ensures { λ _. ⌜ now (out .exit) ≡ table (nearest (now (points .entry)) n) n ++ drop n (now (out .entry)) ⌝ }
+{
+    let mut i = 0;
+    while i < n {
+        out[i] = nearest_distance(points, n, i);
+        i += 1;
+    }
+}
+
+// Whether the length of (x, y) is at most radius. A side longer than that settles it.
+fn is_near(x: f64, y: f64, radius: f64) -> bool
+    ensures { λ r. ⌜ r ≡ le (hypotOf x y) radius ⌝ }
+{
+    if radius < longer(x, y) {
+        return false;
+    }
+    hypot(x, y) <= radius
+}
+
+// How many others of the first n points are at most radius away from point i.
+fn count_near(points: &[f64], n: usize, radius: f64, i: usize) -> usize
+    requires { ⌜ (2 * n ≤ length (now points)) × (i < n) ⌝ }
+    ensures { λ r. ⌜ r ≡ within (now (points .entry)) n radius i ⌝ }
+{
+    let x = points[2 * i];
+    let y = points[2 * i + 1];
+    let mut count = 0;
+    let mut j = 0;
+    while j < n {
+        if j == i {
+            j += 1;
+        } else if is_near(points[2 * j] - x, points[2 * j + 1] - y, radius) {
+            count += 1;
+            j += 1;
+        } else {
+            j += 1;
+        }
+    }
+    count
+}
+
+// The same, and none where the radius is not above 0.
+pub fn count_within(points: &[f64], n: usize, radius: f64, i: usize) -> usize
+    requires { ⌜ (2 * n ≤ length (now points)) × (i < n) ⌝ }
+    ensures { λ r. ⌜ r ≡ neighbours (now (points .entry)) n radius i ⌝ }
+{
+    if 0.0 < radius {
+        return count_near(points, n, radius, i);
+    }
+    0
+}
