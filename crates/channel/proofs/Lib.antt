@@ -1,0 +1,9 @@
+-- Laws of channels and spacing.
+mod Making
+mod Keys
+mod Filling
+mod Passes
+mod Ways
+pub mod Spacing
+pub mod Ranges
+mod Cases

@@ -1,0 +1,17 @@
+-- `channel::space::crowded` meets its contract. Assumes nothing.
+use mathlib.Core.Path.{refl}
+use Rattle.channel.specs.Space.{crowded}
+use Rattle.channel.proofs.Keys.{whole}
+use borrow.Author.Needs.{needs}
+use Rattle.channel.proofs.space.crowded.Statement.{statement}
+use Rattle.channel.proofs.space.crowded.Tie as tie
+
+int-to-float-result : tie.Need-int-to-float-result
+int-to-float-result c = whole _ (c .before .pre)
+
+returns : tie.Need-returns
+unfolding crowded
+returns c = refl
+
+pub crowded-spec : {M : Type 1} → statement M
+crowded-spec = tie.close (tie.spec int-to-float-result returns)

@@ -1,0 +1,78 @@
+-- `channel::space::space_all` meets its contract. Assumes nothing.
+use Prim.Native.Nat.{ℕ}
+use mathlib.Core.Path.{_≡_, ap, _∙_}
+use mathlib.Core.List.{List}
+use native.Mathlib.Omega.{arith}
+use lib.ListN.{length, replicate}
+use lib.Ieee.{Float}
+use Rattle.order.specs.Order.{upFrom}
+use Rattle.channel.proofs.Ways.{steps}
+use borrow.Author.Needs.{needs}
+use Rattle.channel.proofs.space.space_all.Statement.{statement}
+use Rattle.channel.proofs.space.space_all.Tie as tie
+
+wish-keys-requires : tie.Need-wish-keys-requires
+wish-keys-requires c κs = search needs
+
+number-requires : tie.Need-number-requires
+number-requires c κs = search needs
+
+sort-by-key-requires : tie.Need-sort-by-key-requires
+sort-by-key-requires c κs = search needs
+
+gather-requires : tie.Need-gather-requires
+gather-requires c κs = search needs
+
+place-requires : tie.Need-place-requires
+place-requires c κs = search needs
+
+put-all-requires : tie.Need-put-all-requires
+put-all-requires c κs = search needs
+
+same-length : tie.Need-same-length
+same-length c = search needs
+
+same-length-2 : tie.Need-same-length-2
+same-length-2 c = search needs
+
+same-length-3 : tie.Need-same-length-3
+same-length-3 c = search needs
+
+same-length-4 : tie.Need-same-length-4
+same-length-4 c = search needs
+
+same-length-5 : tie.Need-same-length-5
+same-length-5 c = search needs
+
+returns : tie.Need-returns
+returns c =
+    let s = c .before .before .before .before .before .before .before .before .before .before .before .before .before .before .before .before .before .before .before .before .before .before .before .before .before .before .before .before .before .before .before .before .before .before .before .before .before .before in
+    let w : List Float = s .args .wish .now in
+    let k = c .before .before .before .before .before .before .before .before .before .before .before .before .before .before .before .before .before .before .before .before .before .before .before .before .before .before .before .before .before .before .wish-keys in
+    let u = c .before .before .before .before .before .before .before .before .before .before .before .before .before .before .before .before .before .before .before .before .before .before .before .before .before .before .number in
+    let o = c .before .before .before .before .before .before .before .before .before .before .before .before .before .before .before .before .before .before .before .before .sort-by-key in
+    let g = c .before .before .before .before .before .before .before .before .before .before .before .before .gather in
+    let p = c .before .before .before .before .before .before .before .before .place in
+    let q = c .before .before .put-all in
+    let e : length (s .args .order .now) ≡ length w = omega (arith, s .pre) in
+    let f : length (s .args .spare .now) ≡ length w = omega (arith, s .pre) in
+    let numbered : u .last .0 ≡ upFrom 0 (length w) = cc (u .ensures) in
+    let r = steps (s .args .c) w (q .last .1 .1 .0) (g .last .1 .1 .0) (p .last .1 .0) (k .last .1 .0) (u .last .0) (o .last .1 .0) (k .ensures) numbered (o .ensures .0) (g .ensures) (p .ensures) (q .ensures) in
+    (r .0, (k .ensures, (r .1, (o .ensures .1 ∙ ap (λ (n : ℕ). replicate n 0) f, r .2))))
+
+pub space-all-spec : {M : Type 1} → statement M
+space-all-spec =
+    tie.close
+    (tie.spec
+    wish-keys-requires
+    number-requires
+    sort-by-key-requires
+    gather-requires
+    place-requires
+    put-all-requires
+    same-length
+    same-length-2
+    same-length-3
+    same-length-4
+    same-length-5
+    returns)
