@@ -1,0 +1,5 @@
+pub mod Options
+pub mod Words
+pub mod Views
+pub mod Seed
+pub mod Refusal

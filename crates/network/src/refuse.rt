@@ -1,0 +1,84 @@
+// The refusals that the input alone decides: 1 to 4 and 6, and whether numbers are finite.
+ghost use mathlib.Core.Path.{_≡_};
+ghost use Prim.Native.Nat.{_+_, _<_};
+ghost use Rattle.network.specs.Refusal.{shapeRefusal, above, farOut, tooFar, everyFinite};
+use crate::words::station_count;
+use float::small::abs;
+use float::small::is_finite;
+use geometry::number_at;
+use geometry::point_at;
+
+// 1 to 4, 0 where none applies.
+pub fn shape_refusal(sub: &[u32], kv: &[u64], from: &[i64], to: &[i64]) -> u32
+    ensures { λ r. ⌜ r ≡ shapeRefusal (now (sub .entry)) (now (kv .entry)) (now (from .entry)) (now (to .entry)) ⌝ }
+{
+    if sub.len() > 4096 {
+        return 1;
+    }
+    if from.len() > 8192 {
+        return 1;
+    }
+    if kv.len() != sub.len() {
+        return 2;
+    }
+    if to.len() != from.len() {
+        return 3;
+    }
+    if station_count(sub) > sub.len() {
+        return 4;
+    }
+    0
+}
+
+// Whether a number is above 10^12 in size.
+fn above(x: f64) -> bool
+    ensures { λ r. ⌜ r ≡ above x ⌝ }
+{
+    1e12 < abs(x)
+}
+
+// Whether two finite coordinates have one above 10^12 in size.
+fn far_out(x: f64, y: f64) -> bool
+    ensures { λ r. ⌜ r ≡ farOut x y ⌝ }
+{
+    if !is_finite(x) {
+        return false;
+    }
+    if !is_finite(y) {
+        return false;
+    }
+    if above(x) {
+        return true;
+    }
+    above(y)
+}
+
+// 6: whether one of n buses with two finite coordinates has one above 10^12 in size.
+pub fn too_far(n: usize, xy: &[f64]) -> bool
+    requires { ⌜ n < 0x1_0000_0000 ⌝ }
+    ensures { λ r. ⌜ r ≡ tooFar n (now (xy .entry)) ⌝ }
+{
+    let mut i = 0;
+    while i < n {
+        let p = point_at(xy, i);
+        if far_out(p.x, p.y) {
+            return true;
+        }
+        i += 1;
+    }
+    false
+}
+
+// Whether the first c numbers of a list are finite.
+pub fn finite_to(list: &[f64], c: usize) -> bool
+    ensures { λ r. ⌜ r ≡ everyFinite c (now (list .entry)) ⌝ }
+{
+    let mut i = 0;
+    while i < c {
+        if !is_finite(number_at(list, i)) {
+            return false;
+        }
+        i += 1;
+    }
+    true
+}
