@@ -1,0 +1,4 @@
+pub mod Column
+pub mod Ranking
+pub mod Row
+pub mod Entry

@@ -1,0 +1,4 @@
+// Columns and rows.
+pub mod columns;
+pub mod ranking;
+pub mod rows;
