@@ -1,0 +1,7 @@
+-- Laws that the functions' proofs and the crates above use.
+pub mod Blocks
+pub mod Occupied
+pub mod Near
+pub mod Scaled
+pub mod Stage
+pub mod Cases

@@ -1,0 +1,18 @@
+-- `units::sizes::width` meets its contract. Assumes nothing.
+use Rattle.units.specs.Size.{widthFor}
+use borrow.Author.Needs.{needs}
+use Rattle.units.proofs.sizes.width.Statement.{statement}
+use Rattle.units.proofs.sizes.width.Tie as tie
+
+gaps-requires : tie.Need-gaps-requires
+gaps-requires c κs = search needs
+
+int-to-float-result : tie.Need-int-to-float-result
+int-to-float-result c = search needs
+
+returns : tie.Need-returns
+unfolding widthFor
+returns c = cc
+
+pub width-spec : {M : Type 1} → statement M
+width-spec = tie.close (tie.spec gaps-requires int-to-float-result returns)

@@ -1,0 +1,4 @@
+pub mod Size
+pub mod Unit
+pub mod Scale
+pub mod Views
