@@ -1,0 +1,13 @@
+pub mod Sorting
+pub mod Grids
+pub mod Queue
+pub mod Rest
+pub mod Sizing
+pub mod Searching
+pub mod Placing
+pub mod OffsetLaw
+pub mod PlaceLaw
+pub mod Cases
+pub mod Rank
+pub mod Clear
+pub mod NoOverlap

@@ -1,0 +1,12 @@
+-- `placement::search::box_on` meets its contract. Assumes nothing.
+use mathlib.Core.Path.{refl}
+use Rattle.placement.specs.Place.{boxOn}
+use Rattle.placement.proofs.search.box_on.Statement.{statement}
+use Rattle.placement.proofs.search.box_on.Tie as tie
+
+returns : tie.Need-returns
+unfolding boxOn
+returns c = refl
+
+pub box-on-spec : {M : Type 1} → statement M
+box-on-spec = tie.close (tie.spec returns)

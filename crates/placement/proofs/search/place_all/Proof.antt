@@ -1,0 +1,93 @@
+-- `placement::search::place_all` meets its contract: the first p stations are placed. Assumes nothing.
+use Prim.Native.Nat.{_≤_, _<_, _+_, _-_, _*_}
+use mathlib.Core.Path.{_≡_, refl, sym}
+use native.Mathlib.Omega.{arith}
+use lib.ListN.{length, getD}
+use Rattle.order.proofs.Strides.{getD-strided, length-strided}
+use Rattle.network.specs.Views.{orderIn, pointsIn}
+use Rattle.placement.specs.Views.{framesIn, offsetsIn}
+use Rattle.placement.proofs.Placing.{Placed, placed-none, placed-more, placed-end, turn-below}
+use borrow.Author.Needs.{needs}
+use Rattle.placement.proofs.search.place_all.Statement.{statement}
+use Rattle.placement.proofs.search.place_all.Tie as tie
+
+abbrev Inv-loop : tie.InvT-loop
+Inv-loop k r unit stations blocks keys sorted offsets places₀ frames₀ p₀ places frames p = (p ≤ r) × (length places ≡ length places₀) × (length frames ≡ length frames₀) × Placed (framesIn unit k blocks) (offsetsIn offsets keys sorted) (pointsIn k places₀) (orderIn r stations) k p places frames
+
+abbrev μ-loop : tie.MeasureT-loop
+μ-loop k r unit stations blocks keys sorted offsets places₀ frames₀ p₀ places frames p = r - p
+
+loop-holds : tie.Need-loop-holds Inv-loop μ-loop
+loop-holds c = (omega arith, refl, refl, placed-none _ _ _ _ _ _)
+
+mul-s : tie.Need-mul-s Inv-loop μ-loop
+mul-s c = search needs
+
+add-s : tie.Need-add-s Inv-loop μ-loop
+add-s c = search needs
+
+mul-s-2 : tie.Need-mul-s-2 Inv-loop μ-loop
+mul-s-2 c = search needs
+
+shared-slice-read-s : tie.Need-shared-slice-read-s Inv-loop μ-loop
+shared-slice-read-s c = search needs
+
+cast-s : tie.Need-cast-s Inv-loop μ-loop
+cast-s c = omega (arith, c .shared-slice-known5 .given (2 * c .before .before .loop .p + 1))
+
+place-station-requires : tie.Need-place-station-requires Inv-loop μ-loop
+place-station-requires c κs =
+    let l = c .before .before .before .before in
+    let s = c .before .before .before .before .before .before .before .before .before .before .before in
+    let h : getD (s .args .stations .now) (2 * l .loop .p + 1) 0 < s .args .k = turn-below _ _ _ _ (s .pre .1) (omega arith) in
+    (omega (arith, h, s .pre .0), omega (arith, h, s .pre .0, l .loop .inv .1), omega (arith, s .pre .0, l .loop .inv .2))
+
+add-p : tie.Need-add-p Inv-loop μ-loop
+add-p c = search needs
+
+loop-less : tie.Need-loop-less Inv-loop μ-loop
+loop-less c = search needs
+
+loop-again : tie.Need-loop-again Inv-loop μ-loop
+loop-again c =
+    let l = c .before .before .before .before .before .before .before .before .before in
+    let s = c .before .before .before .before .before .before .before .before .before .before .before .before .before .before .before .before in
+    let t = c .before .before .before .before in
+    let h : l .loop .p < length (orderIn (s .args .r) (s .args .stations .now)) = rw (length-strided 2 1 0 (s .args .r) (s .args .stations .now)) (omega arith) in (
+      omega arith,
+      omega (arith, t .place-station .kept, l .loop .inv .1),
+      omega (arith, t .place-station .kept, l .loop .inv .2),
+      placed-more (s .args .unit) (s .args .k) (s .args .blocks .now) _ _ _ (s .pre .1) (l .loop .p) _ h (sym (getD-strided 2 1 0 (s .args .r) (l .loop .p) (s .args .stations .now) 0 (omega arith)))
+          _ _ _ _ (omega (arith, s .pre .0, l .loop .inv .1)) (omega (arith, s .pre .0, l .loop .inv .2)) (t .place-station .ensures) (l .loop .inv .3),
+    )
+
+same-length : tie.Need-same-length Inv-loop μ-loop
+same-length c = search needs
+
+same-length-2 : tie.Need-same-length-2 Inv-loop μ-loop
+same-length-2 c = search needs
+
+returns : tie.Need-returns Inv-loop μ-loop
+returns c =
+    let l = c .before in
+    placed-end _ _ _ _ _ _ _ _ _ (omega arith) (l .loop .inv .3)
+
+pub place-all-spec : {M : Type 1} → statement M
+place-all-spec =
+    tie.close
+    (tie.spec
+    Inv-loop
+    μ-loop
+    loop-holds
+    mul-s
+    add-s
+    mul-s-2
+    shared-slice-read-s
+    cast-s
+    place-station-requires
+    add-p
+    loop-less
+    loop-again
+    same-length
+    same-length-2
+    returns)

@@ -1,0 +1,144 @@
+-- `placement::search::place_station` meets its contract. Assumes nothing.
+use mathlib.Core.Path.{refl, ap, _∙_}
+use Rattle.placement.specs.Place.{frameFor}
+use Rattle.placement.specs.Views.{putBox}
+use borrow.Author.Needs.{needs}
+use Rattle.placement.proofs.search.place_station.Statement.{statement}
+use Rattle.placement.proofs.search.place_station.Tie as tie
+
+mul-f : tie.Need-mul-f
+mul-f c = search needs
+
+add-f : tie.Need-add-f
+add-f c = search needs
+
+mul-f-2 : tie.Need-mul-f-2
+mul-f-2 c = search needs
+
+shared-slice-read-f : tie.Need-shared-slice-read-f
+shared-slice-read-f c = search needs
+
+mul-w : tie.Need-mul-w
+mul-w c = search needs
+
+mul-w-2 : tie.Need-mul-w-2
+mul-w-2 c = search needs
+
+shared-slice-read-w : tie.Need-shared-slice-read-w
+shared-slice-read-w c = search needs
+
+mul-h : tie.Need-mul-h
+mul-h c = search needs
+
+add-h : tie.Need-add-h
+add-h c = search needs
+
+mul-h-2 : tie.Need-mul-h-2
+mul-h-2 c = search needs
+
+shared-slice-read-h : tie.Need-shared-slice-read-h
+shared-slice-read-h c = search needs
+
+mul-t17 : tie.Need-mul-t17
+mul-t17 c = search needs
+
+mul-t15 : tie.Need-mul-t15
+mul-t15 c = search needs
+
+slice-read-t19 : tie.Need-slice-read-t19
+slice-read-t19 c = search needs
+
+mul-t16 : tie.Need-mul-t16
+mul-t16 c = search needs
+
+add-t24 : tie.Need-add-t24
+add-t24 c = search needs
+
+mul-t25 : tie.Need-mul-t25
+mul-t25 c = search needs
+
+slice-read-t21 : tie.Need-slice-read-t21
+slice-read-t21 c = search needs
+
+place-for-requires : tie.Need-place-for-requires
+place-for-requires c κs = search needs
+
+mul-places : tie.Need-mul-places
+mul-places c = search needs
+
+mul-places-2 : tie.Need-mul-places-2
+mul-places-2 c = search needs
+
+slice-write-places : tie.Need-slice-write-places
+slice-write-places c = search needs
+
+mul-places-3 : tie.Need-mul-places-3
+mul-places-3 c = search needs
+
+add-places : tie.Need-add-places
+add-places c = search needs
+
+mul-places-4 : tie.Need-mul-places-4
+mul-places-4 c = search needs
+
+slice-write-places-2 : tie.Need-slice-write-places-2
+slice-write-places-2 c = search needs
+
+box-on-requires : tie.Need-box-on-requires
+box-on-requires c κs = search needs
+
+put-box-requires : tie.Need-put-box-requires
+put-box-requires c κs = search needs
+
+same-length : tie.Need-same-length
+same-length c = search needs
+
+same-length-2 : tie.Need-same-length-2
+same-length-2 c = search needs
+
+returns : tie.Need-returns
+unfolding frameFor
+returns c =
+    let s = c .before .before .before .before .before .before .before .before .before .before .before .before .before .before .before .before .before in
+    record {
+      at = c .before .before .before .before .before .place-for .result;
+      chosen = c .before .before .before .before .before .place-for .ensures;
+      placed = refl;
+      boxed = c .before .before .put-box .ensures ∙ ap (putBox (s .args .frames .now) (s .args .p)) (c .before .before .before .box-on .ensures);
+    }
+
+pub place-station-spec : {M : Type 1} → statement M
+place-station-spec =
+    tie.close
+    (tie.spec
+    mul-f
+    add-f
+    mul-f-2
+    shared-slice-read-f
+    mul-w
+    mul-w-2
+    shared-slice-read-w
+    mul-h
+    add-h
+    mul-h-2
+    shared-slice-read-h
+    mul-t17
+    mul-t15
+    slice-read-t19
+    mul-t16
+    add-t24
+    mul-t25
+    slice-read-t21
+    place-for-requires
+    mul-places
+    mul-places-2
+    slice-write-places
+    mul-places-3
+    add-places
+    mul-places-4
+    slice-write-places-2
+    box-on-requires
+    put-box-requires
+    same-length
+    same-length-2
+    returns)

@@ -1,0 +1,4 @@
+pub mod Offset
+pub mod Place
+pub mod Views
+pub mod Modest

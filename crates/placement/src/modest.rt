@@ -1,0 +1,121 @@
+// Refusal 8: whether the occupied stations' boxes are all of size 0, or one lies too far out for its size.
+ghost use mathlib.Core.Path.{_≡_};
+ghost use Prim.Native.Nat.{_+_, _*_, _≤_, _<_};
+ghost use lib.Dec.{ltb};
+ghost use lib.ListN.{length};
+ghost use Rattle.float.specs.Ops.{f0};
+ghost use Rattle.geometry.specs.Plane.{boxAt};
+ghost use Rattle.network.specs.Words.{occupied};
+ghost use Rattle.network.specs.Views.{countsIn, boxesIn};
+ghost use Rattle.placement.specs.Modest.{largerSide, largest, modest, modestBox, allModest, illSized};
+use float::small::abs;
+use float::small::max;
+use geometry::Box;
+
+// The s-th box.
+fn box_at(frames: &[f64], s: usize) -> Box
+    requires { ⌜ 4 * s + 3 < length (now frames) ⌝ }
+    ensures { λ r. ⌜ r ≡ boxAt (now (frames .entry)) s ⌝ }
+{
+    Box {
+        left: frames[4 * s],
+        top: frames[4 * s + 1],
+        right: frames[4 * s + 2],
+        bottom: frames[4 * s + 3],
+    }
+}
+
+// The largest of l and a box's two sides.
+fn larger_side(l: f64, b: Box) -> f64
+    ensures { λ r. ⌜ r ≡ largerSide l b ⌝ }
+{
+    max(max(l, b.right - b.left), b.bottom - b.top)
+}
+
+// The largest side of the occupied stations' boxes.
+fn largest(k: usize, stations: &[u32], frames: &[f64]) -> f64
+    requires { ⌜ (2 * k ≤ length (now stations)) × (4 * k ≤ length (now frames)) ⌝ }
+    ensures { λ r. ⌜ r ≡ largest (boxesIn k (now (frames .entry))) f0 (occupied (countsIn k (now (stations .entry)))) ⌝ }
+{
+    let mut l = 0.0;
+    let mut s = 0;
+    while s < k {
+        if 0 < stations[2 * s] {
+            l = larger_side(l, box_at(frames, s));
+            s += 1;
+        } else {
+            s += 1;
+        }
+    }
+    l
+}
+
+// Whether a corner's coordinate divided by l is at most 2^40 in size.
+fn modest(l: f64, c: f64) -> bool
+    ensures { λ r. ⌜ r ≡ modest l c ⌝ }
+{
+    abs(c / l) <= 1099511627776.0
+}
+
+fn modest_box(l: f64, b: Box) -> bool
+    ensures { λ r. ⌜ r ≡ modestBox l b ⌝ }
+{
+    if modest(l, b.left) {
+        if modest(l, b.top) {
+            if modest(l, b.right) {
+                return modest(l, b.bottom);
+            }
+        }
+    }
+    false
+}
+
+// Whether all occupied stations' corners are.
+fn all_modest(k: usize, l: f64, stations: &[u32], frames: &[f64]) -> bool
+    requires { ⌜ (2 * k ≤ length (now stations)) × (4 * k ≤ length (now frames)) ⌝ }
+    ensures { λ r. ⌜ r ≡ allModest (boxesIn k (now (frames .entry))) l (occupied (countsIn k (now (stations .entry)))) ⌝ }
+{
+    let mut s = 0;
+    while s < k {
+        if 0 < stations[2 * s] {
+            if modest_box(l, box_at(frames, s)) {
+                s += 1;
+            } else {
+                return false;
+            }
+        } else {
+            s += 1;
+        }
+    }
+    true
+}
+
+// Whether a station is occupied.
+fn any_occupied(k: usize, stations: &[u32]) -> bool
+    requires { ⌜ 2 * k ≤ length (now stations) ⌝ }
+    ensures { λ r. ⌜ r ≡ ltb 0 (length (occupied (countsIn k (now (stations .entry))))) ⌝ }
+{
+    let mut s = 0;
+    while s < k {
+        if 0 < stations[2 * s] {
+            return true;
+        }
+        s += 1;
+    }
+    false
+}
+
+// Refusal 8, by the stations' bus counts and boxes.
+pub fn ill_sized(k: usize, stations: &[u32], frames: &[f64]) -> bool
+    requires { ⌜ (2 * k ≤ length (now stations)) × (4 * k ≤ length (now frames)) ⌝ }
+    ensures { λ r. ⌜ r ≡ illSized (boxesIn k (now (frames .entry))) (occupied (countsIn k (now (stations .entry)))) ⌝ }
+{
+    if any_occupied(k, stations) {
+        let l = largest(k, stations, frames);
+        if l == 0.0 {
+            return true;
+        }
+        return !all_modest(k, l, stations, frames);
+    }
+    false
+}

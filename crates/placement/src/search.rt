@@ -1,0 +1,272 @@
+// Each station's place: the first free one round its seed, else the seed; and the boxes.
+ghost use mathlib.Core.Path.{_≡_};
+ghost use Prim.Native.Nat.{_+_, _*_, _≤_, _<_};
+ghost use lib.ListN.{length};
+ghost use Rattle.geometry.specs.Plane.{pointAt, boxAt};
+ghost use Rattle.neighbours.specs.Overlap.{overlap};
+ghost use Rattle.network.specs.Views.{countsIn, orderIn, pointsIn, boxesIn};
+ghost use Rattle.placement.specs.Place as Place;
+ghost use Rattle.placement.specs.Place.{free, boxOn, buffered, firstFree, placeFor};
+ghost use Rattle.placement.specs.Views.{half, frame, frameIn, framesIn, offsetsIn, putBox, Turns, Stood};
+use crate::offset::Offset;
+use crate::offset::offset_at;
+use float::small::max;
+use geometry::Box;
+use geometry::Point;
+use network::options::Options;
+
+// A free place, or none.
+pub enum Found {
+    At(Point),
+    Nowhere,
+}
+
+// Whether p strictly overlaps the j-th box.
+fn overlaps_at(p: Box, frames: &[f64], j: usize) -> bool
+    requires { ⌜ 4 * j + 3 < length (now frames) ⌝ }
+    ensures { λ r. ⌜ r ≡ overlap p (boxAt (now (frames .entry)) j) ⌝ }
+{
+    if p.left < frames[4 * j + 2] {
+        if frames[4 * j] < p.right {
+            if p.top < frames[4 * j + 3] {
+                return frames[4 * j + 1] < p.bottom;
+            }
+        }
+    }
+    false
+}
+
+// Whether p strictly overlaps none of the first count boxes.
+fn is_free(p: Box, frames: &[f64], count: usize) -> bool
+    requires { ⌜ 4 * count ≤ length (now frames) ⌝ }
+    ensures { λ r. ⌜ r ≡ free p (boxesIn count (now (frames .entry))) ⌝ }
+{
+    let mut j = 0;
+    while j < count {
+        if overlaps_at(p, frames, j) {
+            return false;
+        }
+        j += 1;
+    }
+    true
+}
+
+// The box of these half sides at a place.
+fn box_on(c: Point, w: f64, h: f64) -> Box
+    ensures { λ r. ⌜ r ≡ boxOn c (half w h) ⌝ }
+{
+    Box {
+        left: c.x - w,
+        top: c.y - h,
+        right: c.x + w,
+        bottom: c.y + h,
+    }
+}
+
+// That box with its buffer.
+fn buffered(c: Point, w: f64, h: f64, f: f64) -> Box
+    ensures { λ r. ⌜ r ≡ buffered c (frame w h f) ⌝ }
+{
+    let g = f * Options::BUFFER;
+    Box {
+        left: c.x - w - g,
+        top: c.y - h - g,
+        right: c.x + w + g,
+        bottom: c.y + h + g,
+    }
+}
+
+// The place at an offset.
+fn place(seed: Point, w: f64, h: f64, widening: f64, o: Offset) -> Point
+    ensures { λ r. ⌜ r ≡ Place.place seed (half w h) widening o ⌝ }
+{
+    let step = max(w, h);
+    Point {
+        x: seed.x + o.a as f64 * step * widening,
+        y: seed.y + o.b as f64 * step * widening,
+    }
+}
+
+// The first free place at one widening.
+fn first_free(
+    seed: Point,
+    w: f64,
+    h: f64,
+    f: f64,
+    widening: f64,
+    keys: &[u64],
+    sorted: &[u32],
+    offsets: usize,
+    frames: &[f64],
+    count: usize,
+) -> Found
+    requires { ⌜ 4 * count ≤ length (now frames) ⌝ }
+    ensures { λ r. ⌜ r ≡ firstFree seed (frame w h f) (boxesIn count (now (frames .entry))) widening (offsetsIn offsets (now (keys .entry)) (now (sorted .entry))) ⌝ }
+{
+    let mut j = 0;
+    while j < offsets {
+        let c = place(seed, w, h, widening, offset_at(keys, sorted, j));
+        if is_free(buffered(c, w, h, f), frames, count) {
+            return Found::At(c);
+        }
+        j += 1;
+    }
+    Found::Nowhere
+}
+
+// The first free place at widening 1, 2, 4, else the seed.
+fn place_for(
+    seed: Point,
+    w: f64,
+    h: f64,
+    f: f64,
+    keys: &[u64],
+    sorted: &[u32],
+    offsets: usize,
+    frames: &[f64],
+    count: usize,
+) -> Point
+    requires { ⌜ 4 * count ≤ length (now frames) ⌝ }
+    ensures { λ r. ⌜ r ≡ placeFor seed (frame w h f) (boxesIn count (now (frames .entry))) (offsetsIn offsets (now (keys .entry)) (now (sorted .entry))) ⌝ }
+{
+    let near = first_free(seed, w, h, f, 1.0, keys, sorted, offsets, frames, count);
+    match near {
+        Found::At(c) => c,
+        Found::Nowhere => {
+            let wide = first_free(seed, w, h, f, 2.0, keys, sorted, offsets, frames, count);
+            match wide {
+                Found::At(c) => c,
+                Found::Nowhere => {
+                    let widest = first_free(
+                        seed,
+                        w,
+                        h,
+                        f,
+                        4.0,
+                        keys,
+                        sorted,
+                        offsets,
+                        frames,
+                        count,
+                    );
+                    match widest {
+                        Found::At(c) => c,
+                        Found::Nowhere => seed,
+                    }
+                }
+            }
+        }
+    }
+}
+
+// Stores a box.
+fn put_box(frames: &mut [f64], i: usize, b: Box)
+    requires { ⌜ 4 * i + 3 < length (now frames) ⌝ }
+    ensures { λ _. ⌜ now (frames .exit) ≡ putBox (now (frames .entry)) i b ⌝ }
+{
+    frames[4 * i] = b.left;
+    frames[4 * i + 1] = b.top;
+    frames[4 * i + 2] = b.right;
+    frames[4 * i + 3] = b.bottom;
+}
+
+// Places station s as the p-th: its place is written over its seed, and its box is stored.
+fn place_station(
+    s: usize,
+    p: usize,
+    unit: f64,
+    blocks: &[f64],
+    keys: &[u64],
+    sorted: &[u32],
+    offsets: usize,
+    places: &mut [f64],
+    frames: &mut [f64],
+)
+    requires { ⌜ (3 * s + 2 < length (now blocks)) × (2 * s + 1 < length (now places)) × (4 * p + 3 < length (now frames)) ⌝ }
+    ensures { λ _. ⌜ Stood unit (now (blocks .entry)) (offsetsIn offsets (now (keys .entry)) (now (sorted .entry))) s p (now (places .entry)) (now (frames .entry)) (now (places .exit)) (now (frames .exit)) ⌝ }
+{
+    let f = unit * blocks[3 * s + 2];
+    let w = blocks[3 * s] * f / 2.0;
+    let h = blocks[3 * s + 1] * f / 2.0;
+    let seed = Point {
+        x: places[2 * s],
+        y: places[2 * s + 1],
+    };
+    let c = place_for(seed, w, h, f, keys, sorted, offsets, frames, p);
+    places[2 * s] = c.x;
+    places[2 * s + 1] = c.y;
+    put_box(frames, p, box_on(c, w, h));
+}
+
+// Places the first r stations of the order, beside the counts in `stations`; frames holds their boxes in this order.
+pub fn place_all(
+    k: usize,
+    r: usize,
+    unit: f64,
+    stations: &[u32],
+    blocks: &[f64],
+    keys: &[u64],
+    sorted: &[u32],
+    offsets: usize,
+    places: &mut [f64],
+    frames: &mut [f64],
+)
+    requires { ⌜ (r ≤ k) × (2 * k ≤ length (now stations)) × (3 * k ≤ length (now blocks)) × (2 * k ≤ length (now places)) × (4 * k ≤ length (now frames)) ⌝ }
+    requires { ⌜ Turns k (orderIn r (now stations)) ⌝ }
+    ensures { λ _. ⌜ pointsIn k (now (places .exit)) ≡ Place.places (framesIn unit k (now (blocks .entry))) (offsetsIn offsets (now (keys .entry)) (now (sorted .entry))) (pointsIn k (now (places .entry))) (orderIn r (now (stations .entry))) ⌝ }
+{
+    let mut p = 0;
+    while p < r {
+        let s = stations[2 * p + 1] as usize;
+        place_station(s, p, unit, blocks, keys, sorted, offsets, places, frames);
+        p += 1;
+    }
+}
+
+// Station s's box at its place.
+fn station_box(s: usize, unit: f64, blocks: &[f64], places: &[f64]) -> Box
+    requires { ⌜ (3 * s + 2 < length (now blocks)) × (2 * s + 1 < length (now places)) ⌝ }
+    ensures { λ r. ⌜ r ≡ boxOn (pointAt (now (places .entry)) s) (frameIn unit (now (blocks .entry)) s .half) ⌝ }
+{
+    let f = unit * blocks[3 * s + 2];
+    let w = blocks[3 * s] * f / 2.0;
+    let h = blocks[3 * s + 1] * f / 2.0;
+    let c = Point {
+        x: places[2 * s],
+        y: places[2 * s + 1],
+    };
+    box_on(c, w, h)
+}
+
+// The box list: by station, zeros where one isn't occupied.
+pub fn station_boxes(
+    k: usize,
+    unit: f64,
+    stations: &[u32],
+    blocks: &[f64],
+    places: &[f64],
+    frames: &mut [f64],
+)
+    requires { ⌜ (2 * k ≤ length (now stations)) × (3 * k ≤ length (now blocks)) × (2 * k ≤ length (now places)) × (4 * k ≤ length (now frames)) ⌝ }
+    ensures { λ _. ⌜ boxesIn k (now (frames .exit)) ≡ Place.boxes (framesIn unit k (now (blocks .entry))) (countsIn k (now (stations .entry))) (pointsIn k (now (places .entry))) ⌝ }
+{
+    let mut s = 0;
+    while s < k {
+        if 0 < stations[2 * s] {
+            put_box(frames, s, station_box(s, unit, blocks, places));
+            s += 1;
+        } else {
+            put_box(
+                frames,
+                s,
+                Box {
+                    left: 0.0,
+                    top: 0.0,
+                    right: 0.0,
+                    bottom: 0.0,
+                },
+            );
+            s += 1;
+        }
+    }
+}
