@@ -1,0 +1,80 @@
+-- What each stage ensures, joined.
+-- Assumes nothing.
+use Prim.Native.Nat.{ℕ, _*_}
+use mathlib.Core.Path.{_≡_, sym, ap, _∙_, subst}
+use mathlib.Core.Bool.{Bool}
+use mathlib.Core.List.{List}
+use lib.IntN.{ℤ}
+use lib.ListN.{length}
+use lib.Ieee.{Float}
+use Rattle.order.specs.Table.{table, strided}
+use Rattle.geometry.specs.declared.Point.{Point}
+use Rattle.network.specs.declared.options.Options.{Options}
+use Rattle.network.specs.declared.words.Kind.{Kind}
+use Rattle.network.specs.Words.{busCounts, kinds}
+use Rattle.network.specs.Seed as Seed
+use Rattle.network.specs.Refusal.{everyFinite}
+use Rattle.network.specs.Views.{countsIn, columnsIn, orderIn, fromRowsIn, toRowsIn, pointsIn, boxesIn}
+use Rattle.stations.specs.Column as Column
+use Rattle.stations.specs.Row as Row
+use Rattle.units.specs.Size as Size
+use Rattle.units.specs.Unit as Unit
+use Rattle.units.specs.Scale as Scale
+use Rattle.units.specs.Views.{sizesIn, scalesIn, rowCountsIn}
+use Rattle.units.proofs.Blocks.{sizes-view}
+use Rattle.placement.specs.declared.offset.Offset.{Offset}
+use Rattle.placement.specs.Offset.{offsets}
+use Rattle.placement.specs.Place as Place
+use Rattle.placement.specs.Views.{offsetsIn, framesIn}
+use Rattle.plan.specs.Stages.{Interiors, Settled}
+
+module _ (o : Options) (sub kv : List ℕ) (from to : List ℤ) (service : List ℕ) (xy : List Float) (k : ℕ) where
+  ks : List Kind
+  ks = kinds sub from to service
+
+  ss : List Point
+  ss = Seed.seeds sub xy
+
+  pub interiors-joined : (unit : Float) (finite : Bool) (st₁ st₂ st buses ends : List ℕ) (places blocks : List Float)
+      → countsIn k st₁ ≡ busCounts sub
+      → pointsIn k places ≡ Seed.seeds sub xy
+      → columnsIn (length sub) buses ≡ Column.columns sub kv
+      → countsIn k st₂ ≡ countsIn k st₁
+      → fromRowsIn (length from) ends ≡ Row.fromRows sub (pointsIn k places) (kinds sub from to service)
+      → toRowsIn (length from) ends ≡ Row.toRows sub (pointsIn k places) (kinds sub from to service)
+      → strided 2 1 0 k st ≡ table (Row.rowsIn sub (kinds sub from to service)) k
+      → countsIn k st ≡ countsIn k st₂
+      → unit ≡ Unit.unitFor (o .fill) (Unit.spacing (pointsIn k places) (countsIn k st)) (Unit.typical (Size.sizesFor (countsIn k st) (rowCountsIn k st)) (countsIn k st))
+      → sizesIn k blocks ≡ Size.sizesFor (countsIn k st) (rowCountsIn k st)
+      → scalesIn k blocks ≡ Scale.scales o (pointsIn k places) (countsIn k st) (Unit.spacing (pointsIn k places) (countsIn k st))
+      → finite ≡ everyFinite (2 * k) places
+      → Interiors o sub kv from to service xy k unit finite st buses ends places blocks
+  unfolding ks ss
+  interiors-joined unit finite st₁ st₂ st buses ends places blocks c₁ p col c₂ fr tr rs c₃ u z sc f =
+      let c : countsIn k st ≡ busCounts sub = c₃ ∙ c₂ ∙ c₁ in
+      let v : Size.sizesFor (countsIn k st) (rowCountsIn k st) ≡ Size.sizes sub ks (busCounts sub) = sizes-view _ _ _ _ _ c rs in
+      record {
+        counts = c;
+        columns = col;
+        fromRows = fr ∙ ap (λ (z : List Point). Row.fromRows sub z ks) p;
+        toRows = tr ∙ ap (λ (z : List Point). Row.toRows sub z ks) p;
+        seeds = p;
+        sizes = z ∙ v;
+        scales = sc ∙ cc (p, c);
+        unitIs = u ∙ cc (p, c, v);
+        finiteIs = f;
+      }
+
+pub settled-joined : (sub kv : List ℕ) (k r c : ℕ) (unit : Float) (search : ℕ) (blocks : List Float) (seeds : List Point) (st keys sorted : List ℕ) (places frames : List Float)
+    → countsIn k st ≡ busCounts sub
+    → orderIn r st ≡ Place.placementOrder sub kv (busCounts sub)
+    → offsetsIn c keys sorted ≡ offsets search
+    → pointsIn k places ≡ Place.places (framesIn unit k blocks) (offsetsIn c keys sorted) seeds (orderIn r st)
+    → boxesIn k frames ≡ Place.boxes (framesIn unit k blocks) (countsIn k st) (pointsIn k places)
+    → Settled sub kv k unit search blocks seeds st places frames
+settled-joined sub kv k r c unit search blocks seeds st keys sorted places frames cs od os ps bs =
+    record {
+      counts = cs;
+      placed = ps ∙ cc (od, os);
+      boxes = bs ∙ cc cs;
+    }

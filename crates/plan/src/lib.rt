@@ -1,0 +1,118 @@
+// The stages of a drawing, joined: interiors, then places.
+ghost use mathlib.Core.Path.{_≡_};
+ghost use Prim.Native.Nat.{_+_, _*_, _≤_};
+ghost use lib.ListN.{length};
+ghost use Rattle.network.specs.Words.{stationCount, busCounts};
+ghost use Rattle.network.specs.Views.{countsIn, pointsIn};
+ghost use Rattle.plan.specs.Stages.{Interiors, Settled};
+use network::options::Options;
+use network::refuse::finite_to;
+use network::seed::seeds;
+use network::words::bus_counts;
+use placement::offset::offset_order;
+use placement::search::place_all;
+use placement::search::station_boxes;
+use placement::turns::placement_order;
+use stations::columns::columns;
+use stations::rows::rows;
+use units::units;
+
+// The unit of a drawing, and whether all seeds are finite.
+pub struct Inside {
+    pub unit: f64,
+    pub finite: bool,
+}
+
+// Bus counts, seeds, columns, rows, sizes, the unit and scales of k stations.
+pub fn interiors(
+    o: Options,
+    sub: &[u32],
+    kv: &[u64],
+    from: &[i64],
+    to: &[i64],
+    service: &[u8],
+    xy: &[f64],
+    k: usize,
+    stations: &mut [u32],
+    buses: &mut [u32],
+    ends: &mut [u32],
+    sorted: &mut [u32],
+    spare: &mut [u32],
+    keys: &mut [u64],
+    places: &mut [f64],
+    blocks: &mut [f64],
+    frames: &mut [f64],
+    path: &mut [f64],
+) -> Inside
+    requires { ⌜ (k ≡ stationCount (now sub)) × (length (now sub) ≤ 4096) × (k ≤ 4096) × (length (now from) ≤ 8192) × (length (now kv) ≡ length (now sub)) ⌝ }
+    requires { ⌜ (2 * k ≤ length (now stations)) × (3 * length (now sub) ≤ length (now buses)) × (4 * length (now from) ≤ length (now ends)) × (2 * k ≤ length (now places)) × (3 * k ≤ length (now blocks)) × (4 * k ≤ length (now frames)) × (2 * k ≤ length (now path)) ⌝ }
+    requires { ⌜ (length (now sub) + 2 * length (now from) ≤ length (now sorted)) × (length (now sub) + 2 * length (now from) ≤ length (now spare)) × (length (now sub) + 2 * length (now from) ≤ length (now keys)) × (k ≤ length (now sub)) ⌝ }
+    ensures { λ r. ⌜ Interiors o (now (sub .entry)) (now (kv .entry)) (now (from .entry)) (now (to .entry)) (now (service .entry)) (now (xy .entry)) k (r .unit) (r .finite) (now (stations .exit)) (now (buses .exit)) (now (ends .exit)) (now (places .exit)) (now (blocks .exit)) ⌝ }
+{
+    bus_counts(sub, k, stations);
+    seeds(sub, xy, k, stations, places);
+    columns(sub, kv, k, stations, buses, keys, sorted, spare);
+    rows(
+        sub,
+        from,
+        to,
+        service,
+        places,
+        k,
+        stations,
+        ends,
+        keys,
+        sorted,
+        spare,
+    );
+    let unit = units(
+        o,
+        k,
+        stations,
+        places,
+        blocks,
+        frames,
+        path,
+        keys,
+        sorted,
+        spare,
+    );
+    let finite = finite_to(places, 2 * k);
+    Inside { unit, finite }
+}
+
+// The places of k stations, from their seeds, and their boxes.
+pub fn settle(
+    sub: &[u32],
+    kv: &[u64],
+    k: usize,
+    unit: f64,
+    search: usize,
+    stations: &mut [u32],
+    sorted: &mut [u32],
+    spare: &mut [u32],
+    keys: &mut [u64],
+    blocks: &[f64],
+    places: &mut [f64],
+    frames: &mut [f64],
+)
+    requires { ⌜ (search ≤ 20) × (k ≤ 4096) × (length (now kv) ≡ length (now sub)) × (countsIn k (now stations) ≡ busCounts (now sub)) ⌝ }
+    requires { ⌜ (2 * k ≤ length (now stations)) × (k + 1681 ≤ length (now sorted)) × (k + 1681 ≤ length (now spare)) × (k + 1681 ≤ length (now keys)) × (3 * k ≤ length (now blocks)) × (2 * k ≤ length (now places)) × (4 * k ≤ length (now frames)) ⌝ }
+    ensures { λ _. ⌜ Settled (now (sub .entry)) (now (kv .entry)) k unit search (now (blocks .entry)) (pointsIn k (now (places .entry))) (now (stations .exit)) (now (places .exit)) (now (frames .exit)) ⌝ }
+{
+    let r = placement_order(sub, kv, k, stations, keys, sorted, spare);
+    let c = offset_order(search, keys, sorted, spare);
+    place_all(
+        k,
+        r,
+        unit,
+        stations,
+        blocks,
+        keys,
+        sorted,
+        c,
+        places,
+        frames,
+    );
+    station_boxes(k, unit, stations, blocks, places, frames);
+}
