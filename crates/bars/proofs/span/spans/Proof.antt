@@ -1,0 +1,24 @@
+-- `bars::span::spans` meets its contract. Assumes nothing.
+use mathlib.Core.Path.{_∙_}
+use borrow.Author.Needs.{needs}
+use Rattle.bars.proofs.span.spans.Statement.{statement}
+use Rattle.bars.proofs.span.spans.Tie as tie
+use Rattle.bars.proofs.span.spans.Reads as reads
+use Rattle.bars.proofs.span.spans.Lts as lts
+use Rattle.bars.proofs.span.clear_rows.Reads as clear-rows-reads
+use Rattle.bars.proofs.span.include_all.Reads as include-all-reads
+
+clear-rows-requires : tie.Need-clear-rows-requires
+clear-rows-requires c κs = search needs
+
+include-all-requires : tie.Need-include-all-requires
+include-all-requires c κs = search needs
+
+same-length : tie.Need-same-length
+same-length c = search needs
+
+returns : tie.Need-returns
+returns c = (c .before .before .include-all .ensures .0, c .before .before .include-all .ensures .1 ∙ c .before .before .before .before .before .before .clear-rows .ensures .1)
+
+pub spans-spec : {M : Type 1} → statement M
+spans-spec = tie.close (tie.spec clear-rows-requires include-all-requires same-length returns)

@@ -1,0 +1,96 @@
+-- 6. Bars and positions. With f = unit × scale, a bar's x is left + (1 + 2 × column) × f and a row's y is top + (1 + row + 0.5) × f. Definitions only.
+use Prim.Native.Nat.{ℕ, zero, suc, min, max}
+use mathlib.Core.List.{List}
+use lib.Dec.{eqb}
+use lib.ListN.{length, getD}
+use lib.Ieee.{Float, lt}
+use Rattle.float.specs.Ops.{num, f0, f½, f2, _⊕_, _⊖_, _⊗_, _⊘_}
+use Rattle.order.specs.Order.{pick}
+use Rattle.order.specs.Table.{table}
+use Rattle.geometry.specs.declared.Point.{Point}
+use Rattle.geometry.specs.declared.Box.{Box}
+use Rattle.geometry.specs.Plane.{point}
+use Rattle.network.specs.declared.words.Kind.{Kind}
+use Rattle.network.specs.declared.words.Kind.the-variants.{Undrawn, Open, Internal, Line}
+use Rattle.network.specs.Words.{kindAt, stationOf}
+use Rattle.network.specs.Options.{barGap, pad, minBar}
+use Rattle.placement.specs.Place.{boxIn}
+use Rattle.bars.specs.declared.Bar.{Bar}
+
+-- the padding is 1 and the gap between bars 2
+unfoldable pub barX : Box → Float → ℕ → Float
+barX box f column = box .left ⊕ (pad ⊕ num column ⊗ barGap) ⊗ f
+
+unfoldable pub rowY : Box → Float → ℕ → Float
+rowY box f row = box .top ⊕ (pad ⊕ num row ⊕ f½) ⊗ f
+
+-- the rows of a bus: none, or the first and the last
+pub data Span : Type 0 where
+  bare : Span
+  rows : ℕ → ℕ → Span
+
+-- a bus's rows as the list of buses holds them: its first row, and one more than its last, 0 where it has none
+unfoldable pub spanOf : ℕ → ℕ → Span
+spanOf first zero = bare
+spanOf first (suc last) = rows first last
+
+unfoldable pub include : ℕ → Span → Span
+include r bare = rows r r
+include r (rows a b) = rows (min a r) (max b r)
+
+-- with the row of a branch between two buses, if bus i is one of them
+unfoldable pub includeEnd : ℕ → ℕ → ℕ → ℕ → ℕ → Span → Span
+includeEnd i a b ra rb s = pick (eqb a i) (include ra s) (pick (eqb b i) (include rb s) s)
+
+unfoldable pub includeBranch : ℕ → ℕ → ℕ → Kind → Span → Span
+includeBranch i ra rb Undrawn s = s
+includeBranch i ra rb (Open a b) s = s
+includeBranch i ra rb (Internal a b) s = includeEnd i a b ra rb s
+includeBranch i ra rb (Line a b) s = includeEnd i a b ra rb s
+
+-- the rows of bus i on the first e branches
+unfoldable pub spanTo : List Kind → List ℕ → List ℕ → ℕ → ℕ → Span
+spanTo ks fromRows toRows i zero = bare
+spanTo ks fromRows toRows i (suc e) =
+    includeBranch i (getD fromRows e 0) (getD toRows e 0) (kindAt ks e) (spanTo ks fromRows toRows i e)
+
+-- from its first row's y − 0.5 × f to its last row's y + 0.5 × f, without rows from top + f to top + 3 × f (padding 1, shortest bar 2)
+unfoldable pub reach : Box → Float → Float → Span → Bar
+reach box f x bare = record { x = x; y0 = box .top ⊕ pad ⊗ f; y1 = box .top ⊕ (pad ⊕ minBar) ⊗ f }
+reach box f x (rows a b) = record { x = x; y0 = rowY box f a ⊖ f½ ⊗ f; y1 = rowY box f b ⊕ f½ ⊗ f }
+
+-- If shorter than 2 × f it gets that length about its middle.
+abbrev pub middle : Bar → Float
+middle b = (b .y0 ⊕ b .y1) ⊘ f2
+
+unfoldable pub lengthened : Float → Bar → Bar
+lengthened f b =
+    let l : Bar = record { x = b .x; y0 = middle b ⊖ minBar ⊗ f ⊘ f2; y1 = middle b ⊕ minBar ⊗ f ⊘ f2 } in
+    pick (lt (b .y1 ⊖ b .y0) (minBar ⊗ f)) l b
+
+unfoldable pub barFor : Box → Float → ℕ → Span → Bar
+barFor box f column s = lengthened f (reach box f (barX box f column) s)
+
+-- the rows of all buses
+unfoldable pub spans : List ℕ → List Kind → List ℕ → List ℕ → List Span
+spans sub ks fromRows toRows = table (λ i. spanTo ks fromRows toRows i (length ks)) (length sub)
+
+-- the block of station s, where `fs` are the stations' blocks, unit × scale each
+abbrev pub blockAt : List Float → ℕ → Float
+blockAt fs s = getD fs s f0
+
+-- the bars of all buses, by their columns and rows, and the stations' blocks and boxes
+unfoldable pub bars : List ℕ → List ℕ → List Span → List Float → List Box → List Bar
+bars sub columns spans fs bs =
+    table (λ i. barFor (boxIn bs (stationOf sub i)) (blockAt fs (stationOf sub i)) (getD columns i 0) (getD spans i bare)) (length sub)
+
+abbrev pub barAt : List Bar → ℕ → Bar
+barAt bs i = getD bs i (record { x = f0; y0 = f0; y1 = f0 })
+
+-- `positions` holds its x and middle.
+unfoldable pub position : Bar → Point
+position b = point (b .x) (middle b)
+
+-- A row end has its bar's x and its row's y.
+unfoldable pub rowEnd : List ℕ → List Float → List Box → List Bar → ℕ → ℕ → Point
+rowEnd sub fs bs bars i row = point (barAt bars i .x) (rowY (boxIn bs (stationOf sub i)) (blockAt fs (stationOf sub i)) row)
