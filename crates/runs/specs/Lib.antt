@@ -1,0 +1,4 @@
+pub mod Run
+pub mod Views
+pub mod Finite
+pub mod Lists

@@ -1,0 +1,2 @@
+// Runs of points and their pieces.
+pub mod run;

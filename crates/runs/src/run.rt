@@ -1,0 +1,217 @@
+// The points of a branch's run.
+ghost use mathlib.Core.Path.{_≡_};
+ghost use Prim.Native.Nat.{_+_, _*_, _<_, _≤_, _^_};
+ghost use mathlib.Core.List.{[], _∷_};
+ghost use lib.ListN.{length};
+ghost use Rattle.geometry.specs.Plane.{boxAt};
+ghost use Rattle.network.specs.Words.{kindOf};
+ghost use Rattle.network.proofs.Views.{putPoint};
+ghost use Rattle.runs.specs.Views.{held, blockOf, barOf, slotOf, exitOf, openFrom, internalFrom, lineFrom, runIn, Ran};
+use bars::Bar;
+use bars::bar_for;
+use bars::exit_x;
+use bars::position;
+use bars::row_y;
+use geometry::Box;
+use geometry::Point;
+use geometry::number_at;
+use geometry::point_at;
+use network::words::Kind;
+use network::words::kind_of;
+use network::words::station_of;
+use order::at;
+
+// The box s of a list of four numbers each.
+pub fn box_at(list: &[f64], s: usize) -> Box
+    requires { ⌜ s < 2 ^ 32 ⌝ }
+    ensures { λ r. ⌜ r ≡ boxAt (now (list .entry)) s ⌝ }
+{
+    Box {
+        left: number_at(list, 4 * s),
+        top: number_at(list, 4 * s + 1),
+        right: number_at(list, 4 * s + 2),
+        bottom: number_at(list, 4 * s + 3),
+    }
+}
+
+// The block of station s, unit × scale.
+fn block_of(unit: f64, blocks: &[f64], s: usize) -> f64
+    requires { ⌜ s < 2 ^ 32 ⌝ }
+    ensures { λ r. ⌜ r ≡ blockOf unit (now (blocks .entry)) s ⌝ }
+{
+    unit * number_at(blocks, 3 * s + 2)
+}
+
+// The bar of bus i of station s.
+pub fn bar_of(unit: f64, buses: &[u32], blocks: &[f64], frames: &[f64], s: usize, i: usize) -> Bar
+    requires { ⌜ (s < 2 ^ 32) × (i < 2 ^ 32) ⌝ }
+    ensures { λ r. ⌜ r ≡ barOf unit (now (buses .entry)) (now (blocks .entry)) (now (frames .entry)) s i ⌝ }
+{
+    bar_for(
+        box_at(frames, s),
+        block_of(unit, blocks, s),
+        at(buses, 3 * i),
+        at(buses, 3 * i + 1),
+        at(buses, 3 * i + 2),
+    )
+}
+
+// The row end of bus i of station s.
+fn slot_of(
+    unit: f64,
+    buses: &[u32],
+    blocks: &[f64],
+    frames: &[f64],
+    s: usize,
+    i: usize,
+    row: u32,
+) -> Point
+    requires { ⌜ (s < 2 ^ 32) × (i < 2 ^ 32) ⌝ }
+    ensures { λ r. ⌜ r ≡ slotOf unit (now (buses .entry)) (now (blocks .entry)) (now (frames .entry)) s i row ⌝ }
+{
+    let bar = bar_of(unit, buses, blocks, frames, s, i);
+    Point {
+        x: bar.x,
+        y: row_y(box_at(frames, s), block_of(unit, blocks, s), row),
+    }
+}
+
+// The exit of station s towards t, at the height y.
+fn exit_of(places: &[f64], frames: &[f64], s: usize, t: usize, y: f64) -> Point
+    requires { ⌜ (s < 2 ^ 32) × (t < 2 ^ 32) ⌝ }
+    ensures { λ r. ⌜ r ≡ exitOf (now (places .entry)) (now (frames .entry)) s t y ⌝ }
+{
+    Point {
+        x: exit_x(box_at(frames, s), point_at(places, s), point_at(places, t)),
+        y,
+    }
+}
+
+// Sets point i of a list.
+pub fn put_point(list: &mut [f64], i: usize, p: Point)
+    requires { ⌜ (2 * i + 1 < length (now list)) × (i < 2 ^ 32) ⌝ }
+    ensures { λ _. ⌜ now (list .exit) ≡ putPoint (now (list .entry)) i (p .x) (p .y) ⌝ }
+{
+    list[2 * i] = p.x;
+    list[2 * i + 1] = p.y;
+}
+
+// Two points at the front of a list.
+fn put_two(path: &mut [f64], p: Point, q: Point) -> usize
+    requires { ⌜ 8 ≤ length (now path) ⌝ }
+    ensures { λ r. ⌜ Ran r (now (path .exit)) (p ∷ q ∷ []) ⌝ }
+{
+    put_point(path, 0, p);
+    put_point(path, 1, q);
+    2
+}
+
+// Four points at the front of a list.
+fn put_four(path: &mut [f64], p: Point, a: Point, b: Point, q: Point) -> usize
+    requires { ⌜ 8 ≤ length (now path) ⌝ }
+    ensures { λ r. ⌜ Ran r (now (path .exit)) (p ∷ a ∷ b ∷ q ∷ []) ⌝ }
+{
+    put_point(path, 0, p);
+    put_point(path, 1, a);
+    put_point(path, 2, b);
+    put_point(path, 3, q);
+    4
+}
+
+// The run of an open branch between the buses a and b.
+fn run_open(
+    sub: &[u32],
+    unit: f64,
+    buses: &[u32],
+    blocks: &[f64],
+    frames: &[f64],
+    a: usize,
+    b: usize,
+    path: &mut [f64],
+) -> usize
+    requires { ⌜ (a < 2 ^ 32) × (b < 2 ^ 32) × (8 ≤ length (now path)) ⌝ }
+    ensures { λ r. ⌜ Ran r (now (path .exit)) (openFrom (now (sub .entry)) unit (now (buses .entry)) (now (blocks .entry)) (now (frames .entry)) a b) ⌝ }
+{
+    let p = bar_of(unit, buses, blocks, frames, station_of(sub, a), a);
+    let q = bar_of(unit, buses, blocks, frames, station_of(sub, b), b);
+    put_two(path, position(p), position(q))
+}
+
+// The run of an internal branch between the buses a and b, whose ends have the rows ra and rb.
+fn run_internal(
+    sub: &[u32],
+    unit: f64,
+    buses: &[u32],
+    blocks: &[f64],
+    frames: &[f64],
+    a: usize,
+    b: usize,
+    ra: u32,
+    rb: u32,
+    path: &mut [f64],
+) -> usize
+    requires { ⌜ (a < 2 ^ 32) × (b < 2 ^ 32) × (8 ≤ length (now path)) ⌝ }
+    ensures { λ r. ⌜ Ran r (now (path .exit)) (internalFrom (now (sub .entry)) unit (now (buses .entry)) (now (blocks .entry)) (now (frames .entry)) a b ra rb) ⌝ }
+{
+    let p = slot_of(unit, buses, blocks, frames, station_of(sub, a), a, ra);
+    let q = slot_of(unit, buses, blocks, frames, station_of(sub, b), b, rb);
+    put_two(path, p, q)
+}
+
+// The run of a line between the buses a and b, whose ends have the rows ra and rb.
+fn run_line(
+    sub: &[u32],
+    unit: f64,
+    buses: &[u32],
+    blocks: &[f64],
+    places: &[f64],
+    frames: &[f64],
+    a: usize,
+    b: usize,
+    ra: u32,
+    rb: u32,
+    path: &mut [f64],
+) -> usize
+    requires { ⌜ (a < 2 ^ 32) × (b < 2 ^ 32) × (8 ≤ length (now path)) ⌝ }
+    ensures { λ r. ⌜ Ran r (now (path .exit)) (lineFrom (now (sub .entry)) unit (now (buses .entry)) (now (blocks .entry)) (now (places .entry)) (now (frames .entry)) a b ra rb) ⌝ }
+{
+    let s = station_of(sub, a);
+    let t = station_of(sub, b);
+    let p = slot_of(unit, buses, blocks, frames, s, a, ra);
+    let q = slot_of(unit, buses, blocks, frames, t, b, rb);
+    put_four(
+        path,
+        p,
+        exit_of(places, frames, s, t, p.y),
+        exit_of(places, frames, t, s, q.y),
+        q,
+    )
+}
+
+// Puts the run of branch e at the front of path, and answers how many points it has.
+pub fn run(
+    sub: &[u32],
+    from: &[i64],
+    to: &[i64],
+    service: &[u8],
+    unit: f64,
+    buses: &[u32],
+    ends: &[u32],
+    blocks: &[f64],
+    places: &[f64],
+    frames: &[f64],
+    e: usize,
+    path: &mut [f64],
+) -> usize
+    requires { ⌜ (e < 2 ^ 32) × (length (now sub) ≤ 2 ^ 32) × (8 ≤ length (now path)) ⌝ }
+    ensures { λ r. ⌜ Ran r (now (path .exit)) (runIn (held (now (sub .entry)) unit (now (buses .entry)) (now (ends .entry)) (now (blocks .entry)) (now (places .entry)) (now (frames .entry))) e (kindOf (now (sub .entry)) (now (from .entry)) (now (to .entry)) (now (service .entry)) e)) ⌝ }
+{
+    let ra = at(ends, 4 * e);
+    let rb = at(ends, 4 * e + 1);
+    match kind_of(sub, from, to, service, e) {
+        Kind::Undrawn => 0,
+        Kind::Open(a, b) => run_open(sub, unit, buses, blocks, frames, a, b, path),
+        Kind::Internal(a, b) => run_internal(sub, unit, buses, blocks, frames, a, b, ra, rb, path),
+        Kind::Line(a, b) => run_line(sub, unit, buses, blocks, places, frames, a, b, ra, rb, path),
+    }
+}
