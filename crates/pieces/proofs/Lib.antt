@@ -1,0 +1,4 @@
+-- Laws that the functions' proofs use.
+pub mod Laws
+pub mod Puts
+pub mod Passes
