@@ -1,0 +1,79 @@
+-- The bounds of a drawing station by station, and bars bus by bus: what is left of a scan. Assumes nothing.
+use mathlib.Core.Path.{_≡_, refl, sym, ap, _∙_}
+use mathlib.Core.Bool.{Bool, true, false, _&&_}
+use mathlib.Core.List.{List, [], _∷_}
+use Prim.Native.Nat.{ℕ, suc, _+_, _*_, _≤_, _<_}
+use lib.ListN.{getD}
+use lib.Ieee.{Float}
+use Rattle.order.specs.Order.{pick}
+use Rattle.order.specs.Table.{table}
+use Rattle.float.specs.Ops.{f0, f1}
+use Rattle.float.specs.Small.{isFinite}
+use Rattle.geometry.specs.declared.Box.{Box}
+use Rattle.geometry.specs.Plane.{boxAt}
+use Rattle.network.specs.Words.{occupied}
+use Rattle.network.specs.Views.{countsIn, boxesIn}
+use Rattle.network.proofs.Views.{getD-boxes}
+use Rattle.placement.specs.Place.{noBox, boxIn}
+use Rattle.placement.proofs.Rest.{rest, rest-start, rest-more, rest-end, onward, onward-start, onward-yes, onward-no, onward-end}
+use Rattle.runs.specs.Finite.{allOf}
+use Rattle.results.specs.Bounds.{around, aroundAll, nowhere, boundsOf}
+
+-- ---- the box around the occupied stations' boxes
+module _ (k : ℕ) (st : List ℕ) (fs : List Float) where
+  -- what the stations from s on add to b makes the whole
+  abbrev pub Around : ℕ → Box → Type 0
+  Around s b = aroundAll (boxesIn k fs) b (onward k st s) ≡ aroundAll (boxesIn k fs) nowhere (occupied (countsIn k st))
+
+  pub around-start : (b : Box) → b ≡ nowhere → Around 0 b
+  around-start b e = ap (λ (x : Box). aroundAll (boxesIn k fs) x (onward k st 0)) e ∙ ap (aroundAll (boxesIn k fs) nowhere) (onward-start k st)
+
+  pub around-yes : (s : ℕ) (b c d : Box) → s < k → 0 < getD st (2 * s) 0 → c ≡ boxAt fs s → d ≡ around b c → Around s b → Around (s + 1) d
+  unfolding aroundAll
+  around-yes s b c d h p q e i =
+      ap (λ (x : Box). aroundAll (boxesIn k fs) x (onward k st (s + 1))) (e ∙ ap (around b) (q ∙ sym (getD-boxes k s fs noBox h)))
+      ∙ sym (ap (aroundAll (boxesIn k fs) b) (onward-yes k st s h p)) ∙ i
+
+  pub around-no : (s : ℕ) (b : Box) → s < k → getD st (2 * s) 0 ≤ 0 → Around s b → Around (s + 1) b
+  around-no s b h p i = sym (ap (aroundAll (boxesIn k fs) b) (onward-no k st s h p)) ∙ i
+
+  pub around-end : (s : ℕ) (b : Box) → k ≤ s → Around s b → b ≡ aroundAll (boxesIn k fs) nowhere (occupied (countsIn k st))
+  unfolding aroundAll
+  around-end s b h i = sym (ap (aroundAll (boxesIn k fs) b) (onward-end k st s h)) ∙ i
+
+-- the bounds by that box, where it is finite and where it isn't
+module _ (bs : List Box) (ss : List ℕ) (b : Box) (t : Bool) (e : b ≡ aroundAll bs nowhere ss) (f : t ≡ isFinite (b .left)) where
+  abbrev unit-box : Box
+  unit-box = record { left = f0; top = f0; right = f1; bottom = f1 }
+
+  bounds-by : pick t b unit-box ≡ boundsOf bs ss
+  unfolding boundsOf
+  bounds-by = ap (λ (x : Bool). pick x b unit-box) f ∙ ap (λ (x : Box). pick (isFinite (x .left)) x unit-box) e
+
+  pub bounds-some : t ≡ true → b ≡ boundsOf bs ss
+  bounds-some h = ap (λ (x : Bool). pick x b unit-box) (sym h) ∙ bounds-by
+
+  pub bounds-none : t ≡ false → unit-box ≡ boundsOf bs ss
+  bounds-none h = ap (λ (x : Bool). pick x b unit-box) (sym h) ∙ bounds-by
+
+-- ---- whether all of a table pass a test
+module _ {A : Type 0} (p : A → Bool) (f : ℕ → A) (n : ℕ) where
+  abbrev pub Left : ℕ → Type 0
+  Left i = allOf p (rest f n i) ≡ allOf p (table f n)
+
+  pub all-start : Left 0
+  all-start = ap (allOf p) (rest-start f n)
+
+  all-at : (i : ℕ) (x : A) (b : Bool) → i < n → x ≡ f i → b ≡ p x → allOf p (rest f n i) ≡ b && allOf p (rest f n (i + 1))
+  unfolding allOf
+  all-at i x b h e q = ap (allOf p) (rest-more f n i h) ∙ ap (λ (t : Bool). t && allOf p (rest f n (i + 1))) (ap p (sym e) ∙ sym q)
+
+  pub all-yes : (i : ℕ) (x : A) (b : Bool) → i < n → x ≡ f i → b ≡ p x → b ≡ true → Left i → Left (i + 1)
+  all-yes i x b h e q t l = sym (all-at i x b h e q ∙ ap (λ (y : Bool). y && allOf p (rest f n (i + 1))) t) ∙ l
+
+  pub all-fails : (i : ℕ) (x : A) (b : Bool) → i < n → x ≡ f i → b ≡ p x → b ≡ false → Left i → false ≡ allOf p (table f n)
+  all-fails i x b h e q t l = sym (all-at i x b h e q ∙ ap (λ (y : Bool). y && allOf p (rest f n (i + 1))) t) ∙ l
+
+  pub all-end : (i : ℕ) → n ≤ i → Left i → true ≡ allOf p (table f n)
+  unfolding allOf
+  all-end i h l = sym (ap (allOf p) (rest-end f n i h)) ∙ l

@@ -1,0 +1,5 @@
+-- Laws that the functions' proofs use.
+pub mod Writes
+pub mod Bounding
+pub mod Turns
+pub mod Finites

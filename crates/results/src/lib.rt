@@ -1,0 +1,5 @@
+// Writing the result lists, clearing work lists, finiteness of bars and the bounds of a drawing.
+pub mod bounds;
+pub mod buses;
+pub mod clears;
+pub mod lists;
