@@ -1,0 +1,5 @@
+pub mod Network
+pub mod Drawing
+pub mod Answer
+pub mod Held
+pub mod Draft

@@ -1,0 +1,74 @@
+-- The lists that a call is lent: the network and its mesh, the result lists and the work lists. Definitions only.
+use Prim.Native.Nat.{ℕ}
+use mathlib.Core.List.{List}
+use lib.IntN.{ℤ}
+use lib.Ieee.{Float}
+
+-- `kv` holds the bit patterns of the voltages.
+pub record Network : Type 0 where
+  pub station : List ℕ
+  pub kv : List ℕ
+  pub from : List ℤ
+  pub to : List ℤ
+  pub service : List ℕ
+  pub xy : List Float
+  pub corners : List ℕ
+  pub twins : List ℕ
+
+abbrev pub network : List ℕ → List ℕ → List ℤ → List ℤ → List ℕ → List Float → List ℕ → List ℕ → Network
+network a b c d e f g h = record { station = a; kv = b; from = c; to = d; service = e; xy = f; corners = g; twins = h }
+
+-- the result lists
+pub record Lists : Type 0 where
+  pub positions : List Float
+  pub bars : List Float
+  pub boxes : List Float
+  pub scales : List Float
+  pub roles : List ℕ
+  pub pieces : List Float
+  pub branches : List ℕ
+
+abbrev pub lists : List Float → List Float → List Float → List Float → List ℕ → List Float → List ℕ → Lists
+lists a b c d e f g = record { positions = a; bars = b; boxes = c; scales = d; roles = e; pieces = f; branches = g }
+
+-- the work lists of fixed needed length
+pub record Work : Type 0 where
+  pub stations : List ℕ
+  pub buses : List ℕ
+  pub ends : List ℕ
+  pub edges : List ℕ
+  pub sorted : List ℕ
+  pub spare : List ℕ
+  pub keys : List ℕ
+  pub places : List Float
+  pub blocks : List Float
+  pub frames : List Float
+  pub path : List Float
+
+abbrev pub work : List ℕ → List ℕ → List ℕ → List ℕ → List ℕ → List ℕ → List ℕ → List Float → List Float → List Float → List Float → Work
+work a b c d e f g h i j k =
+    record {
+      stations = a;
+      buses = b;
+      ends = c;
+      edges = d;
+      sorted = e;
+      spare = f;
+      keys = g;
+      places = h;
+      blocks = i;
+      frames = j;
+      path = k;
+    }
+
+-- the crossing list, held in six lists side by side: three numbers, its place, a wish, a key, and two places to sort by for each crossing
+pub record Crossings : Type 0 where
+  pub numbers : List ℕ
+  pub places : List Float
+  pub wishes : List Float
+  pub keys : List ℕ
+  pub order : List ℕ
+  pub spare : List ℕ
+
+abbrev pub crossings : List ℕ → List Float → List Float → List ℕ → List ℕ → List ℕ → Crossings
+crossings a b c d e f = record { numbers = a; places = b; wishes = c; keys = d; order = e; spare = f }
