@@ -1,0 +1,202 @@
+//! Layout and audit calls of every kind, from a seed, for networks of up to a given number of buses.
+use crate::audit::{Drawing, Room};
+use crate::layout::{layout, Lent};
+use crate::mesh;
+use crate::network::{Mesh, Network, Options};
+use crate::random::{Random, EDGES};
+use crate::witness;
+
+#[derive(Clone)]
+pub struct Call {
+    pub net: Network,
+    pub options: Options,
+    pub mesh: Mesh,
+    pub lent: Lent,
+}
+
+pub struct AuditCall {
+    pub net: Network,
+    pub drawing: Drawing,
+    pub room: Room,
+}
+
+fn network(r: &mut Random, most: usize) -> Network {
+    let n = if most > 40 && !r.one_in(4) { most - r.below(most / 4) } else { r.below(most + 1) };
+    let m = r.below(2 * n + 3);
+    let scheme = r.below(4);
+    let groups = 1 + r.below(n);
+    let size = (n as f64).sqrt().ceil();
+    let place = r.below(6);
+    let scale = r.pick(&[1.0, 0.1, 1e3, 1e-7]);
+    let coordinate = |r: &mut Random| match place {
+        0 => r.within(-2, 2) as f64,
+        1 | 2 => r.within(0, 3 * size as i64) as f64 * scale,
+        3 if r.one_in(30) => f64::from_bits(r.pick(&EDGES)),
+        _ => r.unit() * size * 10.0 * scale,
+    };
+    let station = |r: &mut Random, i: usize| match scheme {
+        0 | 1 => i,
+        2 => r.below(n),
+        _ => r.below(groups),
+    };
+    let end = |r: &mut Random| if r.one_in(25) { r.within(-2, n as i64 + 1) } else { r.below(n) as i64 };
+    let kv = |r: &mut Random| if r.one_in(12) { r.pick(&EDGES) } else { f64::to_bits(r.pick(&[110.0, 220.0, 380.0])) };
+    let mut net = Network {
+        sub: (0..n).map(|i| station(r, i) as u32).collect(),
+        kv: (0..n).map(|_| kv(r)).collect(),
+        from: (0..m).map(|_| end(r)).collect(),
+        to: (0..m).map(|_| end(r)).collect(),
+        live: (0..m).map(|_| if r.one_in(6) { r.pick(&[0, 0, 2, 255]) } else { 1 }).collect(),
+        xy: (0..2 * n).map(|_| coordinate(r)).collect(),
+    };
+    // lists that do not fit each other
+    match r.below(80) {
+        0 => drop(net.kv.pop()),
+        1 => net.to.push(0),
+        2 if n > 0 => net.sub[0] = r.pick(&[n as u32, u32::MAX]),
+        3 => net.xy.truncate(n),
+        4 => net.live.truncate(m / 2),
+        5 if n > 0 => net.xy[0] = 1e12f64.next_up(),
+        6 => net.xy.push(1.0),
+        _ => {}
+    }
+    net
+}
+
+fn options(r: &mut Random) -> Options {
+    let mut o = Options::defaults();
+    o.iterations = r.pick(&[0, 1, 2, 10]);
+    o.fill = r.pick(&[0.45, 0.5, 0.45, 1.0, 3.0, 16.0]);
+    match r.below(8) {
+        0 => o.search = r.pick(&[0, 1, 2, 20]),
+        1 => o.radius = r.pick(&[0.0, 1.0, 1000.0]),
+        2 => o.counts = [r.below(4) as u32, r.below(6) as u32],
+        3 => o.scales = [r.pick(&[1.0, 1.0 / 64.0, 0.9]), r.pick(&[0.3, 1.0])],
+        4 if r.one_in(6) => o.search = r.pick(&[-1, 21]),
+        5 if r.one_in(6) => o.fill = r.pick(&[0.0, -0.0, 16.0f64.next_up(), f64::NAN, f64::INFINITY, 5e-324]),
+        6 if r.one_in(6) => o.radius = r.pick(&[-1.0, 1000.5, f64::NAN]),
+        7 if r.one_in(6) => o.scales[r.below(2)] = r.pick(&[0.0, 1.5, f64::NAN, (1.0f64 / 64.0).next_down()]),
+        _ => {}
+    }
+    if r.one_in(60) {
+        o.iterations = r.pick(&[100, 101, -1]);
+    }
+    o
+}
+
+/// A mesh of the places that layout gives; now and then an odd, an empty or an ill-formed one.
+fn meshed(r: &mut Random, net: &Network, options: &Options) -> Mesh {
+    let straight = Options { iterations: 0, ..options.clone() };
+    let Ok(drawing) = layout(net, &straight, &Mesh::default(), &Lent::ample()) else {
+        return Mesh::default();
+    };
+    let occupied = net.occupied();
+    let middle = |&s: &usize| {
+        let b = &drawing.boxes[4 * s..4 * s + 4];
+        ((b[0] + b[2]) / 2.0, (b[1] + b[3]) / 2.0)
+    };
+    let points: Vec<(f64, f64)> = occupied.iter().map(middle).collect();
+    let mut mesh = match r.below(10) {
+        0 => Mesh::default(),
+        1 | 2 => mesh::odd(r, occupied.len().min(40)),
+        _ => mesh::delaunay(&points),
+    };
+    if r.one_in(20) && !mesh.corners.is_empty() {
+        let h = r.below(mesh.corners.len());
+        match r.below(5) {
+            0 => mesh.corners[h] = r.below(occupied.len() + 1) as u32,
+            1 => mesh.twins[h] = r.below(mesh.twins.len() + 1) as u32,
+            2 => drop(mesh.twins.pop()),
+            3 => drop((mesh.twins.pop(), mesh.corners.pop())),
+            _ => mesh.twins[h] = u32::MAX,
+        }
+    }
+    mesh
+}
+
+/// Lengths that just suffice, are ample, or of which one is one too short.
+fn lent(r: &mut Random, call: &Call) -> Lent {
+    let (n, m, k) = (call.net.sub.len(), call.net.from.len(), call.net.stations());
+    let pieces = layout(&call.net, &call.options, &call.mesh, &Lent::ample()).map_or(0, |d| d.segment_edge.len());
+    let mut lent = Lent {
+        positions: 2 * n,
+        bars: 4 * n,
+        boxes: 4 * k,
+        scales: k,
+        roles: m,
+        pieces: 4 * pieces,
+        branches: pieces,
+        crossings: witness::seen().crossings,
+        work_short: r.one_in(100),
+    };
+    let lists = [
+        &mut lent.positions,
+        &mut lent.bars,
+        &mut lent.boxes,
+        &mut lent.scales,
+        &mut lent.roles,
+        &mut lent.pieces,
+        &mut lent.branches,
+        &mut lent.crossings,
+    ];
+    let (less, ample) = (r.below(120), r.one_in(2));
+    for (i, length) in lists.into_iter().enumerate() {
+        if i == less || i == 7 && (8..12).contains(&less) || i == 5 && (12..16).contains(&less) {
+            *length = length.saturating_sub(1);
+        } else if ample {
+            *length += r.below(5);
+        }
+    }
+    lent
+}
+
+pub fn layout_call(seed: u64, case: u64, most: usize) -> Call {
+    let mut r = Random::new(seed, case);
+    let net = network(&mut r, most);
+    let options = options(&mut r);
+    let mesh = meshed(&mut r, &net, &options);
+    let mut call = Call { net, options, mesh, lent: Lent::ample() };
+    call.lent = lent(&mut r, &call);
+    call
+}
+
+/// A drawing as layout left it, or with a few of its numbers changed.
+pub fn audit_call(seed: u64, case: u64, most: usize) -> AuditCall {
+    let Call { net, options, mesh, .. } = layout_call(seed, case, most);
+    let mut r = Random::new(!seed, case);
+    let drawn = layout(&net, &options, &mesh, &Lent::ample());
+    let mut drawing = drawn.map_or(Drawing::default(), |d| Drawing::of(&d));
+    for _ in 0..r.pick(&[0, 0, 1, 3, 10]) {
+        change(&mut r, &mut drawing);
+    }
+    let spare = |r: &mut Random, length: usize| (length + r.below(3)).saturating_sub(usize::from(r.one_in(60)));
+    let k = net.stations();
+    let room = Room {
+        displacement: spare(&mut r, k),
+        spacing: spare(&mut r, k),
+        lengths: spare(&mut r, drawing.branches.len()),
+    };
+    AuditCall { net, drawing, room }
+}
+
+fn change(r: &mut Random, d: &mut Drawing) {
+    let (boxes, pieces) = (d.boxes.len() / 4, d.branches.len());
+    let (s, j) = (r.below(boxes), r.below(pieces));
+    match r.below(12) {
+        // a box moved onto another, shifted by a little, or widened
+        0 | 1 if boxes > 1 => d.boxes.copy_within(0..4, 4 * s),
+        2 if boxes > 0 => (0..4).for_each(|i| d.boxes[4 * s + i] += r.pick(&[1e-9, 0.25, 1.0])),
+        3 if boxes > 0 => d.boxes[4 * s + 2] += r.pick(&[1.0, 10.0, 1e-9]),
+        4 | 5 if pieces > 0 => d.pieces[4 * j + r.below(4)] += r.pick(&[1.0, -10.0, 1e3]),
+        6 if pieces > 1 => d.branches.swap(j, 0),
+        7 if pieces > 0 => d.pieces.copy_within(0..4, 4 * j),
+        8 if !d.roles.is_empty() => {
+            let e = r.below(d.roles.len());
+            d.roles[e] = r.pick(&[0, 1, 2, 3, 255]);
+        }
+        9 if r.one_in(6) && pieces > 0 => d.pieces[4 * j] = r.pick(&[1e40, f64::NAN, 1e300, 1e20]),
+        10 if r.one_in(6) && boxes > 0 => d.boxes[4 * s] = r.pick(&[1e40, f64::NAN, -1e300]),
+        11 if r.one_in(6) => drop((d.boxes.pop(), d.roles.pop())),
+        _ => {}
+    }
+}

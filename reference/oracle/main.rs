@@ -1,0 +1,111 @@
+//! The oracle: the original Rust's answers, as 01 wants them. Its subcommands are listed below.
+#[path = "../../target/reference/tx_schematic.rs"]
+mod tx_schematic;
+
+mod audit;
+mod calls;
+mod compare;
+mod drawlist;
+mod generate;
+mod hypot;
+mod layout;
+mod mesh;
+mod neighbours;
+mod network;
+mod random;
+mod request;
+mod selfcheck;
+mod vectors;
+mod witness;
+mod words;
+
+/// Stress seeding waits (01), so it is left out here.
+mod stress {
+    pub fn sparse_stress(_: usize, _: &[(usize, usize)]) -> Vec<(f64, f64)> {
+        panic!("stress seeding is left out")
+    }
+}
+
+use std::io::{stdin, stdout, BufRead, BufWriter, Read, Write};
+
+const USAGE: &str = "usage: oracle SUBCOMMAND
+  drawlist                          01's program: standard input to standard output
+  generate SEED COUNT CLASS         drawlist inputs, each closed by ====  (CLASS: any, small, large, grid, far, odd, malformed)
+  compare PROGRAM SEED COUNT CLASS  runs PROGRAM and drawlist on generated inputs
+  vectors SEED COUNT                single calls of the original's functions, COUNT lines of each name
+  layout                            layout calls on standard input, answers on standard output (oracle/request.rs)
+  audit                             audit calls likewise
+  calls SEED COUNT BUSES            layout calls for networks of up to BUSES buses
+  audits SEED COUNT BUSES           audit calls likewise
+  hypot                             a line of two patterns in, the exact hypot's pattern out
+  selfcheck                         the scope's worked examples";
+
+fn everything() -> Vec<u8> {
+    let mut text = Vec::new();
+    stdin().read_to_end(&mut text).expect("standard input");
+    text
+}
+
+/// Each call in the stream answered, each answer closed.
+fn answers(answer: impl Fn(&request::Request) -> String) {
+    let mut out = BufWriter::new(stdout());
+    let mut text = String::new();
+    for line in stdin().lock().lines() {
+        let line = line.expect("text");
+        if line == request::CLOSE {
+            let answer = answer(&request::Request::read(&text));
+            writeln!(out, "{answer}{}", request::CLOSE).expect("standard output");
+            text.clear();
+        } else {
+            text += &line;
+            text.push('\n');
+        }
+    }
+}
+
+/// Generated calls, each closed.
+fn calls(count: u64, text: impl Fn(u64) -> String) {
+    let mut out = BufWriter::new(stdout());
+    for i in 0..count {
+        writeln!(out, "{}{}", text(i), request::CLOSE).expect("standard output");
+    }
+}
+
+fn hypots() {
+    let mut out = BufWriter::new(stdout());
+    for line in stdin().lock().lines() {
+        let line = line.expect("text");
+        let value = |w: &str| f64::from_bits(words::bits(w.as_bytes()).expect("pattern"));
+        let (a, b) = line.split_once(' ').expect("two patterns");
+        let root = hypot::hypot(value(a), value(b));
+        writeln!(out, "{}", words::float(root, false)).expect("standard output");
+    }
+}
+
+fn main() {
+    let words: Vec<String> = std::env::args().skip(1).collect();
+    let words: Vec<&str> = words.iter().map(String::as_str).collect();
+    let number = |w: &str| w.parse::<u64>().unwrap_or_else(|_| panic!("not a number: {w}"));
+    match words[..] {
+        ["drawlist"] => print!("{}", drawlist::drawlist(&everything())),
+        ["generate", seed, count, class] => generate::generate(number(seed), number(count), class),
+        ["compare", program, seed, count, class] => {
+            compare::compare(program, number(seed), number(count), class)
+        }
+        ["vectors", seed, count] => vectors::vectors(number(seed), number(count)),
+        ["layout"] => answers(|r| r.layout()),
+        ["audit"] => answers(|r| r.audit()),
+        ["calls", seed, count, buses] => {
+            calls(number(count), |i| calls::layout_call(number(seed), i, number(buses) as usize).text())
+        }
+        ["audits", seed, count, buses] => {
+            calls(number(count), |i| calls::audit_call(number(seed), i, number(buses) as usize).text())
+        }
+        ["hypot"] => hypots(),
+        ["selfcheck"] => selfcheck::selfcheck(),
+        _ => {
+            eprintln!("{USAGE}");
+            std::process::exit(2)
+        }
+    }
+}
