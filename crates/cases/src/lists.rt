@@ -55,6 +55,23 @@ fn channel_agrees(w: &[u64]) -> bool {
     same(c.lo, word_at(w, 15)) && same(c.hi, word_at(w, 16)) && same(c.gap, word_at(w, 17))
 }
 
+// Whether each of the first n places has the pattern that stands for its wish's number from word `from` on.
+fn places_same(list: &[f64], order: &[u32], n: usize, w: &[u64], from: usize) -> bool {
+    let mut i = 0;
+    while i < n {
+        if i < list.len() {
+            let j = order::at(order, i) as usize;
+            if !same(list[i], word_at(w, std::num::wrapping_add_usize(from, j))) {
+                return false;
+            }
+        } else {
+            return false;
+        }
+        i += 1;
+    }
+    true
+}
+
 fn space_agrees(w: &[u64]) -> bool {
     let c = channel::Channel {
         lo: float_at(w, 0),
@@ -66,18 +83,9 @@ fn space_agrees(w: &[u64]) -> bool {
     let mut keys = [0u64; 12];
     let mut order = [0u32; 12];
     let mut spare = [0u32; 12];
-    let mut line = [0.0; 12];
     fill(w, 4, &mut wish);
-    channel::space::space(
-        c,
-        n,
-        &mut wish,
-        &mut keys,
-        &mut order,
-        &mut spare,
-        &mut line,
-    );
-    all_same(&wish, n, w, 4 + n)
+    channel::space::space_sorted(c, n, &mut wish, &mut keys, &mut order, &mut spare);
+    places_same(&wish, &order, n, w, 4 + n)
 }
 
 fn nearest_agrees(w: &[u64]) -> bool {

@@ -1,4 +1,4 @@
--- Loops that write a list from the front, each number a function of another list's, and a loop that puts numbers where a list says. Assumes nothing.
+-- Loops that write a list from the front, each number a function of another list's. Assumes nothing.
 use mathlib.Core.Path.{_≡_, refl, sym, ap, _∙_}
 use mathlib.Core.List.{List, [], _∷_, _++_, map, map-append, append-assoc, append-nil}
 use Prim.Native.Nat.{ℕ, suc, _+_, _≤_, _<_, zero-le}
@@ -6,8 +6,6 @@ use native.Mathlib.Omega.{arith}
 use native.Mathlib.Numerals.{add-one}
 use lib.ListN.{length, getD, drop, take, set, length-map, length-set, drop-of-length-le}
 use lib.Seq.{drop-cons, set-at, take-suc, take-all, length-take-le}
-use lib.Ieee.{Float, nan}
-use Rattle.channel.specs.Space.{putAll}
 
 -- the first i numbers of `now` are f of those of `src`, the others are as in d
 pub record Filled {A B : Type 0} (f : A → B) (src : List A) (d now : List B) (i : ℕ) : Type 0 where
@@ -44,13 +42,3 @@ module _ {A B : Type 0} (f : A → B) (src : List A) (d : List B) (same : length
       ∙ ap (λ (l : List A). map f l ++ drop i d) (take-all i src h)
       ∙ ap (λ (l : List B). map f src ++ l) (drop-of-length-le d short)
       ∙ append-nil (map f src)
-
--- what is left to put makes the whole
-pub put-step : (xs : List ℕ) (ts list : List Float) (i : ℕ) → i < length xs → i < length ts
-    → putAll (drop i xs) (drop i ts) list ≡ putAll (drop (i + 1) xs) (drop (i + 1) ts) (set list (getD xs i 0) (getD ts i nan))
-unfolding putAll
-put-step xs ts list i h k = cc (drop-cons xs i 0 h, drop-cons ts i nan k, add-one i)
-
-pub put-end : (xs : List ℕ) (ts list : List Float) (i : ℕ) → length xs ≤ i → putAll (drop i xs) (drop i ts) list ≡ list
-unfolding putAll
-put-end xs ts list i h = ap (λ (l : List ℕ). putAll l (drop i ts) list) (drop-of-length-le xs h)

@@ -1,6 +1,7 @@
 -- Laws of channels and spacing.
 mod Making
 mod Keys
+mod Back
 mod Filling
 mod Passes
 mod Ways

@@ -1,14 +1,16 @@
--- The three ways to the places of wishes in their order: none, spread evenly, two passes; and the steps that put each at its wish. Assumes nothing.
+-- The three ways to the places of wishes in their order: none, spread evenly, two passes; and the steps to them. Assumes nothing.
 use mathlib.Core.Path.{_≡_, refl, sym, ap, _∙_}
 use mathlib.Core.Bool.{Bool, true, false, cond}
 use mathlib.Core.List.{List, [], _∷_, map}
 use Prim.Native.Nat.{ℕ, _+_, _-_}
 use native.Mathlib.Omega.{arith}
-use lib.ListN.{length}
-use lib.Ieee.{Float}
+use lib.Dec.{T}
+use lib.ListN.{length, getD}
+use lib.Ieee.{Float, nan, fits, binary64}
 use Rattle.order.specs.Order.{upFrom, keyAt, sortBy}
 use Rattle.channel.specs.declared.Channel.{Channel}
-use Rattle.channel.specs.Space.{wishKey, wishOrder, inOrder, evenAt, crowded, forwardAll, backward, spaced, putAll, placed}
+use Rattle.channel.specs.Space.{wishKey, readBack, wishOrder, inOrder, evenAt, crowded, forwardAll, backward, spaced}
+use Rattle.channel.proofs.Back.{back-all}
 
 module _ (c : Channel) where
   abbrev chosen : Bool → List Float → List Float
@@ -38,11 +40,10 @@ module _ (c : Channel) where
       let f : length ws - 1 ≡ last = omega arith in
       ap (λ (b : Bool). chosen b ws) (h ∙ ap (crowded c) (sym f))
 
-  pub steps : (w w′ l l′ : List Float) (ks o o′ : List ℕ)
-      → ks ≡ map wishKey w → o ≡ upFrom 0 (length w) → o′ ≡ sortBy (keyAt ks) o → l ≡ inOrder w o′ → l′ ≡ spaced c l → w′ ≡ putAll o′ l′ w
-      → (w′ ≡ placed c w) × (o′ ≡ wishOrder w) × (l′ ≡ spaced c (inOrder w (wishOrder w)))
-  unfolding wishOrder placed
-  steps w w′ l l′ ks o o′ k a s g p q =
+  pub steps : (w l l′ : List Float) (ks o o′ : List ℕ) → ((i : ℕ) → T (fits binary64 (getD w i nan)))
+      → ks ≡ map wishKey w → o ≡ upFrom 0 (length w) → o′ ≡ sortBy (keyAt ks) o → l ≡ readBack ks o′ → l′ ≡ spaced c l
+      → (o′ ≡ wishOrder w) × (l′ ≡ spaced c (inOrder w (wishOrder w)))
+  unfolding wishOrder
+  steps w l l′ ks o o′ f k a s g p =
       let sorted : o′ ≡ wishOrder w = s ∙ ap (λ (x : List ℕ). sortBy (keyAt x) o) k ∙ ap (sortBy (keyAt (map wishKey w))) a in
-      let line : l′ ≡ spaced c (inOrder w (wishOrder w)) = p ∙ ap (spaced c) (g ∙ ap (inOrder w) sorted) in
-      (q ∙ ap (λ (x : List ℕ). putAll x l′ w) sorted ∙ ap (λ (x : List Float). putAll (wishOrder w) x w) line, sorted, line)
+      (sorted, p ∙ ap (spaced c) (g ∙ ap (λ (x : List ℕ). readBack x o′) k ∙ back-all w f o′ ∙ ap (inOrder w) sorted))

@@ -2,9 +2,9 @@
 use Prim.Native.Nat.{ℕ, _-_, _^_}
 use mathlib.Core.Bool.{Bool, cond}
 use mathlib.Core.List.{List, [], _∷_, map}
-use lib.Dec.{eqb}
+use lib.Dec.{eqb, leb}
 use lib.ListN.{length, getD, set}
-use lib.Ieee.{Float, nan, lt, isNan}
+use lib.Ieee.{Float, nan, lt, isNan, binary64, ofBits}
 use Rattle.float.specs.Ops.{_⊕_, _⊖_, _⊗_, _⊘_, f2, num, orderKey}
 use Rattle.float.specs.Small.{maxOf, minOf, clampOf}
 use Rattle.order.specs.Order.{sortBy, upFrom, keyAt}
@@ -13,6 +13,14 @@ use Rattle.channel.specs.declared.Channel.{Channel}
 -- 01, Arithmetic, total order: the place of a wish in it, a NaN behind all numbers
 unfoldable pub wishKey : Float → ℕ
 wishKey x = cond (isNan x) (2 ^ 64 - 1) (orderKey x)
+
+-- the wish that has a key: that of no number is a NaN's pattern
+unfoldable pub wishOf : ℕ → Float
+wishOf k = ofBits binary64 (cond (leb (2 ^ 63) k) (k - 2 ^ 63) (2 ^ 64 - 1 - k))
+
+-- the wishes of these numbers, each by its key
+unfoldable pub readBack : List ℕ → List ℕ → List Float
+readBack keys order = map (λ j. wishOf (keyAt keys j)) order
 
 -- the numbers 0, 1, .. of the wishes in their order: by the total order of the wishes, then by number
 unfoldable pub wishOrder : List Float → List ℕ

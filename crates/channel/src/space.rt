@@ -2,15 +2,16 @@
 ghost use mathlib.Core.Path.{_≡_};
 ghost use mathlib.Core.List.{_++_, map};
 ghost use Prim.Native.Nat.{_+_, _-_, _^_, _≤_};
-ghost use lib.ListN.{length, set, drop, take, replicate};
+ghost use lib.ListN.{length, drop, take, replicate};
 ghost use Rattle.order.specs.Order.{upFrom};
-ghost use Rattle.channel.specs.Space.{wishKey, wishOrder, inOrder, evenAt, crowded, forwardAll, backward, spaced, putAll, placed};
+ghost use Rattle.channel.specs.Space.{wishKey, wishOf, readBack, wishOrder, inOrder, evenAt, crowded, forwardAll, backward, spaced};
 use crate::Channel;
+use float::bits::of_bits;
 use float::key::order_key;
 use float::small::clamp;
 use float::small::max;
 use float::small::min;
-use geometry::number_at;
+use order::key_at;
 use order::number;
 use order::sort_by_key;
 
@@ -35,36 +36,24 @@ fn wish_keys(wish: &[f64], keys: &mut [u64])
     }
 }
 
-// The wishes in the order given.
-fn gather(wish: &[f64], order: &[u32], line: &mut [f64])
-    requires { ⌜ length (now line) ≡ length (now order) ⌝ }
-    ensures { λ _. ⌜ now (line .exit) ≡ inOrder (now (wish .entry)) (now (order .entry)) ⌝ }
+// The wish that has this key.
+fn wish_of(key: u64) -> f64
+    ensures { λ r. ⌜ r ≡ wishOf key ⌝ }
+{
+    if 0x8000_0000_0000_0000 <= key {
+        return of_bits(key - 0x8000_0000_0000_0000);
+    }
+    of_bits(0xffff_ffff_ffff_ffff - key)
+}
+
+// The wishes in the order given, each read back from its key.
+fn gather(keys: &[u64], order: &[u32], wish: &mut [f64])
+    requires { ⌜ length (now wish) ≡ length (now order) ⌝ }
+    ensures { λ _. ⌜ now (wish .exit) ≡ readBack (now (keys .entry)) (now (order .entry)) ⌝ }
 {
     let mut i = 0;
     while i < order.len() {
-        line[i] = number_at(wish, order[i] as usize);
-        i += 1;
-    }
-}
-
-// Sets the number at i, where there is one.
-fn put(list: &mut [f64], i: u32, x: f64)
-    ensures { λ _. ⌜ now (list .exit) ≡ set (now (list .entry)) i x ⌝ }
-{
-    let k = i as usize;
-    if k < list.len() {
-        list[k] = x;
-    }
-}
-
-// Each index of a list gets its number of another.
-pub fn put_all(order: &[u32], line: &[f64], list: &mut [f64])
-    requires { ⌜ length (now line) ≡ length (now order) ⌝ }
-    ensures { λ _. ⌜ now (list .exit) ≡ putAll (now (order .entry)) (now (line .entry)) (now (list .entry)) ⌝ }
-{
-    let mut i = 0;
-    while i < order.len() {
-        put(list, order[i], line[i]);
+        wish[i] = wish_of(key_at(keys, order[i]));
         i += 1;
     }
 }
@@ -151,46 +140,35 @@ fn place(c: Channel, list: &mut [f64])
     }
 }
 
-// Wishes become their places; the other lists are as long.
-fn space_all(
-    c: Channel,
-    wish: &mut [f64],
-    keys: &mut [u64],
-    order: &mut [u32],
-    spare: &mut [u32],
-    line: &mut [f64],
-)
-    requires { ⌜ (length (now wish) ≤ 2 ^ 32) × (length (now keys) ≡ length (now wish)) × (length (now order) ≡ length (now wish)) × (length (now spare) ≡ length (now wish)) × (length (now line) ≡ length (now wish)) ⌝ }
-    ensures { λ _. ⌜ now (wish .exit) ≡ placed c (now (wish .entry)) ⌝ }
+// Wishes become their places in their order; the other lists are as long.
+fn space_all(c: Channel, wish: &mut [f64], keys: &mut [u64], order: &mut [u32], spare: &mut [u32])
+    requires { ⌜ (length (now wish) ≤ 2 ^ 32) × (length (now keys) ≡ length (now wish)) × (length (now order) ≡ length (now wish)) × (length (now spare) ≡ length (now wish)) ⌝ }
+    ensures { λ _. ⌜ now (wish .exit) ≡ spaced c (inOrder (now (wish .entry)) (wishOrder (now (wish .entry)))) ⌝ }
     ensures { λ _. ⌜ now (keys .exit) ≡ map wishKey (now (wish .entry)) ⌝ }
     ensures { λ _. ⌜ now (order .exit) ≡ wishOrder (now (wish .entry)) ⌝ }
     ensures { λ _. ⌜ now (spare .exit) ≡ replicate (length (now (wish .entry))) 0 ⌝ }
-    ensures { λ _. ⌜ now (line .exit) ≡ spaced c (inOrder (now (wish .entry)) (wishOrder (now (wish .entry)))) ⌝ }
 {
     wish_keys(wish, keys);
     number(order);
     sort_by_key(keys, order, spare);
-    gather(wish, order, line);
-    place(c, line);
-    put_all(order, line, wish);
+    gather(keys, order, wish);
+    place(c, wish);
 }
 
-// The first n wishes become their places on the channel; the other lists are lent for the work, and what they hold past n stays.
-pub fn space(
+// The first n wishes become their places on the channel, in the order of the wishes; `order` begins with the wishes' numbers in that order. The other lists are lent for the work, and what each holds past n stays.
+pub fn space_sorted(
     c: Channel,
     n: usize,
     wish: &mut [f64],
     keys: &mut [u64],
     order: &mut [u32],
     spare: &mut [u32],
-    line: &mut [f64],
 )
-    requires { ⌜ (n ≤ 2 ^ 32) × (n ≤ length (now wish)) × (n ≤ length (now keys)) × (n ≤ length (now order)) × (n ≤ length (now spare)) × (n ≤ length (now line)) ⌝ }
-    ensures { λ _. ⌜ now (wish .exit) ≡ placed c (take n (now (wish .entry))) ++ drop n (now (wish .entry)) ⌝ }
+    requires { ⌜ (n ≤ 2 ^ 32) × (n ≤ length (now wish)) × (n ≤ length (now keys)) × (n ≤ length (now order)) × (n ≤ length (now spare)) ⌝ }
+    ensures { λ _. ⌜ now (wish .exit) ≡ spaced c (inOrder (take n (now (wish .entry))) (wishOrder (take n (now (wish .entry))))) ++ drop n (now (wish .entry)) ⌝ }
     ensures { λ _. ⌜ now (keys .exit) ≡ map wishKey (take n (now (wish .entry))) ++ drop n (now (keys .entry)) ⌝ }
     ensures { λ _. ⌜ now (order .exit) ≡ wishOrder (take n (now (wish .entry))) ++ drop n (now (order .entry)) ⌝ }
     ensures { λ _. ⌜ now (spare .exit) ≡ replicate n 0 ++ drop n (now (spare .entry)) ⌝ }
-    ensures { λ _. ⌜ now (line .exit) ≡ spaced c (inOrder (take n (now (wish .entry))) (wishOrder (take n (now (wish .entry))))) ++ drop n (now (line .entry)) ⌝ }
 {
     space_all(
         c,
@@ -198,6 +176,5 @@ pub fn space(
         &mut keys[..n],
         &mut order[..n],
         &mut spare[..n],
-        &mut line[..n],
     );
 }

@@ -1,40 +1,41 @@
 -- `channel::space::gather` meets its contract. Assumes nothing.
 use Prim.Native.Nat.{_-_}
+use mathlib.Core.Path.{ap, _∙_}
 use native.Mathlib.Omega.{arith}
-use lib.ListN.{length, getD}
-use lib.Ieee.{nan}
-use Rattle.channel.specs.Space.{inOrder}
+use lib.ListN.{length}
+use Rattle.order.specs.Order.{keyAt}
+use Rattle.channel.specs.Space.{wishOf, readBack}
 use Rattle.channel.proofs.Filling.{Filled, fill-start, fill-step, fill-end}
 use borrow.Author.Needs.{needs}
 use Rattle.channel.proofs.space.gather.Statement.{statement}
 use Rattle.channel.proofs.space.gather.Tie as tie
 
 abbrev Inv-loop : tie.InvT-loop
-Inv-loop wish order line₀ i₀ line i = Filled (λ j. getD wish j nan) order line₀ line i
+Inv-loop keys order wish₀ i₀ wish i = Filled (λ j. wishOf (keyAt keys j)) order wish₀ wish i
 
 abbrev μ-loop : tie.MeasureT-loop
-μ-loop wish order line₀ i₀ line i = length order - i
+μ-loop keys order wish₀ i₀ wish i = length order - i
 
 loop-holds : tie.Need-loop-holds Inv-loop μ-loop
 loop-holds c = fill-start _ _ _ (omega arith)
 
-mul-number-at : tie.Need-mul-number-at Inv-loop μ-loop
-mul-number-at c = search needs
+mul-key-at : tie.Need-mul-key-at Inv-loop μ-loop
+mul-key-at c = search needs
 
-shared-slice-read-number-at : tie.Need-shared-slice-read-number-at Inv-loop μ-loop
-shared-slice-read-number-at c = search needs
+shared-slice-read-key-at : tie.Need-shared-slice-read-key-at Inv-loop μ-loop
+shared-slice-read-key-at c = search needs
 
-cast-number-at : tie.Need-cast-number-at Inv-loop μ-loop
-cast-number-at c = omega (arith, c .shared-slice-known3 .given (c .before .before .loop .i))
+key-at-requires : tie.Need-key-at-requires Inv-loop μ-loop
+key-at-requires c κs = search needs
 
-number-at-requires : tie.Need-number-at-requires Inv-loop μ-loop
-number-at-requires c κs = search needs
+wish-of-requires : tie.Need-wish-of-requires Inv-loop μ-loop
+wish-of-requires c κs = search needs
 
-mul-line : tie.Need-mul-line Inv-loop μ-loop
-mul-line c = search needs
+mul-wish : tie.Need-mul-wish Inv-loop μ-loop
+mul-wish c = search needs
 
-slice-write-line : tie.Need-slice-write-line Inv-loop μ-loop
-slice-write-line c = search needs
+slice-write-wish : tie.Need-slice-write-wish Inv-loop μ-loop
+slice-write-wish c = search needs
 
 add-i : tie.Need-add-i Inv-loop μ-loop
 add-i c = search needs
@@ -43,13 +44,13 @@ loop-less : tie.Need-loop-less Inv-loop μ-loop
 loop-less c = search needs
 
 loop-again : tie.Need-loop-again Inv-loop μ-loop
-loop-again c = fill-step _ _ _ (omega arith) _ _ _ _ (omega arith) (c .number-at .ensures) (c .before .before .before .loop .inv)
+loop-again c = fill-step _ _ _ (omega arith) _ _ _ _ (omega arith) (c .wish-of .ensures ∙ ap wishOf (c .before .key-at .ensures)) (c .before .before .before .before .loop .inv)
 
 same-length : tie.Need-same-length Inv-loop μ-loop
 same-length c = search needs
 
 returns : tie.Need-returns Inv-loop μ-loop
-unfolding inOrder
+unfolding readBack
 returns c = fill-end _ _ _ (omega arith) _ _ (omega arith) (c .before .loop .inv)
 
 pub gather-spec : {M : Type 1} → statement M
@@ -59,12 +60,12 @@ gather-spec =
     Inv-loop
     μ-loop
     loop-holds
-    mul-number-at
-    shared-slice-read-number-at
-    cast-number-at
-    number-at-requires
-    mul-line
-    slice-write-line
+    mul-key-at
+    shared-slice-read-key-at
+    key-at-requires
+    wish-of-requires
+    mul-wish
+    slice-write-wish
     add-i
     loop-less
     loop-again

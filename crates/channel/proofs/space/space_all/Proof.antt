@@ -1,7 +1,7 @@
 -- `channel::space::space_all` meets its contract. Assumes nothing.
-use Prim.Native.Nat.{ℕ}
 use mathlib.Core.Path.{_≡_, ap, _∙_}
 use mathlib.Core.List.{List}
+use Prim.Native.Nat.{ℕ}
 use native.Mathlib.Omega.{arith}
 use lib.ListN.{length, replicate}
 use lib.Ieee.{Float}
@@ -26,9 +26,6 @@ gather-requires c κs = search needs
 place-requires : tie.Need-place-requires
 place-requires c κs = search needs
 
-put-all-requires : tie.Need-put-all-requires
-put-all-requires c κs = search needs
-
 same-length : tie.Need-same-length
 same-length c = search needs
 
@@ -41,24 +38,15 @@ same-length-3 c = search needs
 same-length-4 : tie.Need-same-length-4
 same-length-4 c = search needs
 
-same-length-5 : tie.Need-same-length-5
-same-length-5 c = search needs
-
 returns : tie.Need-returns
 returns c =
-    let s = c .before .before .before .before .before .before .before .before .before .before .before .before .before .before .before .before .before .before .before .before .before .before .before .before .before .before .before .before .before .before .before .before .before .before .before .before .before .before in
+    let s = c .before .before .before .before .before .before .before .before .before .before .before .before .before .before .before .before .before .before .before .before .before .before .before .before .before .before .before .before .before .before .before in
     let w : List Float = s .args .wish .now in
-    let k = c .before .before .before .before .before .before .before .before .before .before .before .before .before .before .before .before .before .before .before .before .before .before .before .before .before .before .before .before .before .before .wish-keys in
-    let u = c .before .before .before .before .before .before .before .before .before .before .before .before .before .before .before .before .before .before .before .before .before .before .before .before .before .before .number in
-    let o = c .before .before .before .before .before .before .before .before .before .before .before .before .before .before .before .before .before .before .before .before .sort-by-key in
-    let g = c .before .before .before .before .before .before .before .before .before .before .before .before .gather in
-    let p = c .before .before .before .before .before .before .before .before .place in
-    let q = c .before .before .put-all in
     let e : length (s .args .order .now) ≡ length w = omega (arith, s .pre) in
     let f : length (s .args .spare .now) ≡ length w = omega (arith, s .pre) in
-    let numbered : u .last .0 ≡ upFrom 0 (length w) = cc (u .ensures) in
-    let r = steps (s .args .c) w (q .last .1 .1 .0) (g .last .1 .1 .0) (p .last .1 .0) (k .last .1 .0) (u .last .0) (o .last .1 .0) (k .ensures) numbered (o .ensures .0) (g .ensures) (p .ensures) (q .ensures) in
-    (r .0, (k .ensures, (r .1, (o .ensures .1 ∙ ap (λ (n : ℕ). replicate n 0) f, r .2))))
+    let numbered : c .before .before .before .before .before .before .before .before .before .before .before .before .before .before .before .before .before .before .before .before .number .last .0 ≡ upFrom 0 (length w) = cc (c .before .before .before .before .before .before .before .before .before .before .before .before .before .before .before .before .before .before .before .before .number .ensures) in
+    let r = steps (s .args .c) w _ _ _ _ _ (λ i. c .before .before .before .before .before .before .before .before .before .before .before .before .before .before .before .before .before .before .before .before .before .before .before .before .before .before .before .before .before .before .slice-known .given i) (c .before .before .before .before .before .before .before .before .before .before .before .before .before .before .before .before .before .before .before .before .before .before .before .before .wish-keys .ensures) numbered (c .before .before .before .before .before .before .before .before .before .before .before .before .before .before .sort-by-key .ensures .0) (c .before .before .before .before .before .before .gather .ensures) (c .before .before .place .ensures) in
+    (r .1, (c .before .before .before .before .before .before .before .before .before .before .before .before .before .before .before .before .before .before .before .before .before .before .before .before .wish-keys .ensures, (r .0, c .before .before .before .before .before .before .before .before .before .before .before .before .before .before .sort-by-key .ensures .1 ∙ ap (λ (n : ℕ). replicate n 0) f)))
 
 pub space-all-spec : {M : Type 1} → statement M
 space-all-spec =
@@ -69,10 +57,8 @@ space-all-spec =
     sort-by-key-requires
     gather-requires
     place-requires
-    put-all-requires
     same-length
     same-length-2
     same-length-3
     same-length-4
-    same-length-5
     returns)

@@ -1,0 +1,3 @@
+pub mod Round
+pub mod Trace
+pub mod Cases
