@@ -33,7 +33,7 @@ fn larger_side(l: f64, b: Box) -> f64
 }
 
 // The largest side of the occupied stations' boxes.
-fn largest(k: usize, stations: &[u32], frames: &[f64]) -> f64
+pub fn largest(k: usize, stations: &[u32], frames: &[f64]) -> f64
     requires { ⌜ (2 * k ≤ length (now stations)) × (4 * k ≤ length (now frames)) ⌝ }
     ensures { λ r. ⌜ r ≡ largest (boxesIn k (now (frames .entry))) f0 (occupied (countsIn k (now (stations .entry)))) ⌝ }
 {
@@ -51,7 +51,7 @@ fn largest(k: usize, stations: &[u32], frames: &[f64]) -> f64
 }
 
 // Whether a corner's coordinate divided by l is at most 2^40 in size.
-fn modest(l: f64, c: f64) -> bool
+pub fn modest(l: f64, c: f64) -> bool
     ensures { λ r. ⌜ r ≡ modest l c ⌝ }
 {
     abs(c / l) <= 1099511627776.0
@@ -91,7 +91,7 @@ fn all_modest(k: usize, l: f64, stations: &[u32], frames: &[f64]) -> bool
 }
 
 // Whether a station is occupied.
-fn any_occupied(k: usize, stations: &[u32]) -> bool
+pub fn any_occupied(k: usize, stations: &[u32]) -> bool
     requires { ⌜ 2 * k ≤ length (now stations) ⌝ }
     ensures { λ r. ⌜ r ≡ ltb 0 (length (occupied (countsIn k (now (stations .entry))))) ⌝ }
 {

@@ -1,0 +1,15 @@
+-- `detour::cells::side` meets its contract. Assumes nothing.
+use Rattle.detour.specs.Cells.{side}
+use borrow.Author.Needs.{needs}
+use Rattle.detour.proofs.cells.side.Statement.{statement}
+use Rattle.detour.proofs.cells.side.Tie as tie
+
+max-requires : tie.Need-max-requires
+max-requires c κs = search needs
+
+returns : tie.Need-returns
+unfolding side
+returns c = cc
+
+pub side-spec : {M : Type 1} → statement M
+side-spec = tie.close (tie.spec max-requires returns)

@@ -1,0 +1,30 @@
+-- `detour::walk::settled` meets its contract. Assumes nothing.
+use Rattle.detour.specs.Cells.{settled}
+use borrow.Author.Needs.{needs}
+use Rattle.detour.proofs.walk.settled.Statement.{statement}
+use Rattle.detour.proofs.walk.settled.Tie as tie
+
+enum-told : tie.Need-enum-told
+enum-told c = search needs
+
+enum-known-best : tie.Need-enum-known-best
+enum-known-best c = search needs
+
+returns : tie.Need-returns
+unfolding settled
+returns c = simp (c .before .before .best .given .1, c .if1 .taken)
+
+returns-2 : tie.Need-returns-2
+unfolding settled
+returns-2 c = simp (c .before .before .before .best .given .1, c .before .if1 .left, c .if2 .taken)
+
+returns-3 : tie.Need-returns-3
+unfolding settled
+returns-3 c = simp (c .enum-told .given .1)
+
+returns-4 : tie.Need-returns-4
+unfolding settled
+returns-4 c = simp (c .before .before .before .best .given .1, c .before .if1 .left, c .if2 .left)
+
+pub settled-spec : {M : Type 1} → statement M
+settled-spec = tie.close (tie.spec enum-told enum-known-best returns returns-2 returns-3 returns-4)

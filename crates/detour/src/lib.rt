@@ -1,0 +1,6 @@
+// Leading a path round boxes: the first box along a piece, found cell by cell, and at most four points put in.
+pub mod cells;
+pub mod corner;
+pub mod path;
+pub mod signed;
+pub mod walk;
