@@ -1,84 +1,153 @@
--- What is judged of a drawing that the work lists hold.
+-- What is judged of a charted drawing, and what is written of it.
 -- Assumes nothing.
-use Prim.Native.Nat.{ℕ, _*_, _<_}
-use mathlib.Core.Path.{_≡_, sym, ap, _∙_, subst}
-use mathlib.Core.Bool.{Bool, _&&_}
-use mathlib.Core.List.{List}
+use Prim.Native.Nat.{ℕ, zero, suc, _*_, _≤_}
+use mathlib.Core.Path.{_≡_, refl, sym, ap, _∙_, subst}
+use mathlib.Core.Bool.{Bool, true, false, _&&_}
+use mathlib.Core.List.{List, map}
+use native.Mathlib.Omega.{arith}
+use lib.Dec.{ltb}
 use lib.ListN.{length}
 use lib.Ieee.{Float}
 use Rattle.float.specs.Small.{isFinite}
 use Rattle.geometry.specs.declared.Point.{Point}
 use Rattle.geometry.specs.declared.Box.{Box}
 use Rattle.network.specs.declared.options.Options.{Options}
-use Rattle.network.specs.Options.{searchOf}
-use Rattle.network.specs.Words.{stationOf, stationCount, busCounts, kinds, occupied}
-use Rattle.network.proofs.Stations.{station-below}
+use Rattle.network.specs.Words.{kinds, occupied}
 use Rattle.network.specs.Refusal.{everyFinite}
-use Rattle.network.specs.Views.{countsIn, columnsIn, fromRowsIn, toRowsIn, pointsIn, boxesIn}
-use Rattle.plan.specs.Stages.{Interiors, Settled}
-use Rattle.placement.specs.Modest.{illSized}
-use Rattle.bars.specs.declared.Bar.{Bar}
-use Rattle.bars.specs.Bar as Bars
-use Rattle.bars.specs.Span.{spansIn}
-use Rattle.runs.specs.Run.{allPieces, Piece}
+use Rattle.network.specs.Views.{countsIn, boxesIn}
+use Rattle.units.specs.Views.{scalesIn}
+use Rattle.bars.specs.Bar.{position}
+use Rattle.detour.specs.Cells.{cellSize}
+use Rattle.runs.specs.Run.{Piece, allPieces, role}
 use Rattle.runs.specs.Finite.{allOf, finitePoint, finiteBox, finiteBar}
-use Rattle.runs.specs.Views.{held}
-use Rattle.pieces.specs.Pieces.{runsIn}
+use Rattle.runs.specs.Lists.{flat, pointNumbers, boxNumbers, barNumbers, pieceNumbers, after}
+use Rattle.runs.specs.Views.{Held, held, lead}
+use Rattle.pieces.specs.Pieces.{runsIn, branchOf}
 use Rattle.results.specs.Bars.{barsIn}
 use Rattle.results.specs.Bounds.{boundsOf}
-use Rattle.results.proofs.Finites.{finite-points, finite-boxes}
-use Rattle.layout.specs.Network.{Network}
+use Rattle.results.proofs.Finites.{finite-boxes}
+use Rattle.routing.specs.Views.{gapOf}
+use Rattle.layout.specs.declared.answer.Answer.{Answer}
+use Rattle.layout.specs.declared.answer.Answer.the-variants.{Refused}
+use Rattle.layout.specs.declared.room.Room.{Room}
+use Rattle.layout.specs.Network.{Network, Lists, lists}
 use Rattle.layout.specs.Drawing.{drawing}
-use Rattle.layout.specs.Answer.{lateBy, allFinite}
-use Rattle.layout.specs.Held.{Holds}
-use Rattle.layout.specs.Draft.{Laid, Judged}
-use Rattle.layout.proofs.Scenes.{settled-held}
+use Rattle.layout.specs.Answer.{orLater, routedBy, lateBy, late, crossingRoom, allFinite, listsOf, listsAfter, answerBy, answerFor}
+use Rattle.layout.specs.Draft.{routedLate, Charted, Judged, Drew}
+use Rattle.layout.proofs.Lates.{room-of}
 
-module _ (o : Options) (N : Network) (k : ℕ) (unit : Float) (finite : Bool) (stations buses ends : List ℕ) (blocks places frames : List Float)
-    (L : Laid o N k unit finite stations buses ends blocks places frames) where
-  pub judged : (numbers names : ℕ) (bounds : Box) (pieces late : ℕ) (ill boxes bars runs all : Bool)
-      → ill ≡ illSized (boxesIn k frames) (occupied (countsIn k stations))
-      → pieces ≡ length (allPieces (kinds (N .station) (N .from) (N .to) (N .service)) (runsIn (held (N .station) unit buses ends blocks places frames) (N .from) (N .to) (N .service)))
-      → runs ≡ allOf (allOf finitePoint) (runsIn (held (N .station) unit buses ends blocks places frames) (N .from) (N .to) (N .service))
-      → boxes ≡ everyFinite (4 * k) frames
-      → bars ≡ allOf finiteBar (barsIn (N .station) unit buses blocks frames)
-      → all ≡ (finite && (isFinite unit && (boxes && (bars && runs))))
-      → bounds ≡ boundsOf (boxesIn k frames) (occupied (countsIn k stations))
-      → late ≡ lateBy ill pieces numbers names all
-      → Judged o N numbers names unit bounds pieces late
-  unfolding allFinite
-  judged numbers names bounds pieces late ill boxes bars runs all i p r b s a d l =
-      let H = L .holds in
-      let c : countsIn k stations ≡ drawing o N .counts = L .counts ∙ H .counts in
-      let ie : ill ≡ illSized (drawing o N .boxes) (occupied (drawing o N .counts)) = i ∙ cc (H .boxes, c) in
-      let pe : pieces ≡ length (drawing o N .pieces) = p ∙ ap length (H .pieces) in
-      let re : runs ≡ allOf (allOf finitePoint) (drawing o N .runs) = r ∙ ap (allOf (allOf finitePoint)) (H .runs) in
-      let be : boxes ≡ allOf finiteBox (drawing o N .boxes) = b ∙ finite-boxes frames k ∙ ap (allOf finiteBox) (H .boxes) in
-      let se : bars ≡ allOf finiteBar (drawing o N .bars) = s ∙ ap (allOf finiteBar) (H .bars) in
-      let ae : all ≡ allFinite (drawing o N) = a ∙ cc (L .finiteIs, H .unitIs, be, se, re) in
-      record {
-        unitIs = H .unitIs;
-        boundsIs = d ∙ cc (H .bounds, L .counts);
-        piecesIs = pe;
-        lateIs = l ∙ cc (ie, pe, ae);
-      }
+lists-eq : {a a' b b' c c' d d' : List Float} {e e' : List ℕ} {f f' : List Float} {g g' : List ℕ}
+    → a ≡ a' → b ≡ b' → c ≡ c' → d ≡ d' → e ≡ e' → f ≡ f' → g ≡ g' → lists a b c d e f g ≡ lists a' b' c' d' e' f' g'
+lists-eq p q r s t u w = rw (p, q, r, s, t, u, w)
 
-pub laid-joined : (o : Options) (N : Network) (k : ℕ) (unit : Float) (finite : Bool) (search : ℕ) (stations₁ stations buses₁ buses ends : List ℕ) (places₁ blocks places frames : List Float)
-    → k ≡ stationCount (N .station)
-    → Interiors o (N .station) (N .kv) (N .from) (N .to) (N .service) (N .xy) k unit finite stations₁ buses₁ ends places₁ blocks
-    → search ≡ searchOf (o .search)
-    → Settled (N .station) (N .kv) k unit search blocks (pointsIn k places₁) stations places frames
-    → columnsIn (length (N .station)) buses ≡ columnsIn (length (N .station)) buses₁
-    → spansIn (length (N .station)) buses
-    ≡ Bars.spans (N .station) (kinds (N .station) (N .from) (N .to) (N .service)) (fromRowsIn (length (N .from)) ends) (toRowsIn (length (N .from)) ends)
-    → Laid o N k unit finite stations buses ends blocks places frames
-laid-joined o N k unit finite search stations₁ stations buses₁ buses ends places₁ blocks places frames e I s T c p =
-    let below : (i : ℕ) → i < length (N .station) → stationOf (N .station) i < k =
-    subst (λ (z : ℕ). (i : ℕ) → i < length (N .station) → stationOf (N .station) i < z) (sym e) (station-below (N .station)) in
-    let H : Holds o N k unit buses ends blocks places frames =
-    settled-held o N k unit finite search stations₁ stations buses₁ buses ends places₁ blocks places frames below I s T c p in
-    record {
-      holds = H;
-      counts = T .counts;
-      finiteIs = I .finiteIs ∙ finite-points places₁ k ∙ ap (allOf finitePoint) (I .seeds ∙ H .seeds);
-    }
+-- the same tests in another order
+in-order : (s c u b r n : Bool) → ((s && c) && (u && (b && (r && n)))) ≡ (s && (u && (b && (r && (c && n)))))
+in-order false c u b r n = refl
+in-order true true u b r n = refl
+in-order true false false b r n = refl
+in-order true false true false r n = refl
+in-order true false true true false n = refl
+in-order true false true true true n = refl
+
+module _ (o : Options) (N : Network) (k : ℕ) (R : Room) (unit : Float) (fin : Bool) (l : ℕ) (stations buses ends : List ℕ) (blocks places frames path ways : List Float)
+    (C : Charted o N k (crossingRoom R) unit fin l stations buses ends blocks places frames path ways) where
+  -- Where the chart is refused, so is the drawing.
+  pub refused : (l ≡ 0 → ⊥) → (L : Lists) → Drew o N (late (drawing o N) R) L (Refused l) L
+  unfolding late lateBy routedLate answerFor answerBy listsAfter after
+  refused h L = by l h (C .lateIs)
+    where
+      by : (r : ℕ) → (r ≡ 0 → ⊥) → r ≡ routedLate o N (crossingRoom R) → Drew o N (late (drawing o N) R) L (Refused r) L
+      by zero h e = absurd (h refl)
+      by (suc r) h e = record { answerIs = rw (sym e); listsAre = rw (sym e) }
+
+  module _ (z : l ≡ 0) (cell gap : Float) (led : Bool) (ce : cell ≡ cellSize (boxesIn k frames) (occupied (countsIn k stations)))
+      (ge : gap ≡ gapOf unit) (le : led ≡ ltb 0 (o .«route_iterations»)) where
+    abbrev heldBy : Held
+    heldBy = held (N .station) unit buses ends blocks places frames (lead led cell gap k stations ways)
+
+    runs-are : runsIn heldBy (N .from) (N .to) (N .service) ≡ drawing o N .runs
+    runs-are =
+        (let e = C .runs z cell ce in cc (ge, le)) ∙ C .runs z cell ce
+
+    all-pieces : allPieces (kinds (N .station) (N .from) (N .to) (N .service)) (runsIn heldBy (N .from) (N .to) (N .service)) ≡ drawing o N .pieces
+    unfolding drawing
+    all-pieces = ap (allPieces (kinds (N .station) (N .from) (N .to) (N .service))) runs-are
+
+    bounds-are : boundsOf (boxesIn k frames) (occupied (countsIn k stations)) ≡ drawing o N .bounds
+    unfolding drawing
+    bounds-are = cc (C .boxes, C .counts)
+
+    roles-are : map role (kinds (N .station) (N .from) (N .to) (N .service)) ≡ drawing o N .roles
+    unfolding drawing
+    roles-are = refl
+
+    pub judged : (bounds : Box) (pieces l' : ℕ) (boxes bars runs all : Bool)
+        → pieces ≡ length (allPieces (kinds (N .station) (N .from) (N .to) (N .service)) (runsIn heldBy (N .from) (N .to) (N .service)))
+        → runs ≡ allOf (allOf finitePoint) (runsIn heldBy (N .from) (N .to) (N .service))
+        → boxes ≡ everyFinite (4 * k) frames
+        → bars ≡ allOf finiteBar (barsIn (N .station) unit buses blocks frames)
+        → all ≡ (fin && (isFinite unit && (boxes && (bars && runs))))
+        → bounds ≡ boundsOf (boxesIn k frames) (occupied (countsIn k stations))
+        → l' ≡ lateBy 0 pieces (R .pieces) (R .branches) all
+        → Judged o N R unit bounds pieces l'
+    unfolding late routedLate allFinite
+    judged bounds pieces l' boxes bars runs all p r b s a d e =
+        let pe : pieces ≡ length (drawing o N .pieces) = p ∙ ap length all-pieces in
+        let re : runs ≡ allOf (allOf finitePoint) (drawing o N .runs) = r ∙ ap (allOf (allOf finitePoint)) runs-are in
+        let be : boxes ≡ allOf finiteBox (drawing o N .boxes) = b ∙ finite-boxes frames k ∙ ap (allOf finiteBox) (C .boxes) in
+        let se : bars ≡ allOf finiteBar (drawing o N .bars) = s ∙ ap (allOf finiteBar) (C .bars) in
+        let ae : all ≡ allFinite (drawing o N) =
+        a ∙ cc (C .finiteIs z, C .unitIs, be, se, re)
+        ∙ in-order (allOf finitePoint (drawing o N .seeds)) (allOf isFinite (drawing o N .crossings)) (isFinite (drawing o N .unit)) (allOf finiteBox (drawing o N .boxes)) (allOf finiteBar (drawing o N .bars)) (allOf (allOf finitePoint) (drawing o N .runs))
+        in
+        let le : 0 ≡ routedLate o N (crossingRoom R) = sym z ∙ C .lateIs in
+        record {
+          unitIs = C .unitIs;
+          boundsIs = λ _. d ∙ bounds-are;
+          piecesIs = λ _. pe;
+          lateIs = e ∙ cc (le, pe, ae);
+        }
+
+    module _ (bounds : Box) (pieces l' : ℕ) (J : Judged o N R unit bounds pieces l') where
+      -- Where nothing refuses the drawing its pieces have room.
+      pub room-if : l' ≡ 0
+          → (4 * length (allPieces (kinds (N .station) (N .from) (N .to) (N .service)) (runsIn heldBy (N .from) (N .to) (N .service))) ≤ R .pieces)
+          × (length (allPieces (kinds (N .station) (N .from) (N .to) (N .service)) (runsIn heldBy (N .from) (N .to) (N .service))) ≤ R .branches)
+      unfolding late
+      room-if h =
+          subst (λ (ps : List Piece). (4 * length ps ≤ R .pieces) × (length ps ≤ R .branches)) (sym all-pieces) (room-of _ _ _ _ _ (sym (J .lateIs) ∙ h))
+
+      answer-is : (a : Answer) → a ≡ answerBy l' unit bounds pieces → a ≡ answerFor l' (drawing o N)
+      unfolding answerFor answerBy
+      answer-is a e = e ∙ by l' (J .boundsIs) (J .piecesIs)
+        where
+          by : (r : ℕ) → (r ≡ 0 → bounds ≡ drawing o N .bounds) → (r ≡ 0 → pieces ≡ length (drawing o N .pieces))
+              → answerBy r unit bounds pieces ≡ answerBy r (drawing o N .unit) (drawing o N .bounds) (length (drawing o N .pieces))
+          by zero b p = cc (J .unitIs, b refl, p refl)
+          by (suc r) b p = refl
+
+      pub drew : (L : Lists) (a : Answer) (p b x s : List Float) (r : List ℕ) (n : List Float) (e : List ℕ)
+          → p ≡ after l' (flat (λ t. pointNumbers (position t)) (barsIn (N .station) unit buses blocks frames)) (L .positions)
+          → b ≡ after l' (flat barNumbers (barsIn (N .station) unit buses blocks frames)) (L .bars)
+          → x ≡ after l' (flat boxNumbers (boxesIn k frames)) (L .boxes)
+          → s ≡ after l' (scalesIn k blocks) (L .scales)
+          → r ≡ after l' (map role (kinds (N .station) (N .from) (N .to) (N .service))) (L .roles)
+          → n ≡ after l' (flat pieceNumbers (allPieces (kinds (N .station) (N .from) (N .to) (N .service)) (runsIn heldBy (N .from) (N .to) (N .service)))) (L .pieces)
+          → e ≡ after l' (map branchOf (allPieces (kinds (N .station) (N .from) (N .to) (N .service)) (runsIn heldBy (N .from) (N .to) (N .service)))) (L .branches)
+          → a ≡ answerBy l' unit bounds pieces
+          → Drew o N (late (drawing o N) R) L a (lists p b x s r n e)
+      unfolding listsAfter listsOf
+      drew L a p b x s r n e pe be xe se re ne ee ae =
+          let m : l' ≡ late (drawing o N) R = J .lateIs in
+          record {
+            answerIs = answer-is a ae ∙ ap (λ (t : ℕ). answerFor t (drawing o N)) m;
+            listsAre =
+                lists-eq
+                (pe ∙ cc (m, C .bars))
+                (be ∙ cc (m, C .bars))
+                (xe ∙ cc (m, C .boxes))
+                (se ∙ cc (m, C .scales))
+                (re ∙ cc (m, roles-are))
+                (ne ∙ cc (m, all-pieces))
+                (ee ∙ cc (m, all-pieces));
+          }

@@ -3,7 +3,7 @@
 use Prim.Native.Nat.{ℕ, zero, suc, _+_, _*_, _<_}
 use mathlib.Core.Path.{_≡_, refl, sym, ap, _∙_}
 use mathlib.Core.Bool.{Bool}
-use mathlib.Core.List.{List, [], _∷_, map}
+use mathlib.Core.List.{List, [], _∷_, _++_, map}
 use lib.IntN.{ℤ}
 use lib.ListN.{length, getD}
 use lib.Ieee.{Float, nan}
@@ -20,7 +20,7 @@ use Rattle.network.specs.declared.words.Kind.{Kind}
 use Rattle.network.specs.declared.words.Kind.the-variants.{Undrawn, Open, Internal, Line}
 use Rattle.network.specs.Words.{stationOf, busCounts, kindOf, kinds, Safe, occupied}
 use Rattle.network.specs.Seed as Seed
-use Rattle.network.specs.Views.{columnsIn, fromRowsIn, toRowsIn, pointsIn, boxesIn}
+use Rattle.network.specs.Views.{countsIn, columnsIn, fromRowsIn, toRowsIn, pointsIn, boxesIn}
 use Rattle.network.proofs.Views.{getD-points, getD-boxes}
 use Rattle.network.proofs.Branches.{kind-safe}
 use Rattle.stations.specs.Column as Column
@@ -40,14 +40,17 @@ use Rattle.bars.specs.Bar.{Span, bare, barFor, blockAt, barAt, rowEnd}
 use Rattle.bars.specs.Span.{spanAt, spansIn}
 use Rattle.bars.specs.Exit.{exit}
 use Rattle.runs.specs.Run as Run
-use Rattle.runs.specs.Run.{Scene, slot, linePoints, runFor, runOf, allPieces, role}
-use Rattle.runs.specs.Views.{held, blockOf, barOf, slotOf, exitOf, openFrom, internalFrom, lineFrom, runFrom, runIn}
+use Rattle.runs.specs.Run.{Scene, slot, between, linePoints, runFor, runOf}
+use Rattle.detour.specs.Cells.{cellSize}
+use Rattle.detour.specs.Paths.{pathIn}
+use Rattle.runs.specs.Views.{Held, held, lead, blockOf, barOf, slotOf, exitOf, openFrom, internalFrom, ledIn, lineFrom, runFrom, wayOf, waysOf, runIn}
+use Rattle.routing.specs.Views as Routing
+use Rattle.routing.specs.Views.{grid, exitAt, lineBetween, lineIn, linesIn}
 use Rattle.pieces.specs.Pieces.{runsIn}
 use Rattle.results.specs.Bars.{barsIn}
-use Rattle.results.specs.Bounds.{boundsOf}
 use Rattle.plan.specs.Stages.{Interiors, Settled}
 use Rattle.layout.specs.Network.{Network}
-use Rattle.layout.specs.Drawing.{drawing}
+use Rattle.layout.specs.Drawing.{straightScene, ledScene, lineFor, lineOf, planned}
 use Rattle.layout.specs.Held.{Holds}
 
 map-table : {A B : Type 0} (g : A → B) (f : ℕ → A) (a n : ℕ) → map g (tableFrom f a n) ≡ tableFrom (λ i. g (f i)) a n
@@ -108,48 +111,96 @@ module _ (sub : List ℕ) (unit : Float) (buses : List ℕ) (blocks frames : Lis
     unfolding exit exitOf
     exit-held s t y g h = cc (getD-boxes k s frames noBox g, getD-points k s places origin g, getD-points k t places origin h)
 
-    -- the scene by its branches
+    -- the scene by its branches, its lines straight
     abbrev pub sceneBy : List ℤ → List ℤ → List ℕ → Scene
     sceneBy from to service =
-        record {
-          sub = sub;
-          kinds = kinds sub from to service;
-          fromRows = fromRowsIn (length from) ends;
-          toRows = toRowsIn (length from) ends;
-          blocks = blocksBy (framesIn unit k blocks);
-          boxes = boxesIn k frames;
-          places = pointsIn k places;
-          bars = barsBy;
-        }
+        straightScene
+        sub
+        (kinds sub from to service)
+        (fromRowsIn (length from) ends)
+        (toRowsIn (length from) ends)
+        (blocksBy (framesIn unit k blocks))
+        (boxesIn k frames)
+        (pointsIn k places)
+        barsBy
 
-    line-held : (s t : ℕ) (p q p' q' : Point) → s < k → t < k → p ≡ p' → q ≡ q'
-        → _≡_ {A = List Point}
-        (p ∷ exit (boxesIn k frames) (pointsIn k places) s t (p .y) ∷ exit (boxesIn k frames) (pointsIn k places) t s (q .y) ∷ q ∷ [])
-        (p' ∷ exitOf places frames s t (p' .y) ∷ exitOf places frames t s (q' .y) ∷ q' ∷ [])
-    line-held s t p q p' q' g h e f = cc (exit-held s t (p' .y) g h, exit-held t s (q' .y) h g)
+    line-cong : (p q p' q' : Point) (r r' : List Point) → p ≡ p' → q ≡ q' → r ≡ r'
+        → _≡_ {A = List Point} (p ∷ (r ++ (q ∷ []))) (p' ∷ (r' ++ (q' ∷ [])))
+    line-cong p q p' q' r r' e f g = cc
+
+    via-cong : (a b a' b' : Point) (via : List Point) → a ≡ a' → b ≡ b' → _≡_ {A = List Point} (a ∷ (via ++ (b ∷ []))) (a' ∷ (via ++ (b' ∷ [])))
+    via-cong a b a' b' via e f = cc
 
     module _ (from to : List ℤ) (service : List ℕ) where
-      run-held : (ra rb : ℕ) (K : Kind) → Safe sub K
-          → runFrom (held sub unit buses ends blocks places frames) ra rb K ≡ runFor (sceneBy from to service) ra rb K
-      unfolding Safe runFrom runFor slot linePoints openFrom internalFrom lineFrom
-      run-held ra rb Undrawn h = refl
-      run-held ra rb (Open a b) h = cc (bar-at a (h .0), bar-at b (h .1))
-      run-held ra rb (Internal a b) h = cc (slot-held a ra (h .0), slot-held b rb (h .1))
-      run-held ra rb (Line a b) h =
-          sym (line-held (stationOf sub a) (stationOf sub b) _ _ _ _ (below a (h .0)) (below b (h .1)) (slot-held a ra (h .0)) (slot-held b rb (h .1)))
+      -- what branches are to routing
+      way-held : (ra rb : ℕ) (K : Kind) → Safe sub K
+          → Routing.lineFor (grid sub from to service unit ends blocks places frames) ra rb K ≡ lineFor (sceneBy from to service) ra rb K
+      unfolding Safe Routing.lineFor lineFor lineBetween exitAt straightScene slot slotOf
+      way-held ra rb Undrawn h = refl
+      way-held ra rb (Open a b) h = refl
+      way-held ra rb (Internal a b) h = refl
+      way-held ra rb (Line a b) h =
+          cc (
+            exit-held (stationOf sub a) (stationOf sub b) (slotOf unit buses blocks frames (stationOf sub a) a ra .y) (below a (h .0)) (below b (h .1)),
+            exit-held (stationOf sub b) (stationOf sub a) (slotOf unit buses blocks frames (stationOf sub b) b rb .y) (below b (h .1)) (below a (h .0)),
+            slot-held a ra (h .0),
+            slot-held b rb (h .1),
+          )
 
-      run-at : (e : ℕ) → e < length from
-          → runIn (held sub unit buses ends blocks places frames) e (kindOf sub from to service e) ≡ runOf (sceneBy from to service) e
-      unfolding runIn runOf kinds
-      run-at e h =
-          run-held (getD ends (4 * e) 0) (getD ends (4 * e + 1) 0) (kindOf sub from to service e) (kind-safe sub from to service e)
+      way-at : (e : ℕ) → e < length from → lineIn (grid sub from to service unit ends blocks places frames) e ≡ lineOf (sceneBy from to service) e
+      unfolding lineIn lineOf kinds straightScene
+      way-at e h =
+          way-held (getD ends (4 * e) 0) (getD ends (4 * e + 1) 0) (kindOf sub from to service e) (kind-safe sub from to service e)
           ∙ cc (getD-first 4 0 (length from) e ends 0 h, getD-strided 4 1 0 (length from) e ends 0 h, getD-table (kindOf sub from to service) (length from) e Undrawn h)
 
-      pub runs-held : runsIn (held sub unit buses ends blocks places frames) from to service ≡ Run.runs (sceneBy from to service)
-      unfolding runsIn Run.runs kinds
-      runs-held =
-          table-ext _ _ (length from) run-at
-          ∙ ap (λ (n : ℕ). table (runOf (sceneBy from to service)) n) (sym (length-table (kindOf sub from to service) (length from)))
+      pub lines-held : linesIn (grid sub from to service unit ends blocks places frames) ≡ table (lineOf (sceneBy from to service)) (length (kinds sub from to service))
+      unfolding linesIn kinds
+      lines-held =
+          table-ext _ _ (length from) way-at
+          ∙ ap (λ (n : ℕ). table (lineOf (sceneBy from to service)) n) (sym (length-table (kindOf sub from to service) (length from)))
+
+      -- ---- runs over waypoints that a list holds
+
+      module _ (led : Bool) (cell gap : Float) (stations : List ℕ) (ways : List Float) (occ : List ℕ) (W : List (List Point))
+          (oc : occ ≡ occupied (countsIn k stations)) (ce : cell ≡ cellSize (boxesIn k frames) (occupied (countsIn k stations))) where
+        abbrev heldBy : Held
+        heldBy = held sub unit buses ends blocks places frames (lead led cell gap k stations ways)
+
+        abbrev ledBy : Scene
+        ledBy = ledScene (sceneBy from to service) led occ gap W
+
+        led-held : (s t : ℕ) (path : List Point) → ledIn led cell gap k stations frames s t path ≡ between ledBy s t path
+        unfolding ledIn between ledScene straightScene
+        led-held s t path = cc
+
+        run-held : (ra rb w n : ℕ) (K : Kind) → Safe sub K → runFrom heldBy ra rb w n K ≡ runFor ledBy ra rb (pathIn w n ways) K
+        unfolding Safe runFrom runFor slot linePoints openFrom internalFrom lineFrom ledScene straightScene
+        run-held ra rb w n Undrawn h = refl
+        run-held ra rb w n (Open a b) h = cc (bar-at a (h .0), bar-at b (h .1))
+        run-held ra rb w n (Internal a b) h = cc (slot-held a ra (h .0), slot-held b rb (h .1))
+        run-held ra rb w n (Line a b) h =
+            let s = stationOf sub a in
+            let t = stationOf sub b in
+            let p = slotOf unit buses blocks frames s a ra in
+            let q = slotOf unit buses blocks frames t b rb in
+            let pe = sym (slot-held a ra (h .0)) in
+            let qe = sym (slot-held b rb (h .1)) in
+            let x = sym (exit-held s t (p .y) (below a (h .0)) (below b (h .1))) ∙ ap (λ (z : Point). exit (boxesIn k frames) (pointsIn k places) s t (z .y)) pe in
+            let y = sym (exit-held t s (q .y) (below b (h .1)) (below a (h .0))) ∙ ap (λ (z : Point). exit (boxesIn k frames) (pointsIn k places) t s (z .y)) qe in
+            line-cong _ _ _ _ _ _ pe qe (led-held s t _ ∙ ap (between ledBy s t) (via-cong _ _ _ _ (pathIn w n ways) x y))
+
+        run-at : ((e : ℕ) → e < length from → pathIn (wayOf ends e) (waysOf ends e) ways ≡ getD W e [])
+            → (e : ℕ) → e < length from → runIn heldBy e (kindOf sub from to service e) ≡ runOf ledBy e
+        unfolding runIn runOf kinds ledScene straightScene
+        run-at v e h =
+            run-held (getD ends (4 * e) 0) (getD ends (4 * e + 1) 0) (wayOf ends e) (waysOf ends e) (kindOf sub from to service e) (kind-safe sub from to service e)
+            ∙ cc (v e h, getD-first 4 0 (length from) e ends 0 h, getD-strided 4 1 0 (length from) e ends 0 h, getD-table (kindOf sub from to service) (length from) e Undrawn h)
+
+        pub runs-held : ((e : ℕ) → e < length from → pathIn (wayOf ends e) (waysOf ends e) ways ≡ getD W e []) → runsIn heldBy from to service ≡ Run.runs ledBy
+        unfolding runsIn Run.runs kinds ledScene straightScene
+        runs-held v =
+            table-ext _ _ (length from) (run-at v)
+            ∙ ap (λ (n : ℕ). table (runOf ledBy) n) (sym (length-table (kindOf sub from to service) (length from)))
 
 -- ---- the whole drawing
 
@@ -163,12 +214,9 @@ bars-cong : (sub c c' : List ℕ) (s s' : List Span) (f f' : List Float) (b b' :
     → Bars.bars sub c s f b ≡ Bars.bars sub c' s' f' b'
 bars-cong sub c c' s s' f f' b b' p q r t = cc
 
-abbrev sceneOf : List ℕ → List Kind → List ℕ → List ℕ → List Float → List Box → List Point → List Bar → Scene
-sceneOf a b c d e f g h = record { sub = a; kinds = b; fromRows = c; toRows = d; blocks = e; boxes = f; places = g; bars = h }
-
-runs-cong : (sub : List ℕ) (ks : List Kind) (a a' b b' : List ℕ) (f f' : List Float) (x x' : List Box) (p p' : List Point) (r r' : List Bar)
-    → a ≡ a' → b ≡ b' → f ≡ f' → x ≡ x' → p ≡ p' → r ≡ r' → Run.runs (sceneOf sub ks a b f x p r) ≡ Run.runs (sceneOf sub ks a' b' f' x' p' r')
-runs-cong sub ks a a' b b' f f' x x' p p' r r' h i j l m n = cc
+scene-cong : (sub : List ℕ) (ks : List Kind) (a a' b b' : List ℕ) (f f' : List Float) (x x' : List Box) (p p' : List Point) (r r' : List Bar)
+    → a ≡ a' → b ≡ b' → f ≡ f' → x ≡ x' → p ≡ p' → r ≡ r' → straightScene sub ks a b f x p r ≡ straightScene sub ks a' b' f' x' p' r'
+scene-cong sub ks a a' b b' f f' x x' p p' r r' h i j l m n = cc
 
 module _ (o : Options) (N : Network) (k : ℕ) (unit : Float) (search : ℕ) (buses ends : List ℕ) (blocks places frames : List Float) where
   pub drawing-held : ((i : ℕ) → i < length (N .station) → stationOf (N .station) i < k)
@@ -190,19 +238,15 @@ module _ (o : Options) (N : Network) (k : ℕ) (unit : Float) (search : ℕ) (bu
       ≡ Place.places (framesIn unit k blocks) (offsets search) (Seed.seeds (N .station) (N .xy)) (Place.placementOrder (N .station) (N .kv) (busCounts (N .station)))
       → boxesIn k frames ≡ Place.boxes (framesIn unit k blocks) (busCounts (N .station)) (pointsIn k places)
       → Holds o N k unit buses ends blocks places frames
-  unfolding drawing
+  unfolding planned
   drawing-held below cl sp fr tw sz sc un se pl bx =
       record {
         counts = refl;
-        seeds = refl;
         unitIs = un;
         scales = sc;
         boxes = boxes;
         bars = bars;
-        runs = runs;
-        pieces = ap (allPieces ks) runs;
-        roles = refl;
-        bounds = ap (λ (z : List Box). boundsOf z (occupied counts)) boxes;
+        scene = scene-cong sub ks _ _ _ _ _ _ _ _ _ _ _ _ fr tw (ap blocksBy at) boxes placed bars;
       }
     where
       sub : List ℕ
@@ -249,12 +293,6 @@ module _ (o : Options) (N : Network) (k : ℕ) (unit : Float) (search : ℕ) (bu
 
       bars : barsIn sub unit buses blocks frames ≡ Bars.bars sub columns spans (blocksBy fs) (Place.boxes fs counts ps)
       bars = bars-held sub unit buses blocks frames k below ∙ by-parts
-
-      runs : runsIn (held sub unit buses ends blocks places frames) (N .from) (N .to) (N .service)
-          ≡ Run.runs (sceneOf sub ks (Row.fromRows sub seeds ks) (Row.toRows sub seeds ks) (blocksBy fs) (Place.boxes fs counts ps) ps
-          (Bars.bars sub columns spans (blocksBy fs) (Place.boxes fs counts ps)))
-      runs = runs-held sub unit buses blocks frames k below ends places (N .from) (N .to) (N .service)
-          ∙ runs-cong sub ks _ _ _ _ _ _ _ _ _ _ _ _ fr tw (ap blocksBy at) boxes placed by-parts
 
 -- the same, from what the stages leave: the rows of buses are found beside the columns, once the rows of branches are known
 pub settled-held : (o : Options) (N : Network) (k : ℕ) (unit : Float) (finite : Bool) (search : ℕ) (stations₁ stations buses₁ buses ends : List ℕ)

@@ -1,4 +1,4 @@
--- Answers of a call without iterations: what layout returns, and what each lent list holds after it. Definitions only.
+-- Answers of a call: what layout returns, and what each lent list holds after it. Definitions only.
 use Prim.Native.Nat.{ℕ, zero, suc, _+_, _*_, _/_, min}
 use mathlib.Core.Bool.{Bool, true, false, not, _&&_, _||_}
 use mathlib.Core.List.{List, [], _∷_, _++_, map}
@@ -21,6 +21,7 @@ use Rattle.layout.specs.declared.answer.Plot.{Plot}
 use Rattle.layout.specs.declared.answer.Answer.{Answer}
 use Rattle.layout.specs.declared.answer.Answer.the-variants.{Drawn, Refused}
 use Rattle.layout.specs.Network.{Network, Lists, lists, Work, work, Crossings, crossings}
+use Rattle.routes.specs.Routes.{routeRefusal}
 use Rattle.runs.specs.Run.{Piece}
 use Rattle.runs.specs.Finite.{allOf, finitePoint, finiteBox, finiteBar}
 use Rattle.runs.specs.Lists.{flat, pointNumbers, boxNumbers, barNumbers, pieceNumbers, after}
@@ -32,8 +33,8 @@ numberOf (Drawn p) = 0
 numberOf (Refused r) = r
 
 -- the lengths of the lent lists
-abbrev pub roomOf : Lists → Work → Room
-roomOf L W =
+abbrev pub roomOf : Lists → Work → Crossings → Room
+roomOf L W X =
     record {
       positions = length (L .positions);
       bars = length (L .bars);
@@ -45,7 +46,6 @@ roomOf L W =
       stations = length (W .stations);
       buses = length (W .buses);
       ends = length (W .ends);
-      edges = length (W .edges);
       sorted = length (W .sorted);
       spare = length (W .spare);
       keys = length (W .keys);
@@ -53,6 +53,9 @@ roomOf L W =
       blocks = length (W .blocks);
       frames = length (W .frames);
       path = length (W .path);
+      numbers = length (X .numbers);
+      crossings = length (X .places);
+      ways = length (X .ways);
     }
 
 -- The mesh length is that of the corner list, counted as at most 24,576.
@@ -65,14 +68,14 @@ shortResults n m k R =
     ltb (R .positions) (2 * n) || (ltb (R .bars) (4 * n) || (ltb (R .boxes) (4 * k) || (ltb (R .scales) k || ltb (R .roles) m)))
 
 -- the length of the three lists that sorts use
-abbrev pub sorting : ℕ → ℕ → ℕ
-sorting n m = n + 2 * m + 1681
+abbrev pub sorting : ℕ → ℕ → ℕ → ℕ
+sorting n m mesh = n + 2 * m + mesh + 1681
 
 unfoldable pub shortWork : ℕ → ℕ → ℕ → Room → Bool
 shortWork n m mesh R =
-    ltb (R .stations) (2 * n) || (ltb (R .buses) (3 * n) || (ltb (R .ends) (4 * m) || (ltb (R .edges) (4 * mesh + 4)
-    || (ltb (R .sorted) (sorting n m) || (ltb (R .spare) (sorting n m) || (ltb (R .keys) (sorting n m)
-    || (ltb (R .places) (2 * n) || (ltb (R .blocks) (3 * n) || (ltb (R .frames) (4 * n) || ltb (R .path) (2 * n + 2 * mesh + 12))))))))))
+    ltb (R .stations) (2 * n) || (ltb (R .buses) (3 * n) || (ltb (R .ends) (4 * m + 4 * mesh + 4)
+    || (ltb (R .sorted) (sorting n m mesh) || (ltb (R .spare) (sorting n m mesh) || (ltb (R .keys) (sorting n m mesh)
+    || (ltb (R .places) (2 * n) || (ltb (R .blocks) (3 * n) || (ltb (R .frames) (4 * n) || ltb (R .path) (2 * n + 2 * mesh + 16)))))))))
 
 -- r, or where it is 0 what comes after it
 abbrev pub orLater : ℕ → ℕ → ℕ
@@ -92,20 +95,33 @@ early O N R =
 unfoldable pub pieceRoom : ℕ → ℕ → ℕ
 pieceRoom numbers names = min (numbers / 4) names
 
--- 12: a seed, the unit, a box corner, bar end or route point isn't finite
+-- 10: crossings, those of cleared paths included, outnumber the lent crossing list, which holds as many as each of its six lists
+unfoldable pub crossingRoom : Room → ℕ
+crossingRoom R =
+    min (R .numbers / 3) (min (R .crossings) (min (R .ways / 2) (min (R .sorted) (min (R .spare) (R .keys)))))
+
+-- 12: a seed, the unit, a box corner, bar end, crossing place or route point isn't finite
 unfoldable pub allFinite : Drawing → Bool
 allFinite d =
     allOf finitePoint (d .seeds) && (isFinite (d .unit) && (allOf finiteBox (d .boxes) && (allOf finiteBar (d .bars)
-    && allOf (allOf finitePoint) (d .runs))))
+    && (allOf isFinite (d .crossings) && allOf (allOf finitePoint) (d .runs)))))
 
--- 8, 11 and 12, by whether sizes are ill, the pieces, the lengths of the lent piece lists, and whether all is finite
-unfoldable pub lateBy : Bool → ℕ → ℕ → ℕ → Bool → ℕ
-lateBy ill pieces numbers names finite =
-    refuse ill 8 (refuse (ltb (pieceRoom numbers names) pieces) 11 (refuse (not finite) 12 0))
+-- 8, 9 and 10: by whether sizes are ill, the mesh fits, the crossings and how many the crossing list holds
+unfoldable pub routedBy : Bool → Bool → ℕ → ℕ → ℕ
+routedBy ill fits crossings room = refuse ill 8 (routeRefusal fits crossings room)
+
+-- 11 and 12, where none of these applies: by the pieces, the lengths of the lent piece lists, and whether all is finite
+unfoldable pub lateBy : ℕ → ℕ → ℕ → ℕ → Bool → ℕ
+lateBy earlier pieces numbers names finite =
+    orLater earlier (refuse (ltb (pieceRoom numbers names) pieces) 11 (refuse (not finite) 12 0))
 
 unfoldable pub late : Drawing → Room → ℕ
 late d R =
-    lateBy (illSized (d .boxes) (occupied (d .counts))) (length (d .pieces)) (R .pieces) (R .branches) (allFinite d)
+    lateBy (routedBy (illSized (d .boxes) (occupied (d .counts))) (d .meshFits) (length (d .crossings)) (crossingRoom R))
+    (length (d .pieces))
+    (R .pieces)
+    (R .branches)
+    (allFinite d)
 
 -- the drawing as lists of numbers
 unfoldable pub listsOf : Drawing → Lists
@@ -144,7 +160,6 @@ clearedWork W =
     (noughts (W .stations))
     (noughts (W .buses))
     (noughts (W .ends))
-    (noughts (W .edges))
     (noughts (W .sorted))
     (noughts (W .spare))
     (noughts (W .keys))
@@ -155,7 +170,7 @@ clearedWork W =
 
 unfoldable pub clearedCrossings : Crossings → Crossings
 clearedCrossings X =
-    crossings (noughts (X .numbers)) (zeros (X .places)) (zeros (X .wishes)) (noughts (X .keys)) (noughts (X .order)) (noughts (X .spare))
+    crossings (noughts (X .numbers)) (zeros (X .places)) (zeros (X .ways))
 
 -- ---- the whole of a call: its answer, and the lists after it
 
@@ -182,9 +197,9 @@ callLate r d L W X = call (answerFor r d) (listsAfter r (listsOf d) L) (clearedW
 
 -- by the early refusal: 1 to 7 leave every list unchanged
 unfoldable pub callEarly : ℕ → Options → Network → Lists → Work → Crossings → Call
-callEarly zero O N L W X = let d = drawing O N in callLate (late d (roomOf L W)) d L W X
+callEarly zero O N L W X = let d = drawing O N in callLate (late d (roomOf L W X)) d L W X
 callEarly (suc r) O N L W X = call (Refused (suc r)) L W X
 
 -- Layout returns the lowest number that applies.
 unfoldable pub layoutOf : Options → Network → Lists → Work → Crossings → Call
-layoutOf O N L W X = callEarly (early O N (roomOf L W)) O N L W X
+layoutOf O N L W X = callEarly (early O N (roomOf L W X)) O N L W X

@@ -1,31 +1,58 @@
--- A drawing laid out in the work lists, and what is judged of it. Definitions only.
-use Prim.Native.Nat.{ℕ}
+-- A drawing charted in the work lists, and what is judged of it. Definitions only.
+use Prim.Native.Nat.{ℕ, _<_}
 use mathlib.Core.Path.{_≡_}
-use mathlib.Core.Bool.{Bool}
+use mathlib.Core.Bool.{Bool, _&&_}
 use mathlib.Core.List.{List}
+use lib.Dec.{ltb}
 use lib.ListN.{length}
 use lib.Ieee.{Float}
+use Rattle.float.specs.Small.{isFinite}
 use Rattle.geometry.specs.declared.Box.{Box}
 use Rattle.network.specs.declared.options.Options.{Options}
-use Rattle.network.specs.Words.{busCounts, occupied}
-use Rattle.network.specs.Views.{countsIn}
+use Rattle.network.specs.Words.{occupied}
+use Rattle.network.specs.Views.{countsIn, boxesIn}
+use Rattle.units.specs.Views.{scalesIn}
 use Rattle.placement.specs.Modest.{illSized}
+use Rattle.detour.specs.Cells.{cellSize}
 use Rattle.runs.specs.Finite.{allOf, finitePoint}
-use Rattle.layout.specs.Network.{Network}
+use Rattle.runs.specs.Views.{wayOf, held, lead, Fits}
+use Rattle.runs.specs.Views as Views
+use Rattle.pieces.specs.Pieces.{runsIn}
+use Rattle.results.specs.Bars.{barsIn}
+use Rattle.routing.specs.Views.{gapOf}
+use Rattle.layout.specs.declared.answer.Answer.{Answer}
+use Rattle.layout.specs.declared.room.Room.{Room}
+use Rattle.layout.specs.Network.{Network, Lists}
 use Rattle.layout.specs.Drawing.{drawing}
-use Rattle.layout.specs.Answer.{lateBy, allFinite}
-use Rattle.layout.specs.Held.{Holds}
+use Rattle.layout.specs.Answer.{routedBy, late, allFinite, answerFor, listsOf, listsAfter}
 
--- The lists hold the drawing, and the stations' bus counts; `finite` says whether all seeds are finite.
-pub record Laid (o : Options) (N : Network) (k : ℕ) (unit : Float) (finite : Bool) (stations buses ends : List ℕ) (blocks places frames : List Float) : Type 0 where
-  pub holds : Holds o N k unit buses ends blocks places frames
-  pub counts : countsIn k stations ≡ busCounts (N .station)
-  pub finiteIs : finite ≡ allOf finitePoint (drawing o N .seeds)
+-- The late refusal of a drawing up to its routes: 8, 9 or 10, where the crossing list holds so many.
+unfoldable pub routedLate : Options → Network → ℕ → ℕ
+routedLate o N room =
+    routedBy (illSized (drawing o N .boxes) (occupied (drawing o N .counts))) (drawing o N .meshFits) (length (drawing o N .crossings)) room
 
--- The drawing's unit, bounds and number of pieces, and its late refusal where the piece lists have these lengths.
-pub record Judged (o : Options) (N : Network) (numbers names : ℕ) (unit : Float) (bounds : Box) (pieces late : ℕ) : Type 0 where
+-- The lists hold the drawing with its routes, where nothing is refused so far. `finite` says whether all seeds and crossing places are finite.
+pub record Charted (o : Options) (N : Network) (k room : ℕ) (unit : Float) (finite : Bool) (late : ℕ) (stations buses ends : List ℕ) (blocks places frames path ways : List Float) : Type 0 where
   pub unitIs : unit ≡ drawing o N .unit
-  pub boundsIs : bounds ≡ drawing o N .bounds
-  pub piecesIs : pieces ≡ length (drawing o N .pieces)
-  pub lateIs :
-      late ≡ lateBy (illSized (drawing o N .boxes) (occupied (drawing o N .counts))) (length (drawing o N .pieces)) numbers names (allFinite (drawing o N))
+  pub counts : countsIn k stations ≡ drawing o N .counts
+  pub scales : scalesIn k blocks ≡ drawing o N .scales
+  pub boxes : boxesIn k frames ≡ drawing o N .boxes
+  pub bars : barsIn (N .station) unit buses blocks frames ≡ drawing o N .bars
+  pub lateIs : late ≡ routedLate o N room
+  pub finiteIs : late ≡ 0 → finite ≡ (allOf finitePoint (drawing o N .seeds) && allOf isFinite (drawing o N .crossings))
+  pub runs : late ≡ 0 → (cell : Float) → cell ≡ cellSize (boxesIn k frames) (occupied (countsIn k stations))
+      → runsIn (held (N .station) unit buses ends blocks places frames (lead (ltb 0 (o .«route_iterations»)) cell (gapOf unit) k stations ways)) (N .from) (N .to) (N .service)
+      ≡ drawing o N .runs
+  pub fits : late ≡ 0 → (e : ℕ) → e < length (N .from) → Fits ends path e
+
+-- The drawing's unit, its late refusal with lists of these lengths, and where nothing refuses it its bounds and number of pieces.
+pub record Judged (o : Options) (N : Network) (R : Room) (unit : Float) (bounds : Box) (pieces l : ℕ) : Type 0 where
+  pub unitIs : unit ≡ drawing o N .unit
+  pub boundsIs : l ≡ 0 → bounds ≡ drawing o N .bounds
+  pub piecesIs : l ≡ 0 → pieces ≡ length (drawing o N .pieces)
+  pub lateIs : l ≡ late (drawing o N) R
+
+-- The answer of a call whose input has passed, and its result lists, by its late refusal.
+pub record Drew (o : Options) (N : Network) (l : ℕ) (L : Lists) (a : Answer) (L' : Lists) : Type 0 where
+  pub answerIs : a ≡ answerFor l (drawing o N)
+  pub listsAre : L' ≡ listsAfter l (listsOf (drawing o N)) L

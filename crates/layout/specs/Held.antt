@@ -1,33 +1,42 @@
--- What the lent work lists hold of a drawing once its stages are done. Definitions only.
+-- What the lent work lists hold of a drawing once its boxes stand. Definitions only.
 use Prim.Native.Nat.{ℕ}
 use mathlib.Core.Path.{_≡_}
+use mathlib.Core.Bool.{Bool}
 use mathlib.Core.List.{List, map}
+use lib.ListN.{length}
 use lib.Ieee.{Float}
 use Rattle.network.specs.declared.options.Options.{Options}
-use Rattle.network.specs.Words.{busCounts, kinds, occupied}
-use Rattle.network.specs.Seed as Seed
-use Rattle.network.specs.Views.{boxesIn}
+use Rattle.network.specs.Words.{busCounts, kinds}
+use Rattle.network.specs.Views.{countsIn, fromRowsIn, toRowsIn, pointsIn, boxesIn}
 use Rattle.units.specs.Views.{scalesIn}
-use Rattle.runs.specs.Run.{allPieces, role}
-use Rattle.runs.specs.Views.{held}
-use Rattle.pieces.specs.Pieces.{runsIn}
+use Rattle.placement.specs.Place.{Frame}
+use Rattle.placement.specs.Views.{framesIn}
+use Rattle.runs.specs.Finite.{allOf, finitePoint}
 use Rattle.results.specs.Bars.{barsIn}
-use Rattle.results.specs.Bounds.{boundsOf}
 use Rattle.layout.specs.Network.{Network}
-use Rattle.layout.specs.Drawing.{drawing}
+use Rattle.layout.specs.Drawing.{planned, straightScene}
 
--- Every part of the drawing is what its results are written from.
+-- Every part of the plan is what results are written from: the unit, sizes and boxes, and the scene that runs are drawn from.
 pub record Holds (o : Options) (N : Network) (k : ℕ) (unit : Float) (buses ends : List ℕ) (blocks places frames : List Float) : Type 0 where
-  pub counts : busCounts (N .station) ≡ drawing o N .counts
-  pub seeds : Seed.seeds (N .station) (N .xy) ≡ drawing o N .seeds
-  pub unitIs : unit ≡ drawing o N .unit
-  pub scales : scalesIn k blocks ≡ drawing o N .scales
-  pub boxes : boxesIn k frames ≡ drawing o N .boxes
-  pub bars : barsIn (N .station) unit buses blocks frames ≡ drawing o N .bars
-  pub runs : runsIn (held (N .station) unit buses ends blocks places frames) (N .from) (N .to) (N .service) ≡ drawing o N .runs
-  pub pieces :
-      allPieces (kinds (N .station) (N .from) (N .to) (N .service))
-      (runsIn (held (N .station) unit buses ends blocks places frames) (N .from) (N .to) (N .service))
-      ≡ drawing o N .pieces
-  pub roles : map role (kinds (N .station) (N .from) (N .to) (N .service)) ≡ drawing o N .roles
-  pub bounds : boundsOf (boxesIn k frames) (occupied (busCounts (N .station))) ≡ drawing o N .bounds
+  pub counts : busCounts (N .station) ≡ planned o N .counts
+  pub unitIs : unit ≡ planned o N .unit
+  pub scales : scalesIn k blocks ≡ planned o N .scales
+  pub boxes : boxesIn k frames ≡ planned o N .boxes
+  pub bars : barsIn (N .station) unit buses blocks frames ≡ planned o N .bars
+  pub scene :
+      straightScene
+      (N .station)
+      (kinds (N .station) (N .from) (N .to) (N .service))
+      (fromRowsIn (length (N .from)) ends)
+      (toRowsIn (length (N .from)) ends)
+      (map (λ (r : Frame). r .f) (framesIn unit k blocks))
+      (boxesIn k frames)
+      (pointsIn k places)
+      (barsIn (N .station) unit buses blocks frames)
+      ≡ planned o N .scene
+
+-- The same with the stations' bus counts; `finite` says whether all seeds are finite.
+pub record Laid (o : Options) (N : Network) (k : ℕ) (unit : Float) (finite : Bool) (stations buses ends : List ℕ) (blocks places frames : List Float) : Type 0 where
+  pub holds : Holds o N k unit buses ends blocks places frames
+  pub counts : countsIn k stations ≡ busCounts (N .station)
+  pub finiteIs : finite ≡ allOf finitePoint (planned o N .seeds)

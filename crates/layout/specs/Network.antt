@@ -36,7 +36,6 @@ pub record Work : Type 0 where
   pub stations : List ℕ
   pub buses : List ℕ
   pub ends : List ℕ
-  pub edges : List ℕ
   pub sorted : List ℕ
   pub spare : List ℕ
   pub keys : List ℕ
@@ -45,30 +44,26 @@ pub record Work : Type 0 where
   pub frames : List Float
   pub path : List Float
 
-abbrev pub work : List ℕ → List ℕ → List ℕ → List ℕ → List ℕ → List ℕ → List ℕ → List Float → List Float → List Float → List Float → Work
-work a b c d e f g h i j k =
+abbrev pub work : List ℕ → List ℕ → List ℕ → List ℕ → List ℕ → List ℕ → List Float → List Float → List Float → List Float → Work
+work a b c d e f g h i j =
     record {
       stations = a;
       buses = b;
       ends = c;
-      edges = d;
-      sorted = e;
-      spare = f;
-      keys = g;
-      places = h;
-      blocks = i;
-      frames = j;
-      path = k;
+      sorted = d;
+      spare = e;
+      keys = f;
+      places = g;
+      blocks = h;
+      frames = i;
+      path = j;
     }
 
--- the crossing list, held in six lists side by side: three numbers, its place, a wish, a key, and two places to sort by for each crossing
+-- The crossing list is these and the three lists that sort: for each crossing three numbers, its place, and the two numbers of its point.
 pub record Crossings : Type 0 where
   pub numbers : List ℕ
   pub places : List Float
-  pub wishes : List Float
-  pub keys : List ℕ
-  pub order : List ℕ
-  pub spare : List ℕ
+  pub ways : List Float
 
-abbrev pub crossings : List ℕ → List Float → List Float → List ℕ → List ℕ → List ℕ → Crossings
-crossings a b c d e f = record { numbers = a; places = b; wishes = c; keys = d; order = e; spare = f }
+abbrev pub crossings : List ℕ → List Float → List Float → Crossings
+crossings a b c = record { numbers = a; places = b; ways = c }

@@ -11,7 +11,6 @@ pub fn clear_work(
     stations: &mut [u32],
     buses: &mut [u32],
     ends: &mut [u32],
-    edges: &mut [u32],
     sorted: &mut [u32],
     spare: &mut [u32],
     keys: &mut [u64],
@@ -20,13 +19,12 @@ pub fn clear_work(
     frames: &mut [f64],
     path: &mut [f64],
 )
-    ensures { λ _. ⌜ work (now (stations .exit)) (now (buses .exit)) (now (ends .exit)) (now (edges .exit)) (now (sorted .exit)) (now (spare .exit)) (now (keys .exit)) (now (places .exit)) (now (blocks .exit)) (now (frames .exit)) (now (path .exit))
-        ≡ clearedWork (work (now (stations .entry)) (now (buses .entry)) (now (ends .entry)) (now (edges .entry)) (now (sorted .entry)) (now (spare .entry)) (now (keys .entry)) (now (places .entry)) (now (blocks .entry)) (now (frames .entry)) (now (path .entry))) ⌝ }
+    ensures { λ _. ⌜ work (now (stations .exit)) (now (buses .exit)) (now (ends .exit)) (now (sorted .exit)) (now (spare .exit)) (now (keys .exit)) (now (places .exit)) (now (blocks .exit)) (now (frames .exit)) (now (path .exit))
+        ≡ clearedWork (work (now (stations .entry)) (now (buses .entry)) (now (ends .entry)) (now (sorted .entry)) (now (spare .entry)) (now (keys .entry)) (now (places .entry)) (now (blocks .entry)) (now (frames .entry)) (now (path .entry))) ⌝ }
 {
     zero_u32(stations);
     zero_u32(buses);
     zero_u32(ends);
-    zero_u32(edges);
     zero_u32(sorted);
     zero_u32(spare);
     zero_u64(keys);
@@ -37,21 +35,11 @@ pub fn clear_work(
 }
 
 // So do the crossing lists.
-pub fn clear_crossings(
-    numbers: &mut [u32],
-    places: &mut [f64],
-    wishes: &mut [f64],
-    keys: &mut [u64],
-    order: &mut [u32],
-    spare: &mut [u32],
-)
-    ensures { λ _. ⌜ crossings (now (numbers .exit)) (now (places .exit)) (now (wishes .exit)) (now (keys .exit)) (now (order .exit)) (now (spare .exit))
-        ≡ clearedCrossings (crossings (now (numbers .entry)) (now (places .entry)) (now (wishes .entry)) (now (keys .entry)) (now (order .entry)) (now (spare .entry))) ⌝ }
+pub fn clear_crossings(numbers: &mut [u32], places: &mut [f64], ways: &mut [f64])
+    ensures { λ _. ⌜ crossings (now (numbers .exit)) (now (places .exit)) (now (ways .exit))
+        ≡ clearedCrossings (crossings (now (numbers .entry)) (now (places .entry)) (now (ways .entry))) ⌝ }
 {
     zero_u32(numbers);
     zero_f(places);
-    zero_f(wishes);
-    zero_u64(keys);
-    zero_u32(order);
-    zero_u32(spare);
+    zero_f(ways);
 }

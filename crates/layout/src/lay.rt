@@ -5,7 +5,7 @@ ghost use lib.ListN.{length};
 ghost use Rattle.network.specs.Options.{searchOf};
 ghost use Rattle.network.specs.Words.{stationCount};
 ghost use Rattle.layout.specs.Network.{network};
-ghost use Rattle.layout.specs.Draft.{Laid};
+ghost use Rattle.layout.specs.Held.{Laid};
 use bars::span::spans;
 use network::options::Options;
 use network::options::search_of;

@@ -35,17 +35,14 @@ fn short_work(n: usize, m: usize, mesh: usize, room: Room) -> bool
     requires { ⌜ (n ≤ 4096) × (m ≤ 8192) × (mesh ≤ 24576) ⌝ }
     ensures { λ r. ⌜ r ≡ shortWork n m mesh room ⌝ }
 {
-    let sorting = n + 2 * m + 1681;
+    let sorting = n + 2 * m + mesh + 1681;
     if room.stations < 2 * n {
         return true;
     }
     if room.buses < 3 * n {
         return true;
     }
-    if room.ends < 4 * m {
-        return true;
-    }
-    if room.edges < 4 * mesh + 4 {
+    if room.ends < 4 * m + 4 * mesh + 4 {
         return true;
     }
     if room.sorted < sorting {
@@ -66,7 +63,7 @@ fn short_work(n: usize, m: usize, mesh: usize, room: Room) -> bool
     if room.frames < 4 * n {
         return true;
     }
-    room.path < 2 * n + 2 * mesh + 12
+    room.path < 2 * n + 2 * mesh + 16
 }
 
 // The mesh length, counted as at most 24,576.

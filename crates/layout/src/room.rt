@@ -10,7 +10,6 @@ pub struct Room {
     pub stations: usize,
     pub buses: usize,
     pub ends: usize,
-    pub edges: usize,
     pub sorted: usize,
     pub spare: usize,
     pub keys: usize,
@@ -18,4 +17,7 @@ pub struct Room {
     pub blocks: usize,
     pub frames: usize,
     pub path: usize,
+    pub numbers: usize,
+    pub crossings: usize,
+    pub ways: usize,
 }

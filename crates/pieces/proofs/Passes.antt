@@ -4,7 +4,7 @@ use mathlib.Core.Path.{_≡_, refl, sym, ap, _∙_}
 use mathlib.Core.Logic.{_≢_}
 use mathlib.Core.Bool.{Bool, true, false, not, _&&_}
 use mathlib.Core.List.{List, [], _++_, map}
-use Prim.Native.Nat.{ℕ, zero, suc, _+_, _*_, _-_, _≤_, _<_}
+use Prim.Native.Nat.{ℕ, zero, suc, _+_, _*_, _^_, _-_, _≤_, _<_}
 use native.Mathlib.Omega.{arith}
 use native.Mathlib.Numerals.{add-one}
 use lib.IntN.{ℤ}
@@ -21,18 +21,11 @@ use Rattle.network.specs.Views.{pointsIn}
 use Rattle.runs.specs.Run.{Piece, pieces, isLine, allPieces}
 use Rattle.runs.specs.Finite.{allOf, finitePoint}
 use Rattle.runs.specs.Lists.{flat, pieceNumbers, over, after}
-use Rattle.runs.specs.Views.{Held, openFrom, internalFrom, lineFrom, runFrom, runIn, Ran}
+use Rattle.runs.specs.Views.{Held, waysOf, Ran}
+use Rattle.runs.proofs.Paths.{run-few}
 use Rattle.pieces.specs.Pieces.{branchOf, Counted, runAt, runsIn, passAt, passIn, Room, RoomIf, Put}
 use Rattle.pieces.proofs.Laws.{pieces-in, pieceAt, between-at-most, joined-at-most, joined-length-suc, all-zero, all-suc}
 use Rattle.pieces.proofs.Puts.{Filling, fill-none, fill-room, fill-more, fill-skip, fill-end, put-of, put-more, put-length-four, put-length-one, length-flat}
-
--- a run has at most four points
-pub run-few : (H : Held) (e : ℕ) (K : Kind) → length (runIn H e K) ≤ 4
-unfolding runIn runFrom openFrom internalFrom lineFrom
-run-few H e Undrawn = omega arith
-run-few H e (Open a b) = omega arith
-run-few H e (Internal a b) = omega arith
-run-few H e (Line a b) = omega arith
 
 joined-two : {A : Type 0} (f g h : ℕ → List A) (n : ℕ) → ((i : ℕ) → length (f i) + length (g i) ≡ length (h i))
     → length (joined f n) + length (joined g n) ≡ length (joined h n)
@@ -97,79 +90,80 @@ module _ (H : Held) (from to : List ℤ) (service : List ℕ) where
       ∙ joined-two (passAt false H from to service) (passAt true H from to service) drawn (length from) both-passes
 
   -- ---- the survey, after e branches
-  pub record Surveying (n : ℕ) (finite : Bool) (e : ℕ) (path₀ path : List Float) : Type 0 where
+  pub record Surveying (n : ℕ) (finite : Bool) (e : ℕ) (hits₀ hits : List ℕ) (path₀ path : List Float) : Type 0 where
     pub within : e ≤ length from
     pub counted : n ≡ length (joined drawn e)
-    pub few : n ≤ 3 * e
+    pub few : n ≤ 4294967296 * e
     pub tested : finite ≡ allOf (allOf finitePoint) (table (runAt H from to service) e)
-    pub room : 8 ≤ length path
+    pub struck : length hits ≡ length hits₀
     pub sized : length path ≡ length path₀
 
-  pub survey-none : (path : List Float) → 8 ≤ length path → Surveying 0 true 0 path path
-  survey-none path h =
+  pub survey-none : (hits : List ℕ) (path : List Float) → Surveying 0 true 0 hits hits path path
+  survey-none hits path =
       record {
         within = omega arith;
         counted = ap length (sym (joined-zero drawn));
         few = omega arith;
         tested = sym (all-zero (allOf finitePoint) (runAt H from to service));
-        room = h;
+        struck = refl;
         sized = refl;
       }
 
   module _ (e c : ℕ) (path : List Float) (R : Ran c path (runAt H from to service e)) where
-    pub run-short : c ≤ 4
-    run-short = omega (arith, R .count, run-few H e (kindOf (H .sub) from to service e))
-
     pub run-pieces : pieces e (pointsIn c path) ≡ drawn e
     run-pieces = ap (pieces e) (R .holds)
 
-    pub count-short : (x : ℕ) → Counted x (pointsIn c path) → x ≤ 3
-    count-short x k =
+    pub run-short : waysOf (H .ends) e < 2 ^ 31 → c < 2 ^ 32
+    run-short h = omega (arith, R .count, run-few H e (kindOf (H .sub) from to service e))
+
+    pub count-short : (x : ℕ) → waysOf (H .ends) e < 2 ^ 31 → Counted x (pointsIn c path) → x < 2 ^ 32
+    count-short x h k =
         let s : length (pieces e (pointsIn c path)) ≡ length (joined (pieceAt e path) (c - 1)) = ap length (pieces-in e path c) in
         let t : length (joined (pieceAt e path) (c - 1)) ≤ 1 * (c - 1) = joined-at-most (pieceAt e path) 1 (c - 1) (λ i h. between-at-most e _ _) in
-        let u : c ≤ 4 = run-short in
+        let u : c < 2 ^ 32 = run-short h in
         omega (arith, k e)
 
-    pub survey-more : (n x : ℕ) (f a b : Bool) (path₀ old : List Float) → e < length from → Surveying n f e path₀ old → length path ≡ length old → Counted x (pointsIn c path)
-        → a ≡ allOf finitePoint (pointsIn c path) → b ≡ f && a → Surveying (n + x) b (e + 1) path₀ path
-    survey-more n x f a b path₀ old h I s k t u =
+    pub survey-more : (n x : ℕ) (f a b : Bool) (hits₀ past hits : List ℕ) (path₀ old : List Float) → e < length from → waysOf (H .ends) e < 2 ^ 31 → Surveying n f e hits₀ past path₀ old
+        → length hits ≡ length past → length path ≡ length old → Counted x (pointsIn c path) → a ≡ allOf finitePoint (pointsIn c path) → b ≡ f && a
+        → Surveying (n + x) b (e + 1) hits₀ hits path₀ path
+    survey-more n x f a b hits₀ past hits path₀ old h w I r s k t u =
         record {
           within = omega arith;
           counted =
               rw add-one
               (omega (arith, I .counted, joined-length-suc drawn e, k e, ap length run-pieces));
-          few = omega (arith, I .few, count-short x k);
+          few = omega (arith, I .few, count-short x w k);
           tested =
               rw add-one
               (cc (u, t, I .tested, ap (allOf finitePoint) (R .holds), all-suc (allOf finitePoint) (runAt H from to service) e));
-          room = omega (arith, I .room);
+          struck = r ∙ I .struck;
           sized = s ∙ I .sized;
         }
 
-  pub survey-count : (n : ℕ) (f : Bool) (e : ℕ) (path₀ path : List Float) → Surveying n f e path₀ path → length from ≤ e
+  pub survey-count : (n : ℕ) (f : Bool) (e : ℕ) (hits₀ hits : List ℕ) (path₀ path : List Float) → Surveying n f e hits₀ hits path₀ path → length from ≤ e
       → n ≡ length (allPieces (kinds (H .sub) from to service) (runsIn H from to service))
-  survey-count n f e path₀ path I h =
+  survey-count n f e hits₀ hits path₀ path I h =
       let z : e ≡ length from = omega (arith, I .within) in
       I .counted ∙ ap (λ (k : ℕ). length (joined drawn k)) z ∙ sym all-length
 
-  pub survey-test : (n : ℕ) (f : Bool) (e : ℕ) (path₀ path : List Float) → Surveying n f e path₀ path → length from ≤ e
+  pub survey-test : (n : ℕ) (f : Bool) (e : ℕ) (hits₀ hits : List ℕ) (path₀ path : List Float) → Surveying n f e hits₀ hits path₀ path → length from ≤ e
       → f ≡ allOf (allOf finitePoint) (runsIn H from to service)
   unfolding runsIn
-  survey-test n f e path₀ path I h =
+  survey-test n f e hits₀ hits path₀ path I h =
       let z : e ≡ length from = omega (arith, I .within) in
       I .tested ∙ ap (λ (k : ℕ). allOf (allOf finitePoint) (table (runAt H from to service) k)) z
 
   -- ---- a pass, after e branches
-  pub record Passing (lines : Bool) (at : ℕ) (n n' : List Float) (b b' : List ℕ) (k e : ℕ) (path₀ path : List Float) : Type 0 where
+  pub record Passing (lines : Bool) (at : ℕ) (n n' : List Float) (b b' : List ℕ) (k e : ℕ) (hits₀ hits : List ℕ) (path₀ path : List Float) : Type 0 where
     pub filling : Filling (passAt lines H from to service) (length from) at n n' b b' k e
-    pub room : 8 ≤ length path
+    pub struck : length hits ≡ length hits₀
     pub sized : length path ≡ length path₀
 
   module _ (lines : Bool) (at : ℕ) where
-    pub pass-none : (n : List Float) (b : List ℕ) (path : List Float) → Room at (passIn lines H from to service) n b → 8 ≤ length path
-        → Passing lines at n n b b at 0 path path
+    pub pass-none : (n : List Float) (b hits : List ℕ) (path : List Float) → Room at (passIn lines H from to service) n b
+        → Passing lines at n n b b at 0 hits hits path path
     unfolding passIn
-    pass-none n b path h r = record { filling = fill-none (passAt lines H from to service) (length from) at n b (h .0) (h .1); room = r; sized = refl }
+    pass-none n b hits path h = record { filling = fill-none (passAt lines H from to service) (length from) at n b (h .0) (h .1); struck = refl; sized = refl }
 
     taken : (e : ℕ) → pick (isLine (kindOf (H .sub) from to service e)) lines (not lines) ≡ true → passAt lines H from to service e ≡ drawn e
     unfolding passAt
@@ -179,7 +173,7 @@ module _ (H : Held) (from to : List ℤ) (service : List ℕ) where
     unfolding passAt
     left e t = ap (λ (z : Bool). pick z (drawn e) []) t
 
-    module _ {n n' : List Float} {b b' : List ℕ} {k e : ℕ} {path₀ old : List Float} (I : Passing lines at n n' b b' k e path₀ old) where
+    module _ {n n' : List Float} {b b' : List ℕ} {k e : ℕ} {hits₀ past : List ℕ} {path₀ old : List Float} (I : Passing lines at n n' b b' k e hits₀ past path₀ old) where
       pub pass-room : {c : ℕ} {path : List Float} → e < length from → Ran c path (runAt H from to service e)
           → pick (isLine (kindOf (H .sub) from to service e)) lines (not lines) ≡ true
           → (4 * (k + length (pieces e (pointsIn c path))) ≤ length n') × (k + length (pieces e (pointsIn c path)) ≤ length b')
@@ -188,18 +182,18 @@ module _ (H : Held) (from to : List ℤ) (service : List ℕ) where
           let z : length (pieces e (pointsIn c path)) ≡ length (passAt lines H from to service e) = ap length (run-pieces e c path R ∙ sym (taken e t)) in
           (omega (arith, q .0), omega (arith, q .1))
 
-      pub pass-more : {c r : ℕ} {path : List Float} {n'' : List Float} {b'' : List ℕ} → e < length from → Ran c path (runAt H from to service e)
-          → pick (isLine (kindOf (H .sub) from to service e)) lines (not lines) ≡ true → length path ≡ length old
-          → Put k r (pieces e (pointsIn c path)) n' n'' b' b'' → Passing lines at n n'' b b'' r (e + 1) path₀ path
-      pass-more {c} {r} {path} h R t s w =
+      pub pass-more : {c r : ℕ} {hits : List ℕ} {path : List Float} {n'' : List Float} {b'' : List ℕ} → e < length from → Ran c path (runAt H from to service e)
+          → pick (isLine (kindOf (H .sub) from to service e)) lines (not lines) ≡ true → length hits ≡ length past → length path ≡ length old
+          → Put k r (pieces e (pointsIn c path)) n' n'' b' b'' → Passing lines at n n'' b b'' r (e + 1) hits₀ hits path₀ path
+      pass-more {c} {r} {hits} {path} h R t q s w =
           record {
             filling = fill-more (passAt lines H from to service) (length from) at (I .filling) h (put-of w (run-pieces e c path R ∙ sym (taken e t)));
-            room = omega (arith, I .room);
+            struck = q ∙ I .struck;
             sized = s ∙ I .sized;
           }
 
-      pub pass-skip : e < length from → pick (isLine (kindOf (H .sub) from to service e)) lines (not lines) ≡ false → Passing lines at n n' b b' k (e + 1) path₀ old
-      pass-skip h t = record { filling = fill-skip (passAt lines H from to service) (length from) at (I .filling) h (left e t); room = I .room; sized = I .sized }
+      pub pass-skip : e < length from → pick (isLine (kindOf (H .sub) from to service e)) lines (not lines) ≡ false → Passing lines at n n' b b' k (e + 1) hits₀ past path₀ old
+      pass-skip h t = record { filling = fill-skip (passAt lines H from to service) (length from) at (I .filling) h (left e t); struck = I .struck; sized = I .sized }
 
       pub pass-end : length from ≤ e → Put at k (passIn lines H from to service) n n' b b'
       unfolding passIn

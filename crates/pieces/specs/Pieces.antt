@@ -1,5 +1,5 @@
 -- The runs that the lent lists hold, and result lists with pieces written into them. Definitions only.
-use Prim.Native.Nat.{ℕ, _+_, _*_, _≤_}
+use Prim.Native.Nat.{ℕ, _+_, _*_, _≤_, _<_}
 use mathlib.Core.Path.{_≡_}
 use mathlib.Core.Bool.{Bool, not}
 use mathlib.Core.List.{List, [], _++_, map}
@@ -12,7 +12,7 @@ use Rattle.geometry.specs.declared.Point.{Point}
 use Rattle.network.specs.Words.{kindOf}
 use Rattle.runs.specs.Run.{Piece, pieces, isLine}
 use Rattle.runs.specs.Lists.{flat, pieceNumbers}
-use Rattle.runs.specs.Views.{Held, runIn}
+use Rattle.runs.specs.Views.{Held, runIn, Fits}
 
 abbrev pub piece : ℕ → Point → Point → Piece
 piece e p q = record { branch = e; start = p; end = q }
@@ -39,6 +39,10 @@ passAt lines H from to service e =
 -- those of all branches, each by branch number
 unfoldable pub passIn : Bool → Held → List ℤ → List ℤ → List ℕ → List Piece
 passIn lines H from to service = joined (passAt lines H from to service) (length from)
+
+-- a list has room for the run of every branch
+abbrev pub FitAll : List ℤ → List ℕ → List Float → Type 0
+FitAll from ends path = (e : ℕ) → e < length from → Fits ends path e
 
 -- pieces from number `at` on fit the two lists; and those of a layout that isn't refused
 abbrev pub Room : ℕ → List Piece → List Float → List ℕ → Type 0

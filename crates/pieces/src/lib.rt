@@ -10,8 +10,8 @@ ghost use Rattle.network.specs.Views.{pointsIn};
 ghost use Rattle.runs.specs.Finite.{allOf, finitePoint};
 ghost use Rattle.runs.specs.Run.{apart, pieces, isLine, allPieces};
 ghost use Rattle.runs.specs.Lists.{flat, pieceNumbers, after};
-ghost use Rattle.runs.specs.Views.{held};
-ghost use Rattle.pieces.specs.Pieces.{piece, branchOf, Counted, runsIn, passIn, Room, RoomIf, Put};
+ghost use Rattle.runs.specs.Views.{held, lead, Stands};
+ghost use Rattle.pieces.specs.Pieces.{piece, branchOf, Counted, runsIn, passIn, FitAll, Room, RoomIf, Put};
 use float::small::abs;
 use float::small::is_finite;
 use geometry::Point;
@@ -119,7 +119,7 @@ fn put_pieces(
     k
 }
 
-// Counts the pieces of all runs, and tests their points.
+// Counts the pieces of all runs, and tests their points. `hits` is a work list.
 pub fn survey(
     sub: &[u32],
     from: &[i64],
@@ -131,12 +131,21 @@ pub fn survey(
     blocks: &[f64],
     places: &[f64],
     frames: &[f64],
+    led: bool,
+    cell: f64,
+    gap: f64,
+    k: usize,
+    stations: &[u32],
+    hits: &mut [u32],
+    ways: &[f64],
     path: &mut [f64],
 ) -> Totals
-    requires { ⌜ (length (now from) ≤ 8192) × (length (now sub) ≤ 4096) × (8 ≤ length (now path)) ⌝ }
-    ensures { λ r. ⌜ r .pieces ≡ length (allPieces (kinds (now (sub .entry)) (now (from .entry)) (now (to .entry)) (now (service .entry))) (runsIn (held (now (sub .entry)) unit (now (buses .entry)) (now (ends .entry)) (now (blocks .entry)) (now (places .entry)) (now (frames .entry))) (now (from .entry)) (now (to .entry)) (now (service .entry)))) ⌝ }
-    ensures { λ r. ⌜ r .finite ≡ allOf (allOf finitePoint) (runsIn (held (now (sub .entry)) unit (now (buses .entry)) (now (ends .entry)) (now (blocks .entry)) (now (places .entry)) (now (frames .entry))) (now (from .entry)) (now (to .entry)) (now (service .entry))) ⌝ }
-    ensures { λ r. ⌜ r .pieces ≤ 24576 ⌝ }
+    requires { ⌜ (length (now from) ≤ 8192) × (length (now sub) ≤ 4096) ⌝ }
+    requires { ⌜ FitAll (now from) (now ends) (now path) ⌝ }
+    requires { ⌜ Stands k (now stations) (now frames) (now hits) ⌝ }
+    ensures { λ r. ⌜ r .pieces ≡ length (allPieces (kinds (now (sub .entry)) (now (from .entry)) (now (to .entry)) (now (service .entry))) (runsIn (held (now (sub .entry)) unit (now (buses .entry)) (now (ends .entry)) (now (blocks .entry)) (now (places .entry)) (now (frames .entry)) (lead led cell gap k (now (stations .entry)) (now (ways .entry)))) (now (from .entry)) (now (to .entry)) (now (service .entry)))) ⌝ }
+    ensures { λ r. ⌜ r .finite ≡ allOf (allOf finitePoint) (runsIn (held (now (sub .entry)) unit (now (buses .entry)) (now (ends .entry)) (now (blocks .entry)) (now (places .entry)) (now (frames .entry)) (lead led cell gap k (now (stations .entry)) (now (ways .entry)))) (now (from .entry)) (now (to .entry)) (now (service .entry))) ⌝ }
+    ensures { λ r. ⌜ r .pieces ≤ 2 ^ 45 ⌝ }
 {
     let mut n: usize = 0;
     let mut finite = true;
@@ -153,6 +162,13 @@ pub fn survey(
             blocks,
             places,
             frames,
+            led,
+            cell,
+            gap,
+            k,
+            stations,
+            hits,
+            ways,
             e,
             path,
         );
@@ -189,15 +205,24 @@ fn write_pass(
     blocks: &[f64],
     places: &[f64],
     frames: &[f64],
+    led: bool,
+    cell: f64,
+    gap: f64,
+    k: usize,
+    stations: &[u32],
+    hits: &mut [u32],
+    ways: &[f64],
     path: &mut [f64],
     numbers: &mut [f64],
     branches: &mut [u32],
 ) -> usize
-    requires { ⌜ (length (now from) ≤ 8192) × (length (now sub) ≤ 4096) × (8 ≤ length (now path)) ⌝ }
-    requires { ⌜ Room at (passIn lines (held (now sub) unit (now buses) (now ends) (now blocks) (now places) (now frames)) (now from) (now to) (now service)) (now numbers) (now branches) ⌝ }
-    ensures { λ r. ⌜ Put at r (passIn lines (held (now (sub .entry)) unit (now (buses .entry)) (now (ends .entry)) (now (blocks .entry)) (now (places .entry)) (now (frames .entry))) (now (from .entry)) (now (to .entry)) (now (service .entry))) (now (numbers .entry)) (now (numbers .exit)) (now (branches .entry)) (now (branches .exit)) ⌝ }
+    requires { ⌜ (length (now from) ≤ 8192) × (length (now sub) ≤ 4096) ⌝ }
+    requires { ⌜ FitAll (now from) (now ends) (now path) ⌝ }
+    requires { ⌜ Stands k (now stations) (now frames) (now hits) ⌝ }
+    requires { ⌜ Room at (passIn lines (held (now sub) unit (now buses) (now ends) (now blocks) (now places) (now frames) (lead led cell gap k (now stations) (now ways))) (now from) (now to) (now service)) (now numbers) (now branches) ⌝ }
+    ensures { λ r. ⌜ Put at r (passIn lines (held (now (sub .entry)) unit (now (buses .entry)) (now (ends .entry)) (now (blocks .entry)) (now (places .entry)) (now (frames .entry)) (lead led cell gap k (now (stations .entry)) (now (ways .entry)))) (now (from .entry)) (now (to .entry)) (now (service .entry))) (now (numbers .entry)) (now (numbers .exit)) (now (branches .entry)) (now (branches .exit)) ⌝ }
 {
-    let mut k = at;
+    let mut n = at;
     let mut e = 0;
     while e < from.len() {
         if chosen(lines, sub, from, to, service, e) {
@@ -212,16 +237,23 @@ fn write_pass(
                 blocks,
                 places,
                 frames,
+                led,
+                cell,
+                gap,
+                k,
+                stations,
+                hits,
+                ways,
                 e,
                 path,
             );
-            k = put_pieces(path, c, e as u32, k, numbers, branches);
+            n = put_pieces(path, c, e as u32, n, numbers, branches);
             e += 1;
         } else {
             e += 1;
         }
     }
-    k
+    n
 }
 
 // Writes all pieces, those of lines last; nothing where the layout is refused, l its number.
@@ -237,19 +269,28 @@ pub fn write_pieces(
     blocks: &[f64],
     places: &[f64],
     frames: &[f64],
+    led: bool,
+    cell: f64,
+    gap: f64,
+    k: usize,
+    stations: &[u32],
+    hits: &mut [u32],
+    ways: &[f64],
     path: &mut [f64],
     numbers: &mut [f64],
     branches: &mut [u32],
 )
-    requires { ⌜ (length (now from) ≤ 8192) × (length (now sub) ≤ 4096) × (8 ≤ length (now path)) ⌝ }
-    requires { ⌜ RoomIf l (allPieces (kinds (now sub) (now from) (now to) (now service)) (runsIn (held (now sub) unit (now buses) (now ends) (now blocks) (now places) (now frames)) (now from) (now to) (now service))) (now numbers) (now branches) ⌝ }
-    ensures { λ _. ⌜ now (numbers .exit) ≡ after l (flat pieceNumbers (allPieces (kinds (now (sub .entry)) (now (from .entry)) (now (to .entry)) (now (service .entry))) (runsIn (held (now (sub .entry)) unit (now (buses .entry)) (now (ends .entry)) (now (blocks .entry)) (now (places .entry)) (now (frames .entry))) (now (from .entry)) (now (to .entry)) (now (service .entry))))) (now (numbers .entry)) ⌝ }
-    ensures { λ _. ⌜ now (branches .exit) ≡ after l (map branchOf (allPieces (kinds (now (sub .entry)) (now (from .entry)) (now (to .entry)) (now (service .entry))) (runsIn (held (now (sub .entry)) unit (now (buses .entry)) (now (ends .entry)) (now (blocks .entry)) (now (places .entry)) (now (frames .entry))) (now (from .entry)) (now (to .entry)) (now (service .entry))))) (now (branches .entry)) ⌝ }
+    requires { ⌜ (length (now from) ≤ 8192) × (length (now sub) ≤ 4096) ⌝ }
+    requires { ⌜ FitAll (now from) (now ends) (now path) ⌝ }
+    requires { ⌜ Stands k (now stations) (now frames) (now hits) ⌝ }
+    requires { ⌜ RoomIf l (allPieces (kinds (now sub) (now from) (now to) (now service)) (runsIn (held (now sub) unit (now buses) (now ends) (now blocks) (now places) (now frames) (lead led cell gap k (now stations) (now ways))) (now from) (now to) (now service))) (now numbers) (now branches) ⌝ }
+    ensures { λ _. ⌜ now (numbers .exit) ≡ after l (flat pieceNumbers (allPieces (kinds (now (sub .entry)) (now (from .entry)) (now (to .entry)) (now (service .entry))) (runsIn (held (now (sub .entry)) unit (now (buses .entry)) (now (ends .entry)) (now (blocks .entry)) (now (places .entry)) (now (frames .entry)) (lead led cell gap k (now (stations .entry)) (now (ways .entry)))) (now (from .entry)) (now (to .entry)) (now (service .entry))))) (now (numbers .entry)) ⌝ }
+    ensures { λ _. ⌜ now (branches .exit) ≡ after l (map branchOf (allPieces (kinds (now (sub .entry)) (now (from .entry)) (now (to .entry)) (now (service .entry))) (runsIn (held (now (sub .entry)) unit (now (buses .entry)) (now (ends .entry)) (now (blocks .entry)) (now (places .entry)) (now (frames .entry)) (lead led cell gap k (now (stations .entry)) (now (ways .entry)))) (now (from .entry)) (now (to .entry)) (now (service .entry))))) (now (branches .entry)) ⌝ }
 {
     if l != 0 {
         return;
     }
-    let k = write_pass(
+    let n = write_pass(
         false,
         0,
         sub,
@@ -262,13 +303,20 @@ pub fn write_pieces(
         blocks,
         places,
         frames,
+        led,
+        cell,
+        gap,
+        k,
+        stations,
+        hits,
+        ways,
         path,
         numbers,
         branches,
     );
     write_pass(
         true,
-        k,
+        n,
         sub,
         from,
         to,
@@ -279,6 +327,13 @@ pub fn write_pieces(
         blocks,
         places,
         frames,
+        led,
+        cell,
+        gap,
+        k,
+        stations,
+        hits,
+        ways,
         path,
         numbers,
         branches,

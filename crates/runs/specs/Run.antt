@@ -1,7 +1,7 @@
 -- 6 and 8. Runs and pieces: open branches run between the buses' positions, internal branches and lines between their row ends, from bus first.
 -- Definitions only.
 use Prim.Native.Nat.{ℕ}
-use mathlib.Core.Bool.{Bool, true, false}
+use mathlib.Core.Bool.{Bool, true, false, cond}
 use mathlib.Core.List.{List, [], _∷_, _++_}
 use lib.ListN.{length, getD}
 use lib.Ieee.{Float, lt}
@@ -14,11 +14,14 @@ use Rattle.geometry.specs.declared.Box.{Box}
 use Rattle.network.specs.declared.words.Kind.{Kind}
 use Rattle.network.specs.declared.words.Kind.the-variants.{Undrawn, Open, Internal, Line}
 use Rattle.network.specs.Words.{kindAt, stationOf}
+use Rattle.detour.specs.Cells.{cellSize}
+use Rattle.detour.specs.Detour.{detour}
 use Rattle.bars.specs.declared.Bar.{Bar}
 use Rattle.bars.specs.Bar.{barAt, position, rowEnd}
 use Rattle.bars.specs.Exit.{exit}
 
--- What runs are drawn from: the buses' stations, the branches with the rows of their ends, the stations' blocks, boxes and places, and the buses' bars.
+-- What runs are drawn from: the buses' stations, the branches with the rows of their ends, the stations' blocks, boxes and places, the buses' bars;
+-- whether there are iterations, the occupied stations, the gap to keep from boxes, and each branch's waypoints.
 pub record Scene : Type 0 where
   pub sub : List ℕ
   pub kinds : List Kind
@@ -28,25 +31,35 @@ pub record Scene : Type 0 where
   pub boxes : List Box
   pub places : List Point
   pub bars : List Bar
+  pub led : Bool
+  pub occupied : List ℕ
+  pub gap : Float
+  pub ways : List (List Point)
 
 -- the row end of bus i
 unfoldable pub slot : Scene → ℕ → ℕ → Point
 slot S i row = rowEnd (S .sub) (S .blocks) (S .boxes) (S .bars) i row
 
--- the points of a line from its two slots, between the stations s and t: without iterations it runs straight from exit to exit
-unfoldable pub linePoints : Scene → ℕ → ℕ → Point → Point → List Point
-linePoints S s t p q = p ∷ exit (S .boxes) (S .places) s t (p .y) ∷ exit (S .boxes) (S .places) t s (q .y) ∷ q ∷ []
+-- the path between the slots of a line from station s to station t, led round boxes where there are iterations
+unfoldable pub between : Scene → ℕ → ℕ → List Point → List Point
+between S s t path =
+    cond (S .led) (detour (S .boxes) (S .occupied) (cellSize (S .boxes) (S .occupied)) (S .gap) s t path) path
 
--- the points of a branch's run, whose ends have the rows ra and rb
-unfoldable pub runFor : Scene → ℕ → ℕ → Kind → List Point
-runFor S ra rb Undrawn = []
-runFor S ra rb (Open a b) = position (barAt (S .bars) a) ∷ position (barAt (S .bars) b) ∷ []
-runFor S ra rb (Internal a b) = slot S a ra ∷ slot S b rb ∷ []
-runFor S ra rb (Line a b) = linePoints S (stationOf (S .sub) a) (stationOf (S .sub) b) (slot S a ra) (slot S b rb)
+-- the points of a line between its two slots p and q, from station s to station t: from exit to exit by its waypoints
+unfoldable pub linePoints : Scene → ℕ → ℕ → List Point → Point → Point → List Point
+linePoints S s t via p q =
+    p ∷ (between S s t (exit (S .boxes) (S .places) s t (p .y) ∷ (via ++ (exit (S .boxes) (S .places) t s (q .y) ∷ []))) ++ (q ∷ []))
+
+-- the points of a branch's run, whose ends have the rows ra and rb, by these waypoints where it is a line
+unfoldable pub runFor : Scene → ℕ → ℕ → List Point → Kind → List Point
+runFor S ra rb via Undrawn = []
+runFor S ra rb via (Open a b) = position (barAt (S .bars) a) ∷ position (barAt (S .bars) b) ∷ []
+runFor S ra rb via (Internal a b) = slot S a ra ∷ slot S b rb ∷ []
+runFor S ra rb via (Line a b) = linePoints S (stationOf (S .sub) a) (stationOf (S .sub) b) via (slot S a ra) (slot S b rb)
 
 -- the run of branch e
 unfoldable pub runOf : Scene → ℕ → List Point
-runOf S e = runFor S (getD (S .fromRows) e 0) (getD (S .toRows) e 0) (kindAt (S .kinds) e)
+runOf S e = runFor S (getD (S .fromRows) e 0) (getD (S .toRows) e 0) (getD (S .ways) e []) (kindAt (S .kinds) e)
 
 unfoldable pub runs : Scene → List (List Point)
 runs S = table (runOf S) (length (S .kinds))

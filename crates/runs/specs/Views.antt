@@ -1,7 +1,8 @@
 -- How the lent work lists hold a scene: what its parts read from them. Definitions only.
-use Prim.Native.Nat.{ℕ, _+_, _*_}
+use Prim.Native.Nat.{ℕ, _+_, _*_, _^_, _≤_, _<_}
 use mathlib.Core.Path.{_≡_}
-use mathlib.Core.List.{List, [], _∷_}
+use mathlib.Core.Bool.{Bool, cond}
+use mathlib.Core.List.{List, [], _∷_, _++_}
 use lib.ListN.{length, getD}
 use lib.Ieee.{Float, nan}
 use Rattle.float.specs.Ops.{_⊗_}
@@ -10,14 +11,28 @@ use Rattle.geometry.specs.declared.Point.{Point}
 use Rattle.geometry.specs.Plane.{point, pointAt, boxAt}
 use Rattle.network.specs.declared.words.Kind.{Kind}
 use Rattle.network.specs.declared.words.Kind.the-variants.{Undrawn, Open, Internal, Line}
-use Rattle.network.specs.Words.{stationOf}
-use Rattle.network.specs.Views.{fromRowsIn, toRowsIn, pointsIn, boxesIn}
+use Rattle.network.specs.Words.{stationOf, occupied}
+use Rattle.network.specs.Views.{countsIn, fromRowsIn, toRowsIn, pointsIn, boxesIn}
+use Rattle.detour.specs.Detour.{detour}
+use Rattle.detour.specs.Paths.{pathIn}
 use Rattle.bars.specs.declared.Bar.{Bar}
 use Rattle.bars.specs.Bar.{rowY, barFor, spanOf, position}
 use Rattle.bars.specs.Exit.{exitX}
 use Rattle.runs.specs.Run.{Scene}
 
--- the station numbers, the unit, and the work lists of buses, branches' ends, blocks, places and boxes
+-- what leads lines round boxes: whether there are iterations, a cell's side, the gap, the number of stations, the work list of stations, and that of waypoints
+pub record Lead : Type 0 where
+  pub led : Bool
+  pub cell : Float
+  pub gap : Float
+  pub k : ℕ
+  pub stations : List ℕ
+  pub ways : List Float
+
+abbrev pub lead : Bool → Float → Float → ℕ → List ℕ → List Float → Lead
+lead a b c d e f = record { led = a; cell = b; gap = c; k = d; stations = e; ways = f }
+
+-- the station numbers, the unit, and the work lists of buses, branches' ends, blocks, places and boxes; what leads lines
 pub record Held : Type 0 where
   pub sub : List ℕ
   pub unit : Float
@@ -26,9 +41,10 @@ pub record Held : Type 0 where
   pub blocks : List Float
   pub places : List Float
   pub frames : List Float
+  pub lead : Lead
 
-abbrev pub held : List ℕ → Float → List ℕ → List ℕ → List Float → List Float → List Float → Held
-held a b c d e f g = record { sub = a; unit = b; buses = c; ends = d; blocks = e; places = f; frames = g }
+abbrev pub held : List ℕ → Float → List ℕ → List ℕ → List Float → List Float → List Float → Lead → Held
+held a b c d e f g h = record { sub = a; unit = b; buses = c; ends = d; blocks = e; places = f; frames = g; lead = h }
 
 -- the block of station s, unit × scale
 unfoldable pub blockOf : Float → List Float → ℕ → Float
@@ -56,36 +72,71 @@ unfoldable pub internalFrom : List ℕ → Float → List ℕ → List Float →
 internalFrom sub unit buses blocks frames a b ra rb =
     slotOf unit buses blocks frames (stationOf sub a) a ra ∷ slotOf unit buses blocks frames (stationOf sub b) b rb ∷ []
 
-unfoldable pub lineFrom : List ℕ → Float → List ℕ → List Float → List Float → List Float → ℕ → ℕ → ℕ → ℕ → List Point
-lineFrom sub unit buses blocks places frames a b ra rb =
+-- the path between the slots of a line from station s to station t, led round boxes where there are iterations
+unfoldable pub ledIn : Bool → Float → Float → ℕ → List ℕ → List Float → ℕ → ℕ → List Point → List Point
+ledIn led cell gap k stations frames s t path =
+    cond led (detour (boxesIn k frames) (occupied (countsIn k stations)) cell gap s t path) path
+
+-- w is its first waypoint, n how many it has
+unfoldable pub lineFrom : List ℕ → Float → List ℕ → List Float → List Float → List Float → Lead → ℕ → ℕ → ℕ → ℕ → ℕ → ℕ → List Point
+lineFrom sub unit buses blocks places frames L a b ra rb w n =
     let s = stationOf sub a in
     let t = stationOf sub b in
     let p = slotOf unit buses blocks frames s a ra in
     let q = slotOf unit buses blocks frames t b rb in
-    p ∷ exitOf places frames s t (p .y) ∷ exitOf places frames t s (q .y) ∷ q ∷ []
+    p ∷ (ledIn (L .led) (L .cell) (L .gap) (L .k) (L .stations) frames s t (exitOf places frames s t (p .y) ∷ (pathIn w n (L .ways) ++ (exitOf places frames t s (q .y) ∷ []))) ++ (q ∷ []))
 
-unfoldable pub runFrom : Held → ℕ → ℕ → Kind → List Point
-runFrom H ra rb Undrawn = []
-runFrom H ra rb (Open a b) = openFrom (H .sub) (H .unit) (H .buses) (H .blocks) (H .frames) a b
-runFrom H ra rb (Internal a b) = internalFrom (H .sub) (H .unit) (H .buses) (H .blocks) (H .frames) a b ra rb
-runFrom H ra rb (Line a b) = lineFrom (H .sub) (H .unit) (H .buses) (H .blocks) (H .places) (H .frames) a b ra rb
+unfoldable pub runFrom : Held → ℕ → ℕ → ℕ → ℕ → Kind → List Point
+runFrom H ra rb w n Undrawn = []
+runFrom H ra rb w n (Open a b) = openFrom (H .sub) (H .unit) (H .buses) (H .blocks) (H .frames) a b
+runFrom H ra rb w n (Internal a b) = internalFrom (H .sub) (H .unit) (H .buses) (H .blocks) (H .frames) a b ra rb
+runFrom H ra rb w n (Line a b) = lineFrom (H .sub) (H .unit) (H .buses) (H .blocks) (H .places) (H .frames) (H .lead) a b ra rb w n
+
+-- the first waypoint of branch e, and how many it has
+abbrev pub wayOf : List ℕ → ℕ → ℕ
+wayOf ends e = getD ends (4 * e + 2) 0
+
+abbrev pub waysOf : List ℕ → ℕ → ℕ
+waysOf ends e = getD ends (4 * e + 3) 0
 
 unfoldable pub runIn : Held → ℕ → Kind → List Point
-runIn H e kind = runFrom H (getD (H .ends) (4 * e) 0) (getD (H .ends) (4 * e + 1) 0) kind
+runIn H e kind = runFrom H (getD (H .ends) (4 * e) 0) (getD (H .ends) (4 * e + 1) 0) (wayOf (H .ends) e) (waysOf (H .ends) e) kind
 
--- the scene of k stations that the lists hold
-unfoldable pub sceneIn : Held → List Kind → ℕ → Scene
-sceneIn H ks k =
+-- a list has room for a run by n waypoints, with two slots, two exits and four points more; for that of branch e, whose waypoints have small numbers
+abbrev pub Roomy : ℕ → List Float → Type 0
+Roomy n path = 2 * (n + 8) ≤ length path
+
+abbrev pub Fits : List ℕ → List Float → ℕ → Type 0
+Fits ends path e = Roomy (waysOf ends e) path × (wayOf ends e + waysOf ends e < 2 ^ 31)
+
+-- the lists of k stations are as long as leading needs
+abbrev pub Stands : ℕ → List ℕ → List Float → List ℕ → Type 0
+Stands k stations frames hits = (2 * k ≤ length stations) × (4 * k ≤ length frames) × (k ≤ length hits) × (k ≤ 4096)
+
+-- the scene that the lists hold, with these blocks of stations and bars of buses
+abbrev pub sceneWith : Held → List Kind → List Float → List Bar → Scene
+sceneWith H ks fs bs =
+    let k = H .lead .k in
     record {
       sub = H .sub;
       kinds = ks;
       fromRows = fromRowsIn (length ks) (H .ends);
       toRows = toRowsIn (length ks) (H .ends);
-      blocks = table (blockOf (H .unit) (H .blocks)) k;
+      blocks = fs;
       boxes = boxesIn k (H .frames);
       places = pointsIn k (H .places);
-      bars = table (λ i. barOf (H .unit) (H .buses) (H .blocks) (H .frames) (stationOf (H .sub) i) i) (length (H .sub));
+      bars = bs;
+      led = H .lead .led;
+      occupied = occupied (countsIn k (H .lead .stations));
+      gap = H .lead .gap;
+      ways = table (λ e. pathIn (wayOf (H .ends) e) (waysOf (H .ends) e) (H .lead .ways)) (length ks);
     }
+
+-- the scene that the lists hold
+unfoldable pub sceneIn : Held → List Kind → Scene
+sceneIn H ks =
+    sceneWith H ks (table (blockOf (H .unit) (H .blocks)) (H .lead .k))
+    (table (λ i. barOf (H .unit) (H .buses) (H .blocks) (H .frames) (stationOf (H .sub) i) i) (length (H .sub)))
 
 -- a list holds these points and no more than so many are asked for
 pub record Ran (r : ℕ) (path : List Float) (points : List Point) : Type 0 where

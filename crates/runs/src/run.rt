@@ -1,17 +1,19 @@
 // The points of a branch's run.
 ghost use mathlib.Core.Path.{_≡_};
 ghost use Prim.Native.Nat.{_+_, _*_, _<_, _≤_, _^_};
-ghost use mathlib.Core.List.{[], _∷_};
+ghost use mathlib.Core.List.{[], _∷_, _++_};
 ghost use lib.ListN.{length};
 ghost use Rattle.geometry.specs.Plane.{boxAt};
 ghost use Rattle.network.specs.Words.{kindOf};
 ghost use Rattle.network.proofs.Views.{putPoint};
-ghost use Rattle.runs.specs.Views.{held, blockOf, barOf, slotOf, exitOf, openFrom, internalFrom, lineFrom, runIn, Ran};
+ghost use Rattle.detour.specs.Paths.{pathIn, Led};
+ghost use Rattle.runs.specs.Views.{held, lead, blockOf, barOf, slotOf, exitOf, openFrom, internalFrom, ledIn, lineFrom, runIn, Roomy, Fits, Stands, Ran};
 use bars::Bar;
 use bars::bar_for;
 use bars::exit_x;
 use bars::position;
 use bars::row_y;
+use detour::path::detour;
 use geometry::Box;
 use geometry::Point;
 use geometry::number_at;
@@ -77,7 +79,7 @@ fn slot_of(
 }
 
 // The exit of station s towards t, at the height y.
-fn exit_of(places: &[f64], frames: &[f64], s: usize, t: usize, y: f64) -> Point
+pub fn exit_of(places: &[f64], frames: &[f64], s: usize, t: usize, y: f64) -> Point
     requires { ⌜ (s < 2 ^ 32) × (t < 2 ^ 32) ⌝ }
     ensures { λ r. ⌜ r ≡ exitOf (now (places .entry)) (now (frames .entry)) s t y ⌝ }
 {
@@ -104,18 +106,6 @@ fn put_two(path: &mut [f64], p: Point, q: Point) -> usize
     put_point(path, 0, p);
     put_point(path, 1, q);
     2
-}
-
-// Four points at the front of a list.
-fn put_four(path: &mut [f64], p: Point, a: Point, b: Point, q: Point) -> usize
-    requires { ⌜ 8 ≤ length (now path) ⌝ }
-    ensures { λ r. ⌜ Ran r (now (path .exit)) (p ∷ a ∷ b ∷ q ∷ []) ⌝ }
-{
-    put_point(path, 0, p);
-    put_point(path, 1, a);
-    put_point(path, 2, b);
-    put_point(path, 3, q);
-    4
 }
 
 // The run of an open branch between the buses a and b.
@@ -158,7 +148,64 @@ fn run_internal(
     put_two(path, p, q)
 }
 
-// The run of a line between the buses a and b, whose ends have the rows ra and rb.
+// Copies n points of a list, from point w on, to another, from point i on.
+fn copy_points(ways: &[f64], w: usize, n: usize, path: &mut [f64], i: usize)
+    requires { ⌜ (2 * (i + n) ≤ length (now path)) × (i + n < 2 ^ 32) × (w + n < 2 ^ 32) ⌝ }
+    ensures { λ _. ⌜ Led i n (pathIn w n (now (ways .entry))) (now (path .entry)) (now (path .exit)) ⌝ }
+{
+    let mut j = 0;
+    while j < n {
+        put_point(path, i + j, point_at(ways, w + j));
+        j += 1;
+    }
+}
+
+// Puts a path behind the first point of a list: a, the n points of `ways` from point w on, b.
+fn put_middle(path: &mut [f64], a: Point, ways: &[f64], w: usize, n: usize, b: Point)
+    requires { ⌜ (Roomy n (now path)) × (w + n < 2 ^ 31) ⌝ }
+    ensures { λ _. ⌜ pathIn 1 (n + 2) (now (path .exit)) ≡ a ∷ (pathIn w n (now (ways .entry)) ++ (b ∷ [])) ⌝ }
+{
+    put_point(path, 1, a);
+    copy_points(ways, w, n, path, 2);
+    put_point(path, n + 2, b);
+}
+
+// Leads the path of `count` points behind the first point of a list round boxes, where there are iterations, and answers how many points it has then.
+fn lead(
+    led: bool,
+    cell: f64,
+    gap: f64,
+    k: usize,
+    stations: &[u32],
+    frames: &[f64],
+    hits: &mut [u32],
+    s: usize,
+    t: usize,
+    path: &mut [f64],
+    count: usize,
+) -> usize
+    requires { ⌜ Stands k (now stations) (now frames) (now hits) ⌝ }
+    requires { ⌜ 2 * (count + 5) ≤ length (now path) ⌝ }
+    ensures { λ r. ⌜ pathIn 1 r (now (path .exit)) ≡ ledIn led cell gap k (now (stations .entry)) (now (frames .entry)) s t (pathIn 1 count (now (path .entry))) ⌝ }
+    ensures { λ r. ⌜ r ≤ count + 4 ⌝ }
+{
+    if led {
+        return detour(cell, gap, k, stations, frames, hits, s, t, path, 1, count);
+    }
+    count
+}
+
+// Puts p before and q behind the path of r points behind the first point of a list, and answers how many points that makes.
+fn put_ends(path: &mut [f64], p: Point, q: Point, r: usize) -> usize
+    requires { ⌜ (2 * (r + 2) ≤ length (now path)) × (r + 2 < 2 ^ 32) ⌝ }
+    ensures { λ c. ⌜ Ran c (now (path .exit)) (p ∷ (pathIn 1 r (now (path .entry)) ++ (q ∷ []))) ⌝ }
+{
+    put_point(path, 0, p);
+    put_point(path, r + 1, q);
+    r + 2
+}
+
+// The run of a line between the buses a and b, whose ends have the rows ra and rb, by n waypoints, the first of them w.
 fn run_line(
     sub: &[u32],
     unit: f64,
@@ -166,29 +213,42 @@ fn run_line(
     blocks: &[f64],
     places: &[f64],
     frames: &[f64],
+    led: bool,
+    cell: f64,
+    gap: f64,
+    k: usize,
+    stations: &[u32],
+    hits: &mut [u32],
+    ways: &[f64],
     a: usize,
     b: usize,
     ra: u32,
     rb: u32,
+    w: usize,
+    n: usize,
     path: &mut [f64],
 ) -> usize
-    requires { ⌜ (a < 2 ^ 32) × (b < 2 ^ 32) × (8 ≤ length (now path)) ⌝ }
-    ensures { λ r. ⌜ Ran r (now (path .exit)) (lineFrom (now (sub .entry)) unit (now (buses .entry)) (now (blocks .entry)) (now (places .entry)) (now (frames .entry)) a b ra rb) ⌝ }
+    requires { ⌜ (a < 2 ^ 32) × (b < 2 ^ 32) × (Roomy n (now path)) × (w + n < 2 ^ 31) ⌝ }
+    requires { ⌜ Stands k (now stations) (now frames) (now hits) ⌝ }
+    ensures { λ r. ⌜ Ran r (now (path .exit)) (lineFrom (now (sub .entry)) unit (now (buses .entry)) (now (blocks .entry)) (now (places .entry)) (now (frames .entry)) (lead led cell gap k (now (stations .entry)) (now (ways .entry))) a b ra rb w n) ⌝ }
 {
     let s = station_of(sub, a);
     let t = station_of(sub, b);
     let p = slot_of(unit, buses, blocks, frames, s, a, ra);
     let q = slot_of(unit, buses, blocks, frames, t, b, rb);
-    put_four(
+    put_middle(
         path,
-        p,
         exit_of(places, frames, s, t, p.y),
+        ways,
+        w,
+        n,
         exit_of(places, frames, t, s, q.y),
-        q,
-    )
+    );
+    let r = lead(led, cell, gap, k, stations, frames, hits, s, t, path, n + 2);
+    put_ends(path, p, q, r)
 }
 
-// Puts the run of branch e at the front of path, and answers how many points it has.
+// Puts the run of branch e at the front of path, and answers how many points it has. `hits` is a work list.
 pub fn run(
     sub: &[u32],
     from: &[i64],
@@ -200,18 +260,50 @@ pub fn run(
     blocks: &[f64],
     places: &[f64],
     frames: &[f64],
+    led: bool,
+    cell: f64,
+    gap: f64,
+    k: usize,
+    stations: &[u32],
+    hits: &mut [u32],
+    ways: &[f64],
     e: usize,
     path: &mut [f64],
 ) -> usize
-    requires { ⌜ (e < 2 ^ 32) × (length (now sub) ≤ 2 ^ 32) × (8 ≤ length (now path)) ⌝ }
-    ensures { λ r. ⌜ Ran r (now (path .exit)) (runIn (held (now (sub .entry)) unit (now (buses .entry)) (now (ends .entry)) (now (blocks .entry)) (now (places .entry)) (now (frames .entry))) e (kindOf (now (sub .entry)) (now (from .entry)) (now (to .entry)) (now (service .entry)) e)) ⌝ }
+    requires { ⌜ (e < 2 ^ 32) × (length (now sub) ≤ 2 ^ 32) ⌝ }
+    requires { ⌜ Fits (now ends) (now path) e ⌝ }
+    requires { ⌜ Stands k (now stations) (now frames) (now hits) ⌝ }
+    ensures { λ r. ⌜ Ran r (now (path .exit)) (runIn (held (now (sub .entry)) unit (now (buses .entry)) (now (ends .entry)) (now (blocks .entry)) (now (places .entry)) (now (frames .entry)) (lead led cell gap k (now (stations .entry)) (now (ways .entry)))) e (kindOf (now (sub .entry)) (now (from .entry)) (now (to .entry)) (now (service .entry)) e)) ⌝ }
 {
     let ra = at(ends, 4 * e);
     let rb = at(ends, 4 * e + 1);
+    let w = at(ends, 4 * e + 2) as usize;
+    let n = at(ends, 4 * e + 3) as usize;
     match kind_of(sub, from, to, service, e) {
         Kind::Undrawn => 0,
         Kind::Open(a, b) => run_open(sub, unit, buses, blocks, frames, a, b, path),
         Kind::Internal(a, b) => run_internal(sub, unit, buses, blocks, frames, a, b, ra, rb, path),
-        Kind::Line(a, b) => run_line(sub, unit, buses, blocks, places, frames, a, b, ra, rb, path),
+        Kind::Line(a, b) => run_line(
+            sub,
+            unit,
+            buses,
+            blocks,
+            places,
+            frames,
+            led,
+            cell,
+            gap,
+            k,
+            stations,
+            hits,
+            ways,
+            a,
+            b,
+            ra,
+            rb,
+            w,
+            n,
+            path,
+        ),
     }
 }

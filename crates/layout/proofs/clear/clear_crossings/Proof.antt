@@ -8,7 +8,6 @@ use Rattle.layout.proofs.clear.clear_crossings.Reads as reads
 use Rattle.layout.proofs.clear.clear_crossings.Lts as lts
 use Rattle.results.proofs.clears.zero_f.Reads as zero-f-reads
 use Rattle.results.proofs.clears.zero_u32.Reads as zero-u32-reads
-use Rattle.results.proofs.clears.zero_u64.Reads as zero-u64-reads
 
 zero-u32-requires : tie.Need-zero-u32-requires
 zero-u32-requires c κs = search needs
@@ -19,43 +18,18 @@ zero-f-requires c κs = search needs
 zero-f-requires-2 : tie.Need-zero-f-requires-2
 zero-f-requires-2 c κs = search needs
 
-zero-u64-requires : tie.Need-zero-u64-requires
-zero-u64-requires c κs = search needs
-
-zero-u32-requires-2 : tie.Need-zero-u32-requires-2
-zero-u32-requires-2 c κs = search needs
-
-zero-u32-requires-3 : tie.Need-zero-u32-requires-3
-zero-u32-requires-3 c κs = search needs
-
 same-length : tie.Need-same-length
-same-length c = c .before .before .before .before .before .before .before .before .before .before .before .before .before .before .before .before .before .before .before .before .before .before .zero-u32 .kept .0
+same-length c = c .before .before .before .before .before .before .before .before .before .before .zero-u32 .kept .0
 
 same-length-2 : tie.Need-same-length-2
-same-length-2 c = c .before .before .before .before .before .before .before .before .before .before .before .before .before .before .before .before .before .before .zero-f .kept .0
+same-length-2 c = c .before .before .before .before .before .before .zero-f .kept .0
 
 same-length-3 : tie.Need-same-length-3
-same-length-3 c = c .before .before .before .before .before .before .before .before .before .before .before .before .before .before .zero-f2 .kept .0
-
-same-length-4 : tie.Need-same-length-4
-same-length-4 c = c .before .before .before .before .before .before .before .before .before .before .zero-u64 .kept .0
-
-same-length-5 : tie.Need-same-length-5
-same-length-5 c = c .before .before .before .before .before .before .zero-u322 .kept .0
-
-same-length-6 : tie.Need-same-length-6
-same-length-6 c = c .before .before .zero-u323 .kept .0
+same-length-3 c = c .before .before .zero-f2 .kept .0
 
 returns : tie.Need-returns
 unfolding clearedCrossings
-returns c =
-    crossings-eq
-    (c .before .before .before .before .before .before .before .before .before .before .before .before .before .before .before .before .before .before .before .before .before .before .zero-u32 .ensures)
-    (c .before .before .before .before .before .before .before .before .before .before .before .before .before .before .before .before .before .before .zero-f .ensures)
-    (c .before .before .before .before .before .before .before .before .before .before .before .before .before .before .zero-f2 .ensures)
-    (c .before .before .before .before .before .before .before .before .before .before .zero-u64 .ensures)
-    (c .before .before .before .before .before .before .zero-u322 .ensures)
-    (c .before .before .zero-u323 .ensures)
+returns c = crossings-eq (c .before .before .before .before .before .before .before .before .before .before .zero-u32 .ensures) (c .before .before .before .before .before .before .zero-f .ensures) (c .before .before .zero-f2 .ensures)
 
 pub clear-crossings-spec : {M : Type 1} → statement M
 clear-crossings-spec =
@@ -64,13 +38,7 @@ clear-crossings-spec =
     zero-u32-requires
     zero-f-requires
     zero-f-requires-2
-    zero-u64-requires
-    zero-u32-requires-2
-    zero-u32-requires-3
     same-length
     same-length-2
     same-length-3
-    same-length-4
-    same-length-5
-    same-length-6
     returns)

@@ -1,7 +1,7 @@
 -- `layout::lay::lay` meets its contract. Assumes nothing.
 use native.Mathlib.Omega.{arith}
 use mathlib.Core.Path.{_∙_}
-use Rattle.layout.proofs.Drafts.{laid-joined}
+use Rattle.layout.proofs.Laying.{laid-joined}
 use Rattle.layout.proofs.Smalls.{ends-small, length-kinds}
 use borrow.Author.Needs.{needs}
 use Rattle.layout.proofs.lay.lay.Statement.{statement}

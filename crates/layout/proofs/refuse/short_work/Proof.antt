@@ -1,5 +1,5 @@
-use native.Mathlib.Omega.{arith}
 -- `layout::refuse::short_work` meets its contract. Assumes nothing.
+use native.Mathlib.Omega.{arith}
 use borrow.Author.Tests.{lt-ltb, le-ltb}
 use Rattle.layout.specs.Answer.{shortWork}
 use borrow.Author.Needs.{needs}
@@ -16,6 +16,9 @@ add-sorting c = omega (arith, c .pre .0, c .pre .1, c .pre .2)
 
 add-sorting-2 : tie.Need-add-sorting-2
 add-sorting-2 c = omega (arith, c .pre .0, c .pre .1, c .pre .2)
+
+add-sorting-3 : tie.Need-add-sorting-3
+add-sorting-3 c = omega (arith, c .pre .0, c .pre .1, c .pre .2)
 
 mul-if1 : tie.Need-mul-if1
 mul-if1 c = omega (arith, c .pre .0, c .pre .1, c .pre .2)
@@ -34,15 +37,18 @@ returns-2 c = rw (le-ltb _ _ (c .before .before .if1 .left), lt-ltb _ _ (c .if2 
 mul-if3 : tie.Need-mul-if3
 mul-if3 c = omega (arith, c .before .before .before .before .pre .0, c .before .before .before .before .pre .1, c .before .before .before .before .pre .2)
 
+mul-if3-2 : tie.Need-mul-if3-2
+mul-if3-2 c = omega (arith, c .before .before .before .before .pre .0, c .before .before .before .before .pre .1, c .before .before .before .before .pre .2)
+
+add-if3 : tie.Need-add-if3
+add-if3 c = omega (arith, c .before .before .before .before .pre .0, c .before .before .before .before .pre .1, c .before .before .before .before .pre .2)
+
+add-if3-2 : tie.Need-add-if3-2
+add-if3-2 c = omega (arith, c .before .before .before .before .pre .0, c .before .before .before .before .pre .1, c .before .before .before .before .pre .2)
+
 returns-3 : tie.Need-returns-3
 unfolding shortWork
 returns-3 c = rw (le-ltb _ _ (c .before .before .before .before .if1 .left), le-ltb _ _ (c .before .before .if2 .left), lt-ltb _ _ (c .if3 .taken))
-
-mul-if4 : tie.Need-mul-if4
-mul-if4 c = omega (arith, c .before .before .before .before .before .before .pre .0, c .before .before .before .before .before .before .pre .1, c .before .before .before .before .before .before .pre .2)
-
-add-if4 : tie.Need-add-if4
-add-if4 c = omega (arith, c .before .before .before .before .before .before .pre .0, c .before .before .before .before .before .before .pre .1, c .before .before .before .before .before .before .pre .2)
 
 returns-4 : tie.Need-returns-4
 unfolding shortWork
@@ -55,6 +61,9 @@ returns-5 c = rw (le-ltb _ _ (c .before .before .before .before .before .before 
 returns-6 : tie.Need-returns-6
 unfolding shortWork
 returns-6 c = rw (le-ltb _ _ (c .before .before .before .before .before .before .before .before .before .before .if1 .left), le-ltb _ _ (c .before .before .before .before .before .before .before .before .if2 .left), le-ltb _ _ (c .before .before .before .before .before .before .if3 .left), le-ltb _ _ (c .before .before .before .before .if4 .left), le-ltb _ _ (c .before .before .if5 .left), lt-ltb _ _ (c .if6 .taken))
+
+mul-if7 : tie.Need-mul-if7
+mul-if7 c = omega (arith, c .before .before .before .before .before .before .before .before .before .before .before .before .pre .0, c .before .before .before .before .before .before .before .before .before .before .before .before .pre .1, c .before .before .before .before .before .before .before .before .before .before .before .before .pre .2)
 
 returns-7 : tie.Need-returns-7
 unfolding shortWork
@@ -74,28 +83,21 @@ returns-9 : tie.Need-returns-9
 unfolding shortWork
 returns-9 c = rw (le-ltb _ _ (c .before .before .before .before .before .before .before .before .before .before .before .before .before .before .before .before .if1 .left), le-ltb _ _ (c .before .before .before .before .before .before .before .before .before .before .before .before .before .before .if2 .left), le-ltb _ _ (c .before .before .before .before .before .before .before .before .before .before .before .before .if3 .left), le-ltb _ _ (c .before .before .before .before .before .before .before .before .before .before .if4 .left), le-ltb _ _ (c .before .before .before .before .before .before .before .before .if5 .left), le-ltb _ _ (c .before .before .before .before .before .before .if6 .left), le-ltb _ _ (c .before .before .before .before .if7 .left), le-ltb _ _ (c .before .before .if8 .left), lt-ltb _ _ (c .if9 .taken))
 
-mul-if10 : tie.Need-mul-if10
-mul-if10 c = omega (arith, c .before .before .before .before .before .before .before .before .before .before .before .before .before .before .before .before .before .before .pre .0, c .before .before .before .before .before .before .before .before .before .before .before .before .before .before .before .before .before .before .pre .1, c .before .before .before .before .before .before .before .before .before .before .before .before .before .before .before .before .before .before .pre .2)
+mul-result : tie.Need-mul-result
+mul-result c = omega (arith, c .before .before .before .before .before .before .before .before .before .before .before .before .before .before .before .before .before .before .pre .0, c .before .before .before .before .before .before .before .before .before .before .before .before .before .before .before .before .before .before .pre .1, c .before .before .before .before .before .before .before .before .before .before .before .before .before .before .before .before .before .before .pre .2)
+
+mul-result-2 : tie.Need-mul-result-2
+mul-result-2 c = omega (arith, c .before .before .before .before .before .before .before .before .before .before .before .before .before .before .before .before .before .before .pre .0, c .before .before .before .before .before .before .before .before .before .before .before .before .before .before .before .before .before .before .pre .1, c .before .before .before .before .before .before .before .before .before .before .before .before .before .before .before .before .before .before .pre .2)
+
+add-result : tie.Need-add-result
+add-result c = omega (arith, c .before .before .before .before .before .before .before .before .before .before .before .before .before .before .before .before .before .before .pre .0, c .before .before .before .before .before .before .before .before .before .before .before .before .before .before .before .before .before .before .pre .1, c .before .before .before .before .before .before .before .before .before .before .before .before .before .before .before .before .before .before .pre .2)
+
+add-result-2 : tie.Need-add-result-2
+add-result-2 c = omega (arith, c .before .before .before .before .before .before .before .before .before .before .before .before .before .before .before .before .before .before .pre .0, c .before .before .before .before .before .before .before .before .before .before .before .before .before .before .before .before .before .before .pre .1, c .before .before .before .before .before .before .before .before .before .before .before .before .before .before .before .before .before .before .pre .2)
 
 returns-10 : tie.Need-returns-10
 unfolding shortWork
-returns-10 c = rw (le-ltb _ _ (c .before .before .before .before .before .before .before .before .before .before .before .before .before .before .before .before .before .before .if1 .left), le-ltb _ _ (c .before .before .before .before .before .before .before .before .before .before .before .before .before .before .before .before .if2 .left), le-ltb _ _ (c .before .before .before .before .before .before .before .before .before .before .before .before .before .before .if3 .left), le-ltb _ _ (c .before .before .before .before .before .before .before .before .before .before .before .before .if4 .left), le-ltb _ _ (c .before .before .before .before .before .before .before .before .before .before .if5 .left), le-ltb _ _ (c .before .before .before .before .before .before .before .before .if6 .left), le-ltb _ _ (c .before .before .before .before .before .before .if7 .left), le-ltb _ _ (c .before .before .before .before .if8 .left), le-ltb _ _ (c .before .before .if9 .left), lt-ltb _ _ (c .if10 .taken))
-
-mul-result : tie.Need-mul-result
-mul-result c = omega (arith, c .before .before .before .before .before .before .before .before .before .before .before .before .before .before .before .before .before .before .before .before .pre .0, c .before .before .before .before .before .before .before .before .before .before .before .before .before .before .before .before .before .before .before .before .pre .1, c .before .before .before .before .before .before .before .before .before .before .before .before .before .before .before .before .before .before .before .before .pre .2)
-
-mul-result-2 : tie.Need-mul-result-2
-mul-result-2 c = omega (arith, c .before .before .before .before .before .before .before .before .before .before .before .before .before .before .before .before .before .before .before .before .pre .0, c .before .before .before .before .before .before .before .before .before .before .before .before .before .before .before .before .before .before .before .before .pre .1, c .before .before .before .before .before .before .before .before .before .before .before .before .before .before .before .before .before .before .before .before .pre .2)
-
-add-result : tie.Need-add-result
-add-result c = omega (arith, c .before .before .before .before .before .before .before .before .before .before .before .before .before .before .before .before .before .before .before .before .pre .0, c .before .before .before .before .before .before .before .before .before .before .before .before .before .before .before .before .before .before .before .before .pre .1, c .before .before .before .before .before .before .before .before .before .before .before .before .before .before .before .before .before .before .before .before .pre .2)
-
-add-result-2 : tie.Need-add-result-2
-add-result-2 c = omega (arith, c .before .before .before .before .before .before .before .before .before .before .before .before .before .before .before .before .before .before .before .before .pre .0, c .before .before .before .before .before .before .before .before .before .before .before .before .before .before .before .before .before .before .before .before .pre .1, c .before .before .before .before .before .before .before .before .before .before .before .before .before .before .before .before .before .before .before .before .pre .2)
-
-returns-11 : tie.Need-returns-11
-unfolding shortWork
-returns-11 c = rw (le-ltb _ _ (c .before .before .before .before .before .before .before .before .before .before .before .before .before .before .before .before .before .before .before .if1 .left), le-ltb _ _ (c .before .before .before .before .before .before .before .before .before .before .before .before .before .before .before .before .before .if2 .left), le-ltb _ _ (c .before .before .before .before .before .before .before .before .before .before .before .before .before .before .before .if3 .left), le-ltb _ _ (c .before .before .before .before .before .before .before .before .before .before .before .before .before .if4 .left), le-ltb _ _ (c .before .before .before .before .before .before .before .before .before .before .before .if5 .left), le-ltb _ _ (c .before .before .before .before .before .before .before .before .before .if6 .left), le-ltb _ _ (c .before .before .before .before .before .before .before .if7 .left), le-ltb _ _ (c .before .before .before .before .before .if8 .left), le-ltb _ _ (c .before .before .before .if9 .left), le-ltb _ _ (c .before .if10 .left))
+returns-10 c = rw (le-ltb _ _ (c .before .before .before .before .before .before .before .before .before .before .before .before .before .before .before .before .before .if1 .left), le-ltb _ _ (c .before .before .before .before .before .before .before .before .before .before .before .before .before .before .before .if2 .left), le-ltb _ _ (c .before .before .before .before .before .before .before .before .before .before .before .before .before .if3 .left), le-ltb _ _ (c .before .before .before .before .before .before .before .before .before .before .before .if4 .left), le-ltb _ _ (c .before .before .before .before .before .before .before .before .before .if5 .left), le-ltb _ _ (c .before .before .before .before .before .before .before .if6 .left), le-ltb _ _ (c .before .before .before .before .before .if7 .left), le-ltb _ _ (c .before .before .before .if8 .left), le-ltb _ _ (c .before .if9 .left))
 
 pub short-work-spec : {M : Type 1} → statement M
 short-work-spec =
@@ -104,26 +106,27 @@ short-work-spec =
     mul-sorting
     add-sorting
     add-sorting-2
+    add-sorting-3
     mul-if1
     returns
     mul-if2
     returns-2
     mul-if3
+    mul-if3-2
+    add-if3
+    add-if3-2
     returns-3
-    mul-if4
-    add-if4
     returns-4
     returns-5
     returns-6
+    mul-if7
     returns-7
     mul-if8
     returns-8
     mul-if9
     returns-9
-    mul-if10
-    returns-10
     mul-result
     mul-result-2
     add-result
     add-result-2
-    returns-11)
+    returns-10)

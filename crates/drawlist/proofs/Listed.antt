@@ -1,0 +1,124 @@
+-- The text that comes of a call, from what the call, the parser and the printer promise.
+-- Assumes nothing.
+use mathlib.Core.Path.{_≡_, refl, sym, ap, _∙_, subst}
+use mathlib.Core.Bool.{Bool, true, false, cond}
+use mathlib.Core.List.{List, [], _∷_, _++_}
+use Prim.Native.Nat.{ℕ, _+_, _*_, _-_, _≤_}
+use native.Mathlib.Omega.{arith}
+use lib.IntN.{ℤ}
+use lib.ListN.{length, take, drop, length-append}
+use lib.Ieee.{Float}
+use Rattle.network.specs.declared.options.Options.{Options}
+use Rattle.layout.specs.declared.answer.Plot.{Plot}
+use Rattle.layout.specs.declared.answer.Answer.{Answer}
+use Rattle.layout.specs.declared.answer.Answer.the-variants.{Drawn, Refused}
+use Rattle.layout.specs.Network.{Network, network, Lists, lists, Work, Crossings}
+use Rattle.layout.specs.Answer.{Call, call, layoutOf}
+use Rattle.layout.proofs.Drawn.{pieces-fit}
+use Rattle.listing.specs.declared.input.Counts.{Counts}
+use Rattle.listing.specs.declared.input.Parsed.the-variants as Parsed
+use Rattle.listing.specs.Input.{Input, parsed, over}
+use Rattle.listing.specs.Places.{answer}
+use Rattle.listing.proofs.Laws.{take-over, parsed-shape, answered}
+use Rattle.listing.specs.Output.{listing, refusal}
+use Rattle.drawlist.specs.Output.{listOptions, resultLists, workLists, crossingLists, plotted, Plotted, Shown, textBy, textOf, networkOf, outputOf}
+
+pub plotted-by : (N : Network) (L : Lists) (a : Answer) (L' : Lists) (W' : Work) (X' : Crossings) (o : Options)
+    → o ≡ listOptions → call a L' W' X' ≡ layoutOf o N L workLists crossingLists → Plotted N L a L'
+unfolding plotted
+plotted-by N L a L' W' X' o e h =
+    let k : call a L' W' X' ≡ layoutOf listOptions N L workLists crossingLists = h ∙ ap (λ (p : Options). layoutOf p N L workLists crossingLists) e in
+    record { answerIs = ap (λ (c : Call). c .answer) k; listsAre = ap (λ (c : Call). c .lists) k }
+
+pub shown-by : (N : Network) (L : Lists) (a : Answer) (L' : Lists) → Plotted N L a L' → Shown N L a (L' .roles) (L' .pieces) (L' .branches)
+shown-by N L a L' P =
+    record {
+      answerIs = P .answerIs;
+      rolesAre = ap (λ (l : Lists). l .roles) (P .listsAre);
+      piecesAre = ap (λ (l : Lists). l .pieces) (P .listsAre);
+      branchesAre = ap (λ (l : Lists). l .branches) (P .listsAre);
+    }
+
+module _ (N : Network) (a : Answer) (r : List ℕ) (n : List Float) (b : List ℕ) (S : Shown N resultLists a r n b) where
+  pub text-drawn : (p : Plot) → a ≡ Drawn p → listing r n b (p .pieces) ≡ textOf N
+  unfolding textOf textBy
+  text-drawn p e = let k : plotted N resultLists .answer ≡ Drawn p = sym (S .answerIs) ∙ e in rw (k, S .rolesAre, S .piecesAre, S .branchesAre)
+
+  pub text-refused : (k : ℕ) → a ≡ Refused k → refusal k ≡ textOf N
+  unfolding textOf textBy
+  text-refused k e = let h : plotted N resultLists .answer ≡ Refused k = sym (S .answerIs) ∙ e in rw h
+
+  pub few-pieces : (p : Plot) → a ≡ Drawn p → p .pieces ≤ 192
+  unfolding plotted
+  few-pieces p e = pieces-fit listOptions N resultLists workLists crossingLists p (sym (S .answerIs) ∙ e) .1
+
+-- ---- from the parser
+
+same-network : {a a' b b' : List ℕ} {c c' d d' : List ℤ} {e e' : List ℕ} {f f' : List Float}
+    → a ≡ a' → b ≡ b' → c ≡ c' → d ≡ d' → e ≡ e' → f ≡ f' → network a b c d e f [] [] ≡ network a' b' c' d' e' f' [] []
+same-network p q r s t u = rw (p, q, r, s, t, u)
+
+-- the front of a list that a text's part was written over
+front : {A : Type 0} (n : ℕ) (new old list : List A) → n ≡ length new → list ≡ over new old → take n list ≡ new
+front n new old list e h = ap (λ (l : List _). take n l) h ∙ ap (λ (k : ℕ). take k (over new old)) e ∙ take-over new old
+
+pub output-drawn : (t : List ℕ) (n : Counts) (a a' b b' : List ℕ) (c c' d d' : List ℤ) (e e' : List ℕ) (f f' : List Float)
+    → answer (parsed t) ≡ Parsed.Network n
+    → a ≡ over (parsed t .buses .sub) a'
+    → b ≡ over (parsed t .buses .kv) b'
+    → c ≡ over (parsed t .branches .from) c'
+    → d ≡ over (parsed t .branches .to) d'
+    → e ≡ over (parsed t .branches .live) e'
+    → f ≡ over (parsed t .buses .xy) f'
+    → textOf (network (take (n .buses) a) (take (n .buses) b) (take (n .branches) c) (take (n .branches) d) (take (n .branches) e) (take (2 * n .buses) f) [] [])
+    ≡ outputOf t
+unfolding outputOf networkOf
+output-drawn t n a a' b b' c c' d d' e e' f f' h ha hb hc hd he hf =
+    let w = answered (parsed t) n h in
+    let s = parsed-shape t in
+    let k =
+    same-network
+    (front (n .buses) _ _ a (w .1) ha)
+    (front (n .buses) _ _ b (w .1 ∙ sym (s .0 .kvs)) hb)
+    (front (n .branches) _ _ c (w .2 ∙ sym (s .1 .froms)) hc)
+    (front (n .branches) _ _ d (w .2 ∙ sym (s .1 .tos)) hd)
+    (front (n .branches) _ _ e (w .2) he)
+    (front (2 * n .buses) _ _ f (ap (λ (x : ℕ). 2 * x) (w .1) ∙ sym (s .0 .xys)) hf)
+    in
+    ap textOf k ∙ rw (w .0)
+
+pub output-malformed : (t : List ℕ) → answer (parsed t) ≡ Parsed.Malformed → refusal 14 ≡ outputOf t
+unfolding outputOf answer
+output-malformed t h = malformed (parsed t .wellFormed) refl h
+  where
+    malformed : (b : Bool) → parsed t .wellFormed ≡ b → cond b (Parsed.Network (record { buses = length (parsed t .buses .sub); branches = length (parsed t .branches .live) })) Parsed.Malformed ≡ Parsed.Malformed
+        → refusal 14 ≡ cond (parsed t .wellFormed) (textOf (networkOf (parsed t))) (refusal 14)
+    malformed true e k = let z : _≡_ {A = ℕ} 0 1 = cc in absurd (omega arith)
+    malformed false e k = rw e
+
+-- as many buses and branches as the lists hold
+pub few-read : (t : List ℕ) (n : Counts) → answer (parsed t) ≡ Parsed.Network n → (n .buses ≤ 64) × (n .branches ≤ 64)
+few-read t n h =
+    let w = answered (parsed t) n h in
+    let s = parsed-shape t in
+    (omega (arith, w .1, s .0 .few), omega (arith, w .2, s .1 .few))
+
+-- A list keeps its length where what is written over it is no longer.
+pub written-fits : {A : Type 0} (new old list : List A) → list ≡ over new old → length list ≡ length old → length new ≤ length old
+unfolding over
+written-fits new old list e h =
+    let k : length list ≡ length new + length (drop (length new) old) = ap length e ∙ length-append new (drop (length new) old) in omega (arith, k, h)
+
+-- What is printed of one text is printed of an equal one.
+pub printed : (s t : List ℕ) (out behind : List ℕ) (r : ℕ)
+    → s ≡ t → r ≡ length s → behind ≡ over s out → (r ≡ length t) × (behind ≡ over t out)
+printed s t out behind r e h k = (h ∙ ap length e, k ∙ ap (λ (x : List ℕ). over x out) e)
+
+whole : {A : Type 0} (n : ℕ) (l : List A) → take (n - 0) (drop 0 l) ≡ take n l
+whole n l = let e : n - 0 ≡ n = omega arith in ap (λ (k : ℕ). take k l) e
+
+-- the parts from 0 on are the fronts
+pub fronts : (n m : ℕ) (a b : List ℕ) (c d : List ℤ) (e : List ℕ) (f : List Float)
+    → textOf (network (take (n - 0) (drop 0 a)) (take (n - 0) (drop 0 b)) (take (m - 0) (drop 0 c)) (take (m - 0) (drop 0 d)) (take (m - 0) (drop 0 e)) (take (2 * n - 0) (drop 0 f)) [] [])
+    ≡ textOf (network (take n a) (take n b) (take m c) (take m d) (take m e) (take (2 * n) f) [] [])
+fronts n m a b c d e f = ap textOf (same-network (whole n a) (whole n b) (whole m c) (whole m d) (whole m e) (whole (2 * n) f))

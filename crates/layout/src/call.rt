@@ -1,0 +1,173 @@
+// The public call.
+ghost use mathlib.Core.Path.{_≡_};
+ghost use Prim.Native.Nat.{min};
+ghost use Rattle.layout.specs.Network.{network, lists, work, crossings};
+ghost use Rattle.layout.specs.Answer.{call, layoutOf, crossingRoom};
+use crate::answer::Answer;
+use crate::chart::chart;
+use crate::clear::clear_crossings;
+use crate::clear::clear_work;
+use crate::finish::finish;
+use crate::refuse::refusal_of_input;
+use crate::room::Room;
+use network::options::Options;
+use network::words::station_count;
+
+// The lesser of two numbers.
+fn least(a: usize, b: usize) -> usize
+    ensures { λ r. ⌜ r ≡ min a b ⌝ }
+{
+    if a <= b { a } else { b }
+}
+
+// How many crossings the crossing list holds: as many as each of its six lists.
+fn crossing_room(room: Room) -> usize
+    ensures { λ r. ⌜ r ≡ crossingRoom room ⌝ }
+{
+    let sorts = least(room.sorted, least(room.spare, room.keys));
+    least(
+        room.numbers / 3,
+        least(room.crossings, least(room.ways / 2, sorts)),
+    )
+}
+
+// Draws the network into the lent lists.
+pub fn tx_schematic_layout(
+    o: Options,
+    sub: &[u32],
+    kv: &[u64],
+    from: &[i64],
+    to: &[i64],
+    service: &[u8],
+    xy: &[f64],
+    corners: &[u32],
+    twins: &[u32],
+    positions: &mut [f64],
+    bars: &mut [f64],
+    boxes: &mut [f64],
+    scales: &mut [f64],
+    roles: &mut [u8],
+    pieces: &mut [f64],
+    branches: &mut [u32],
+    stations: &mut [u32],
+    buses: &mut [u32],
+    ends: &mut [u32],
+    sorted: &mut [u32],
+    spare: &mut [u32],
+    keys: &mut [u64],
+    places: &mut [f64],
+    blocks: &mut [f64],
+    frames: &mut [f64],
+    path: &mut [f64],
+    crossing_numbers: &mut [u32],
+    crossing_places: &mut [f64],
+    crossing_ways: &mut [f64],
+) -> Answer
+    ensures { λ r. ⌜ call r
+        (lists (now (positions .exit)) (now (bars .exit)) (now (boxes .exit)) (now (scales .exit)) (now (roles .exit)) (now (pieces .exit)) (now (branches .exit)))
+        (work (now (stations .exit)) (now (buses .exit)) (now (ends .exit)) (now (sorted .exit)) (now (spare .exit)) (now (keys .exit)) (now (places .exit)) (now (blocks .exit)) (now (frames .exit)) (now (path .exit)))
+        (crossings (now («crossing_numbers» .exit)) (now («crossing_places» .exit)) (now («crossing_ways» .exit)))
+        ≡ layoutOf o
+        (network (now (sub .entry)) (now (kv .entry)) (now (from .entry)) (now (to .entry)) (now (service .entry)) (now (xy .entry)) (now (corners .entry)) (now (twins .entry)))
+        (lists (now (positions .entry)) (now (bars .entry)) (now (boxes .entry)) (now (scales .entry)) (now (roles .entry)) (now (pieces .entry)) (now (branches .entry)))
+        (work (now (stations .entry)) (now (buses .entry)) (now (ends .entry)) (now (sorted .entry)) (now (spare .entry)) (now (keys .entry)) (now (places .entry)) (now (blocks .entry)) (now (frames .entry)) (now (path .entry)))
+        (crossings (now («crossing_numbers» .entry)) (now («crossing_places» .entry)) (now («crossing_ways» .entry))) ⌝ }
+{
+    let room = Room {
+        positions: positions.len(),
+        bars: bars.len(),
+        boxes: boxes.len(),
+        scales: scales.len(),
+        roles: roles.len(),
+        pieces: pieces.len(),
+        branches: branches.len(),
+        stations: stations.len(),
+        buses: buses.len(),
+        ends: ends.len(),
+        sorted: sorted.len(),
+        spare: spare.len(),
+        keys: keys.len(),
+        places: places.len(),
+        blocks: blocks.len(),
+        frames: frames.len(),
+        path: path.len(),
+        numbers: crossing_numbers.len(),
+        crossings: crossing_places.len(),
+        ways: crossing_ways.len(),
+    };
+    let r = refusal_of_input(o, sub, kv, from, to, service, xy, corners, twins, room);
+    if r != 0 {
+        return Answer::Refused(r);
+    }
+    let k = station_count(sub);
+    let c = chart(
+        o,
+        sub,
+        kv,
+        from,
+        to,
+        service,
+        xy,
+        corners,
+        twins,
+        k,
+        crossing_room(room),
+        stations,
+        buses,
+        ends,
+        sorted,
+        spare,
+        keys,
+        places,
+        blocks,
+        frames,
+        path,
+        crossing_numbers,
+        crossing_places,
+        crossing_ways,
+    );
+    let a = finish(
+        o,
+        sub,
+        kv,
+        from,
+        to,
+        service,
+        xy,
+        corners,
+        twins,
+        k,
+        room,
+        c,
+        stations,
+        buses,
+        ends,
+        sorted,
+        blocks,
+        places,
+        frames,
+        path,
+        crossing_ways,
+        positions,
+        bars,
+        boxes,
+        scales,
+        roles,
+        pieces,
+        branches,
+    );
+    clear_work(
+        stations,
+        buses,
+        ends,
+        sorted,
+        spare,
+        keys,
+        places,
+        blocks,
+        frames,
+        path,
+    );
+    clear_crossings(crossing_numbers, crossing_places, crossing_ways);
+    a
+}

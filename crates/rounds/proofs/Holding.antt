@@ -1,0 +1,221 @@
+-- Lists that hold a routing, once its crossings are grouped, say of it what the rounds read. Assumes nothing.
+use mathlib.Core.Path.{_≡_, refl, sym, ap, _∙_, subst}
+use mathlib.Core.Bool.{Bool, true, false}
+use mathlib.Core.List.{List, map}
+use mathlib.Core.Option.{Option, none, some}
+use Prim.Native.Nat.{ℕ, suc, _+_, _-_, _*_, _≤_, _<_}
+use native.Mathlib.Omega.{arith}
+use native.Mathlib.Nat.{add-zero}
+use lib.Dec.{eqb}
+use lib.IntN.{ℤ}
+use lib.ListN.{length, getD, take, List·getD-map}
+use lib.Seq.{getD-take}
+use lib.Ieee.{Float, nan}
+use Rattle.order.specs.Table.{table, which, strided}
+use Rattle.order.proofs.Tables.{getD-table, length-table, which-ext}
+use Rattle.order.proofs.Strides.{getD-strided, getD-first}
+use Rattle.geometry.specs.declared.Point.{Point}
+use Rattle.geometry.specs.declared.Box.{Box}
+use Rattle.geometry.specs.Plane.{pointAt, boxAt}
+use Rattle.channel.specs.declared.Channel.{Channel}
+use Rattle.channel.specs.Channel.{channelOf}
+use Rattle.mesh.specs.Mesh.{next, endAt, lowAt, highAt, meshOk}
+use Rattle.mesh.proofs.Meshes.{Sound, mesh-sound, next-in}
+use Rattle.network.specs.declared.words.Kind.{Kind}
+use Rattle.network.specs.declared.words.Kind.the-variants.{Undrawn, Open, Internal, Line}
+use Rattle.network.specs.Words.{kindOf}
+use Rattle.network.specs.Views.{boxesIn}
+use Rattle.network.proofs.Views.{getD-boxes}
+use Rattle.placement.specs.Place.{boxIn, noBox}
+use Rattle.routing.specs.Route as Route
+use Rattle.routing.specs.Route.{Scene, Routing, Keyed, Crossing, Path, noChannel, noCrossing, noPath, routing, makeChannel, crossingAt, channelAt, pathAt, centreAt, stationAt, members}
+use Rattle.routing.specs.Views.{Grid, grid, gapOf, exitAt, lineBetween, lineFor, lineIn, linesIn, sceneIn, Edged, Stored}
+use Rattle.rounds.specs.Held.{Held, held, edgeIn, startIn, edgeHeld, startHeld, lowIn, highIn, stationIn, memberIn, rangeIn, Boxed, exitFrom, lineExit, exitFor, exitIn, Ready, Grouped, Entered}
+use Rattle.rounds.proofs.Routed.{Traced, routed}
+use Rattle.rounds.proofs.Meaning.{Means}
+
+-- one column of a list of c numbers each, by another list
+column : {A : Type 0} (f : A → ℕ) (d : A) (c o k : ℕ) (l : List ℕ) (bs : List A) → strided c o 0 k l ≡ map f bs → (i : ℕ) → i < k → getD l (c * i + o) 0 ≡ getD (map f bs) i 0
+column f d c o k l bs e i h = sym (getD-strided c o 0 k i l 0 h) ∙ ap (λ (t : List ℕ). getD t i 0) e
+
+module _ (sub : List ℕ) (from to : List ℤ) (service : List ℕ) (unit : Float) (ends : List ℕ) (blocks places frames : List Float) (k c : ℕ) (stations : List ℕ) (centres : List Float)
+    (corners twins numbers : List ℕ) (along : List Float) (ends′ numbers′ : List ℕ) where
+  abbrev pub G : Grid
+  G = grid sub from to service unit ends blocks places frames
+
+  abbrev pub S : Scene
+  S = sceneIn G k c stations centres corners twins
+
+  abbrev pub R : Routing
+  R = routing S
+
+  abbrev pub H : Held
+  H = held (grid sub from to service unit ends′ blocks places frames) centres corners numbers′
+
+  module _ (mesh : meshOk corners twins c ≡ true) (boxes : 4 * k ≤ length frames) (occupied : (v : ℕ) → v < c → stationIn stations v < k) (stored : Stored (length from) corners R ends numbers along)
+      (grouped : Grouped (length from) (length (R .channels)) (length (R .crossings)) ends numbers ends′ numbers′) where
+    -- ---- branches and paths
+    lines-long : length (S .lines) ≡ length from
+    unfolding sceneIn linesIn
+    lines-long = length-table (lineIn G) (length from)
+
+    line-at : (b : ℕ) → b < length from → getD (S .lines) b none ≡ lineIn G b
+    unfolding sceneIn linesIn
+    line-at b h = getD-table (lineIn G) (length from) b none h
+
+    all : Traced S (length (S .lines)) R
+    all = routed S
+
+    within : (x : ℕ) → x < length (R .crossings) → crossingAt S R x .branch < length from
+    within x h = let z = all .old x h .branch in omega (arith, lines-long)
+
+    first-at : (b : ℕ) → b < length from → getD ends′ (4 * b + 2) 0 ≡ pathAt S R b .first
+    first-at b h = column (λ (p : Path). p .first) noPath 4 2 (length from) ends′ (R .paths) (grouped .rows 2 (omega arith) (length from) ∙ stored .firsts) b h ∙ List·getD-map (λ (p : Path). p .first) (R .paths) b noPath
+
+    count-at : (b : ℕ) → b < length from → getD ends′ (4 * b + 3) 0 ≡ pathAt S R b .count
+    count-at b h = column (λ (p : Path). p .count) noPath 4 3 (length from) ends′ (R .paths) (grouped .counts ∙ stored .counts) b h ∙ List·getD-map (λ (p : Path). p .count) (R .paths) b noPath
+
+    row-at : (o : ℕ) → o < 3 → (b : ℕ) → b < length from → getD ends′ (4 * b + o) 0 ≡ getD ends (4 * b + o) 0
+    row-at o g b h = sym (getD-strided 4 o 0 (length from) b ends′ 0 h) ∙ ap (λ (t : List ℕ). getD t b 0) (grouped .rows o g (length from)) ∙ getD-strided 4 o 0 (length from) b ends 0 h
+
+    -- ---- exits
+    exit-kind : (second : Bool) (ra rb : ℕ) (K : Kind) → exitFor (H .grid) second ra rb K ≡ Route.exitOf S R second (lineFor G ra rb K)
+    unfolding exitFor lineExit lineFor lineBetween exitAt exitFrom Route.exitOf
+    exit-kind second ra rb Undrawn = refl
+    exit-kind second ra rb (Open a b) = refl
+    exit-kind second ra rb (Internal a b) = refl
+    exit-kind false ra rb (Line a b) = refl
+    exit-kind true ra rb (Line a b) = refl
+
+    exits-are : (second : Bool) (b : ℕ) → b < length from → exitIn (H .grid) second b ≡ Route.exitOf S R second (getD (S .lines) b none)
+    unfolding exitIn lineIn
+    exits-are second b h =
+        exit-kind second (getD ends′ (4 * b) 0) (getD ends′ (4 * b + 1) 0) (kindOf sub from to service b)
+        ∙ ap (λ (t : ℕ). Route.exitOf S R second (lineFor G t (getD ends′ (4 * b + 1) 0) (kindOf sub from to service b)))
+        (subst (λ (t : ℕ). getD ends′ t 0 ≡ getD ends t 0) (add-zero (4 * b)) (row-at 0 (omega arith) b h))
+        ∙ ap (λ (t : ℕ). Route.exitOf S R second (lineFor G (getD ends (4 * b) 0) t (kindOf sub from to service b))) (row-at 1 (omega arith) b h)
+        ∙ ap (Route.exitOf S R second) (sym (line-at b h))
+
+    -- ---- crossings
+    channel-is : (x : ℕ) → x < length (R .crossings) → getD numbers′ (3 * x) 0 ≡ crossingAt S R x .channel
+    channel-is x h =
+        sym (getD-first 3 0 (length (R .crossings)) x numbers′ 0 h)
+        ∙ ap (λ (t : List ℕ). getD t x 0) (grouped .sides 0 (omega arith) (length (R .crossings)) ∙ stored .channels)
+        ∙ List·getD-map (λ (q : Crossing). q .channel) (R .crossings) x noCrossing
+
+    branch-is : (x : ℕ) → x < length (R .crossings) → getD numbers′ (3 * x + 1) 0 ≡ crossingAt S R x .branch
+    branch-is x h =
+        column (λ (q : Crossing). q .branch) noCrossing 3 1 (length (R .crossings)) numbers′ (R .crossings) (grouped .sides 1 (omega arith) (length (R .crossings)) ∙ stored .branches) x h
+        ∙ List·getD-map (λ (q : Crossing). q .branch) (R .crossings) x noCrossing
+
+    stretch-is : (d : ℕ) → d < length (R .channels)
+        → table (λ i. memberIn numbers′ (startIn (length from) ends′ d + i)) (startIn (length from) ends′ (d + 1) - startIn (length from) ends′ d) ≡ members S R d
+    unfolding members
+    stretch-is d h =
+        grouped .members d h
+        ∙ which-ext (λ x. eqb (getD (strided 3 0 0 (length (R .crossings)) numbers) x 0) d) (λ x. eqb (crossingAt S R x .channel) d) (length (R .crossings))
+        (λ x g. ap (λ (t : ℕ). eqb t d) (ap (λ (t : List ℕ). getD t x 0) (stored .channels) ∙ List·getD-map (λ (q : Crossing). q .channel) (R .crossings) x noCrossing))
+
+    -- ---- channels
+    module _ (d : ℕ) (g : d < length (R .channels)) where
+      abbrev h : ℕ
+      h = edgeIn (length from) ends′ d
+
+      h-is : h ≡ getD ends (4 * (length from + d) + 2) 0
+      unfolding edgeIn
+      h-is =
+          let n = suc (length from + d) in
+          sym (getD-strided 4 2 0 n (length from + d) ends′ 0 (omega arith))
+          ∙ ap (λ (t : List ℕ). getD t (length from + d) 0) (grouped .rows 2 (omega arith) n)
+          ∙ getD-strided 4 2 0 n (length from + d) ends 0 (omega arith)
+
+      edged : Edged corners (channelAt S R d) h
+      edged = subst (Edged corners (channelAt S R d)) (sym h-is) (stored .edges d g)
+
+      low-below : lowAt corners h < c
+      unfolding lowAt
+      low-below = omega (arith, mesh-sound corners twins c mesh .below h (edged .inside))
+
+      high-below : highAt corners h < c
+      unfolding highAt endAt
+      high-below =
+          let sound = mesh-sound corners twins c mesh in
+          omega (arith, sound .below h (edged .inside), sound .below (next h) (next-in corners twins c sound h (edged .inside)))
+
+      centre-at : (v : ℕ) → v < c → pointAt centres v ≡ centreAt S v
+      unfolding sceneIn
+      centre-at v l =
+          let a : getD (take (2 * c) centres) (2 * v) nan ≡ getD centres (2 * v) nan = getD-take (2 * c) centres (2 * v) nan (omega arith) in
+          let b : getD (take (2 * c) centres) (2 * v + 1) nan ≡ getD centres (2 * v + 1) nan = getD-take (2 * c) centres (2 * v + 1) nan (omega arith) in
+          rw (a, b)
+
+      low-is : lowIn corners centres h ≡ centreAt S (channelAt S R d .low)
+      unfolding lowIn
+      low-is = centre-at (lowAt corners h) low-below ∙ ap (centreAt S) (edged .low)
+
+      high-is : highIn corners centres h ≡ centreAt S (channelAt S R d .high)
+      unfolding highIn
+      high-is = centre-at (highAt corners h) high-below ∙ ap (centreAt S) (edged .high)
+
+      -- ---- a corner's station, its box and scale
+      station-is : (v : ℕ) → v < c → stationIn stations v ≡ stationAt S v
+      unfolding stationIn sceneIn
+      station-is v l = sym (getD-strided 2 1 0 c v stations 0 l)
+
+      box-is : (s : ℕ) → s < k → boxAt frames s ≡ boxIn (S .boxes) s
+      unfolding sceneIn
+      box-is s l = sym (getD-boxes k s frames noBox l)
+
+      scale-is : (s : ℕ) → s < k → getD blocks (3 * s + 2) nan ≡ getD (S .scales) s nan
+      unfolding sceneIn
+      scale-is s l = sym (getD-strided 3 2 nan k s blocks nan l)
+
+      corner-is : (v w : ℕ) → v < c → v ≡ w → (boxAt frames (stationIn stations v) ≡ boxIn (S .boxes) (stationAt S w)) × (getD blocks (3 * stationIn stations v + 2) nan ≡ getD (S .scales) (stationAt S w) nan)
+      corner-is v w l e =
+          let s : stationIn stations v ≡ stationAt S w = station-is v l ∙ ap (stationAt S) e in
+          let b = occupied v l in
+          (box-is (stationIn stations v) b ∙ ap (boxIn (S .boxes)) s, scale-is (stationIn stations v) b ∙ ap (λ (t : ℕ). getD (S .scales) t nan) s)
+
+      range-by : (a b : ℕ) → a ≡ channelAt S R d .low → b ≡ channelAt S R d .high → makeChannel S a b .range ≡ channelAt S R d .range
+      range-by a b p q = rw (p, q) (ap (λ (t : Keyed). t .range) (sym (all .made .each d g)))
+
+      gap-is : gapOf unit ≡ S .gap
+      unfolding sceneIn
+      gap-is = refl
+
+      range-is : rangeIn unit blocks frames stations centres corners h ≡ channelAt S R d .range
+      unfolding rangeIn makeChannel
+      range-is =
+          let l = corner-is (lowAt corners h) (lowAt corners h) low-below refl in
+          let u = corner-is (highAt corners h) (highAt corners h) high-below refl in
+          let p : lowIn corners centres h ≡ centreAt S (lowAt corners h) = low-is ∙ ap (centreAt S) (sym (edged .low)) in
+          let q : highIn corners centres h ≡ centreAt S (highAt corners h) = high-is ∙ ap (centreAt S) (sym (edged .high)) in
+          rw (p, q, l .0, u .0, l .1, u .1, gap-is) (range-by (lowAt corners h) (highAt corners h) (edged .low) (edged .high))
+
+      boxed-is : Boxed frames stations corners h
+      boxed-is =
+          record {
+            low = let z = occupied (lowAt corners h) low-below in omega arith;
+            high = let z = occupied (highAt corners h) high-below in omega arith;
+          }
+
+    -- ---- together
+    pub means : Means S R stations H
+    means =
+        record {
+          channel = channel-is;
+          branch = branch-is;
+          known = λ x h. all .numbered x (omega arith);
+          step = λ x h. rw (first-at (crossingAt S R x .branch) (within x h)) (all .old x h .step);
+          count = λ x h. count-at (crossingAt S R x .branch) (within x h);
+          inside =
+              λ x h. rw (first-at (crossingAt S R x .branch) (within x h)) (all .inside (crossingAt S R x .branch) (let z = within x h in omega (arith, lines-long)));
+          exits = λ x h second. exits-are second (crossingAt S R x .branch) (within x h);
+          low = low-is;
+          high = high-is;
+          range = range-is;
+          stretch = stretch-is;
+        }
+
+    pub ready : Ready stations H (length (R .channels)) (length (R .crossings))
+    ready = record { rising = grouped .rising; within = grouped .within; boxed = boxed-is }

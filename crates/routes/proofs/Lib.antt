@@ -1,0 +1,4 @@
+-- Laws of routing.
+mod Few
+mod Leading
+mod Scenes

@@ -1,0 +1,189 @@
+// Lines routed through the mesh: refusals 9 and 10, crossings, rounds, waypoints.
+ghost use mathlib.Core.Path.{_≡_};
+ghost use Prim.Native.Nat.{ℕ, _+_, _*_, _≤_, _<_, min};
+ghost use lib.ListN.{length};
+ghost use Rattle.mesh.specs.Mesh.{meshOk};
+ghost use Rattle.network.specs.Views.{orderIn};
+ghost use Rattle.routing.specs.Store.{Rising};
+ghost use Rattle.routing.specs.Views.{grid, sceneIn};
+ghost use Rattle.rounds.specs.Held.{stationIn};
+ghost use Rattle.routes.specs.Routes.{meshUsed, Routes};
+ghost use Rattle.routes.specs.Led.{Led};
+use mesh::mesh_ok;
+use rounds::space_all_rounds;
+use routing::corners::occupied_corners;
+use routing::routes::clear_paths;
+use routing::routes::trace_all;
+
+// A late refusal, 9 or 10, else 0, and whether all crossing places are finite.
+pub struct Found {
+    pub late: u32,
+    pub finite: bool,
+}
+
+// Whether the mesh is looked at.
+fn mesh_used(stations: usize, iterations: u32) -> bool
+    ensures { λ r. ⌜ r ≡ meshUsed stations iterations ⌝ }
+{
+    if stations < 3 {
+        return false;
+    }
+    0 < iterations
+}
+
+// Routes the lines through the mesh over the c occupied stations, whose places are at the front of path.
+fn route_used(
+    iterations: u32,
+    room: usize,
+    sub: &[u32],
+    from: &[i64],
+    to: &[i64],
+    service: &[u8],
+    corners: &[u32],
+    twins: &[u32],
+    unit: f64,
+    k: usize,
+    c: usize,
+    stations: &[u32],
+    ends: &mut [u32],
+    sorted: &mut [u32],
+    spare: &mut [u32],
+    keys: &mut [u64],
+    blocks: &[f64],
+    places: &[f64],
+    frames: &[f64],
+    path: &[f64],
+    numbers: &mut [u32],
+    along: &mut [f64],
+    ways: &mut [f64],
+) -> Found
+    requires { ⌜ (length (now from) ≤ 8192) × (c ≤ 4096) × (4 * k ≤ length (now frames)) × (2 * c ≤ length (now path)) ⌝ }
+    requires { ⌜ (3 * room ≤ length (now numbers)) × (room ≤ length (now along)) × (2 * room ≤ length (now ways)) × (room ≤ length (now sorted)) × (room ≤ length (now spare)) × (room ≤ length (now keys)) ⌝ }
+    requires { ⌜ (4 * length (now from) + 4 * min (length (now corners)) 24576 + 4 ≤ length (now ends)) × (min (length (now corners)) 24576 ≤ length (now sorted)) × (min (length (now corners)) 24576 ≤ length (now spare)) × (min (length (now corners)) 24576 ≤ length (now keys)) ⌝ }
+    requires { ⌜ Rising (orderIn c (now stations)) ⌝ }
+    requires { ⌜ ((v : ℕ) → v < c → stationIn (now stations) v < k) ⌝ }
+    ensures { λ r. ⌜ Led (sceneIn (grid (now (sub .entry)) (now (from .entry)) (now (to .entry)) (now (service .entry)) unit (now (ends .entry)) (now (blocks .entry)) (now (places .entry)) (now (frames .entry))) k c (now (stations .entry)) (now (path .entry)) (now (corners .entry)) (now (twins .entry))) (length (now (from .entry))) (now (corners .entry)) (now (ends .entry)) (meshOk (now (corners .entry)) (now (twins .entry)) c) iterations room (r .late) (r .finite) (now (ends .exit)) (now (ways .exit)) ⌝ }
+{
+    if !mesh_ok(corners, twins, c) {
+        return Found {
+            late: 9,
+            finite: true,
+        };
+    }
+    let t = trace_all(
+        sub,
+        from,
+        to,
+        service,
+        corners,
+        twins,
+        c,
+        stations,
+        path,
+        room,
+        keys,
+        sorted,
+        spare,
+        ends,
+        numbers,
+        along,
+    );
+    if t.full {
+        return Found {
+            late: 10,
+            finite: true,
+        };
+    }
+    let finite = space_all_rounds(
+        sub,
+        from,
+        to,
+        service,
+        unit,
+        ends,
+        blocks,
+        places,
+        frames,
+        k,
+        c,
+        stations,
+        path,
+        corners,
+        twins,
+        t.channels,
+        t.crossings,
+        iterations,
+        numbers,
+        along,
+        ways,
+        sorted,
+        spare,
+        keys,
+    );
+    Found { late: 0, finite }
+}
+
+// Routes the lines of the network through the mesh, where the crossing list holds `room` crossings.
+pub fn route_lines(
+    iterations: u32,
+    room: usize,
+    sub: &[u32],
+    from: &[i64],
+    to: &[i64],
+    service: &[u8],
+    corners: &[u32],
+    twins: &[u32],
+    unit: f64,
+    k: usize,
+    stations: &mut [u32],
+    ends: &mut [u32],
+    sorted: &mut [u32],
+    spare: &mut [u32],
+    keys: &mut [u64],
+    blocks: &[f64],
+    places: &[f64],
+    frames: &[f64],
+    path: &mut [f64],
+    numbers: &mut [u32],
+    along: &mut [f64],
+    ways: &mut [f64],
+) -> Found
+    requires { ⌜ (length (now from) ≤ 8192) × (k ≤ 4096) × (2 * k ≤ length (now stations)) × (2 * k ≤ length (now places)) × (4 * k ≤ length (now frames)) × (2 * k ≤ length (now path)) ⌝ }
+    requires { ⌜ (3 * room ≤ length (now numbers)) × (room ≤ length (now along)) × (2 * room ≤ length (now ways)) × (room ≤ length (now sorted)) × (room ≤ length (now spare)) × (room ≤ length (now keys)) ⌝ }
+    requires { ⌜ (4 * length (now from) + 4 * min (length (now corners)) 24576 + 4 ≤ length (now ends)) × (min (length (now corners)) 24576 ≤ length (now sorted)) × (min (length (now corners)) 24576 ≤ length (now spare)) × (min (length (now corners)) 24576 ≤ length (now keys)) ⌝ }
+    ensures { λ r. ⌜ Routes (grid (now (sub .entry)) (now (from .entry)) (now (to .entry)) (now (service .entry)) unit (now (ends .entry)) (now (blocks .entry)) (now (places .entry)) (now (frames .entry))) k (now (stations .entry)) (now (corners .entry)) (now (twins .entry)) iterations room (r .late) (r .finite) (now (stations .exit)) (now (ends .exit)) (now (ways .exit)) ⌝ }
+{
+    let c = occupied_corners(k, stations, places, path);
+    if !mesh_used(c, iterations) {
+        clear_paths(from.len(), ends);
+        return Found {
+            late: 0,
+            finite: true,
+        };
+    }
+    route_used(
+        iterations,
+        room,
+        sub,
+        from,
+        to,
+        service,
+        corners,
+        twins,
+        unit,
+        k,
+        c,
+        stations,
+        ends,
+        sorted,
+        spare,
+        keys,
+        blocks,
+        places,
+        frames,
+        path,
+        numbers,
+        along,
+        ways,
+    )
+}

@@ -1,0 +1,4 @@
+pub mod Route
+pub mod Views
+pub mod Store
+pub mod Cases
