@@ -1,0 +1,103 @@
+-- Refusals 1 to 7 by their tests, and what they promise where none applies. Assumes nothing.
+use mathlib.Core.Path.{_≡_, refl, sym, ap, _∙_}
+use mathlib.Core.Bool.{Bool, true, false, not, _||_, true≢false}
+use mathlib.Core.List.{List}
+use Prim.Native.Nat.{ℕ, zero, suc, _*_, _≤_}
+use native.Mathlib.Omega.{arith}
+use lib.Dec.{eqb}
+use lib.IntN.{ℤ}
+use lib.ListN.{length}
+use borrow.Author.Tests.{ltb-false, ne-eqb}
+use Rattle.network.specs.Words.{stationCount}
+use Rattle.network.specs.Refusal.{tooMany, kvUnlike, toUnlike, numberTooHigh, refuse, shapeRefusal, tooFar}
+use Rattle.audit.specs.declared.room.Room.{Room}
+use Rattle.audit.specs.Drawn.{Drawn}
+use Rattle.audit.specs.Answer.{tooShort, early}
+
+module _ (D : Drawn) (R : Room) where
+  abbrev shape : ℕ
+  shape = shapeRefusal (D .station) (D .kv) (D .from) (D .to)
+
+  abbrev short : Bool
+  short = tooShort (length (D .station)) (stationCount (D .station)) (length (D .branches)) R
+
+  pub by-shape : (r : ℕ) → r ≡ shape → (r ≡ 0 → ⊥) → r ≡ early D R
+  unfolding early
+  by-shape r e h = rw (sym e, ne-eqb r 0 h)
+
+  module _ (s : 0 ≡ shape) where
+    pub by-distance : true ≡ tooFar (length (D .station)) (D .xy) → 6 ≡ early D R
+    unfolding early
+    by-distance h = rw (sym s, sym h)
+
+    module _ (f : false ≡ tooFar (length (D .station)) (D .xy)) (k : ℕ) (e : k ≡ stationCount (D .station)) where
+      pub by-room : true ≡ tooShort (length (D .station)) k (length (D .branches)) R → 7 ≡ early D R
+      unfolding early
+      by-room h = rw (sym s, sym f, sym e, sym h)
+
+      pub by-none : false ≡ tooShort (length (D .station)) k (length (D .branches)) R → 0 ≡ early D R
+      unfolding early
+      by-none h = rw (sym s, sym f, sym e, sym h)
+
+-- ---- what they promise
+
+neither : (a b : Bool) → (a || b) ≡ false → (a ≡ false) × (b ≡ false)
+neither true b h = absurd (true≢false h)
+neither false b h = (refl, h)
+
+none-of : (a b c d : Bool) → 0 ≡ refuse a 1 (refuse b 2 (refuse c 3 (refuse d 4 0))) → (a ≡ false) × (d ≡ false)
+none-of true b c d h = absurd (omega (arith, h))
+none-of false true c d h = absurd (omega (arith, h))
+none-of false false true d h = absurd (omega (arith, h))
+none-of false false false true h = absurd (omega (arith, h))
+none-of false false false false h = (refl, refl)
+
+-- at most 4,096 buses, and no station number at or past their count
+pub shape-fits : (sub kv : List ℕ) (from to : List ℤ) → 0 ≡ shapeRefusal sub kv from to → (length sub ≤ 4096) × (stationCount sub ≤ length sub)
+unfolding shapeRefusal
+shape-fits sub kv from to h =
+    let z = none-of (tooMany sub from) (kvUnlike sub kv) (toUnlike from to) (numberTooHigh sub) h in
+    let m = neither _ _ (z .0) in
+    (ltb-false _ _ (m .0), ltb-false _ _ (z .1))
+
+passes : (s : ℕ) (b c : Bool) → 0 ≡ refuse (not (eqb s 0)) s (refuse b 6 (refuse c 7 0)) → (0 ≡ s) × (c ≡ false)
+passes zero true c h = absurd (omega (arith, h))
+passes zero false true h = absurd (omega (arith, h))
+passes zero false false h = (refl, refl)
+passes (suc s) b c h =
+    let n : eqb (suc s) 0 ≡ false = ne-eqb (suc s) 0 (λ e. omega (arith, e)) in
+    absurd (omega (arith, h ∙ ap (λ (x : Bool). refuse (not x) (suc s) (refuse b 6 (refuse c 7 0))) n))
+
+pub record Passed (D : Drawn) (R : Room) : Type 0 where
+  pub few : length (D .station) ≤ 4096
+  pub below : stationCount (D .station) ≤ length (D .station)
+  pub displacement : stationCount (D .station) ≤ R .displacement
+  pub spacing : stationCount (D .station) ≤ R .spacing
+  pub relative : length (D .branches) ≤ R .relative
+  pub stations : 2 * length (D .station) ≤ R .stations
+  pub hits : length (D .station) ≤ R .hits
+  pub points : 2 * length (D .station) ≤ R .points
+  pub path : 2 * length (D .station) ≤ R .path
+
+pub passed-of : (D : Drawn) (R : Room) → 0 ≡ early D R → Passed D R
+unfolding early tooShort
+passed-of D R h =
+    let z = passes (shape D R) (tooFar (length (D .station)) (D .xy)) (short D R) h in
+    let s = shape-fits _ _ _ _ (z .0) in
+    let a = neither _ _ (z .1) in
+    let b = neither _ _ (a .1) in
+    let c = neither _ _ (b .1) in
+    let d = neither _ _ (c .1) in
+    let e = neither _ _ (d .1) in
+    let f = neither _ _ (e .1) in
+    record {
+      few = s .0;
+      below = s .1;
+      displacement = ltb-false _ _ (a .0);
+      spacing = ltb-false _ _ (b .0);
+      relative = ltb-false _ _ (c .0);
+      stations = ltb-false _ _ (d .0);
+      hits = ltb-false _ _ (e .0);
+      points = ltb-false _ _ (f .0);
+      path = ltb-false _ _ (f .1);
+    }

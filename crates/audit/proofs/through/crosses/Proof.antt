@@ -1,0 +1,50 @@
+-- `audit::through::crosses` meets its contract. Assumes nothing.
+use Rattle.audit.proofs.Crossing.{crosses-by}
+use borrow.Author.Needs.{needs}
+use Rattle.audit.proofs.through.crosses.Statement.{statement}
+use Rattle.audit.proofs.through.crosses.Tie as tie
+
+piece-start-requires : tie.Need-piece-start-requires
+piece-start-requires c κs = search needs
+
+piece-end-requires : tie.Need-piece-end-requires
+piece-end-requires c κs = search needs
+
+end-at-requires : tie.Need-end-at-requires
+end-at-requires c κs = search needs
+
+station-at-requires : tie.Need-station-at-requires
+station-at-requires c κs = search needs
+
+end-at-requires-2 : tie.Need-end-at-requires-2
+end-at-requires-2 c κs = search needs
+
+station-at-requires-2 : tie.Need-station-at-requires-2
+station-at-requires-2 c κs = search needs
+
+first-hit-requires : tie.Need-first-hit-requires
+first-hit-requires c κs = search needs
+
+is-hit-requires : tie.Need-is-hit-requires
+is-hit-requires c κs = search needs
+
+same-length : tie.Need-same-length
+same-length c = search needs
+
+returns : tie.Need-returns
+returns c = crosses-by _ _ _ _ _ _ _ _ _ _ _ _ _ _ _ _ _ (c .before .before .before .before .before .before .before .before .before .before .piece-start .ensures) (c .before .before .before .before .before .before .before .before .before .piece-end .ensures) (c .before .before .before .before .before .before .before .before .end-at .ensures) (c .before .before .before .before .before .before .before .station-at .ensures) (c .before .before .before .before .before .before .end-at2 .ensures) (c .before .before .before .before .before .station-at2 .ensures) (c .before .before .before .first-hit .ensures) (c .is-hit .ensures)
+
+pub crosses-spec : {M : Type 1} → statement M
+crosses-spec =
+    tie.close
+    (tie.spec
+    piece-start-requires
+    piece-end-requires
+    end-at-requires
+    station-at-requires
+    end-at-requires-2
+    station-at-requires-2
+    first-hit-requires
+    is-hit-requires
+    same-length
+    returns)

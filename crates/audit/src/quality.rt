@@ -1,0 +1,67 @@
+// The public call.
+ghost use mathlib.Core.Path.{_≡_};
+ghost use Rattle.audit.specs.Drawn.{drawn, lists, work};
+ghost use Rattle.audit.specs.Answer.{call, auditOf};
+use crate::answer::Audit;
+use crate::clear::clear_work;
+use crate::inside::audited;
+use crate::refuse::refusal_of_input;
+use crate::room::Room;
+
+// Audits a drawing: the figures of each station and line in the result lists, the others in the answer.
+pub fn tx_layout_quality(
+    sub: &[u32],
+    kv: &[u64],
+    from: &[i64],
+    to: &[i64],
+    xy: &[f64],
+    boxes: &[f64],
+    roles: &[u8],
+    pieces: &[f64],
+    branches: &[u32],
+    displacement: &mut [f64],
+    spacing: &mut [f64],
+    relative: &mut [f64],
+    stations: &mut [u32],
+    hits: &mut [u32],
+    points: &mut [f64],
+    path: &mut [f64],
+) -> Audit
+    ensures { λ r. ⌜ call r (lists (now (displacement .exit)) (now (spacing .exit)) (now (relative .exit))) (work (now (stations .exit)) (now (hits .exit)) (now (points .exit)) (now (path .exit)))
+        ≡ auditOf (drawn (now (sub .entry)) (now (kv .entry)) (now (from .entry)) (now (to .entry)) (now (xy .entry)) (now (boxes .entry)) (now (roles .entry)) (now (pieces .entry)) (now (branches .entry)))
+        (lists (now (displacement .entry)) (now (spacing .entry)) (now (relative .entry))) (work (now (stations .entry)) (now (hits .entry)) (now (points .entry)) (now (path .entry))) ⌝ }
+{
+    let room = Room {
+        displacement: displacement.len(),
+        spacing: spacing.len(),
+        relative: relative.len(),
+        stations: stations.len(),
+        hits: hits.len(),
+        points: points.len(),
+        path: path.len(),
+    };
+    let r = refusal_of_input(sub, kv, from, to, xy, boxes, roles, pieces, branches, room);
+    if r != 0 {
+        return Audit::Refused(r);
+    }
+    let a = audited(
+        sub,
+        kv,
+        from,
+        to,
+        xy,
+        boxes,
+        roles,
+        pieces,
+        branches,
+        displacement,
+        spacing,
+        relative,
+        stations,
+        hits,
+        points,
+        path,
+    );
+    clear_work(stations, hits, points, path);
+    a
+}

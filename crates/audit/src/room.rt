@@ -1,0 +1,10 @@
+// The lengths of the lent lists.
+pub struct Room {
+    pub displacement: usize,
+    pub spacing: usize,
+    pub relative: usize,
+    pub stations: usize,
+    pub hits: usize,
+    pub points: usize,
+    pub path: usize,
+}

@@ -1,0 +1,107 @@
+-- Displacement and spacing station by station, and the middles of all boxes. Assumes nothing.
+use mathlib.Core.Path.{_≡_, refl, sym, ap, _∙_}
+use mathlib.Core.List.{List, [], _∷_, _++_}
+use Prim.Native.Nat.{ℕ, suc, _+_, _*_, _≤_, _<_}
+use native.Mathlib.Omega.{arith}
+use native.Mathlib.Numerals.{add-one}
+use lib.ListN.{length, getD, take}
+use lib.Ieee.{Float}
+use Rattle.float.specs.Ops.{_⊘_}
+use Rattle.geometry.specs.declared.Point.{Point}
+use Rattle.geometry.specs.declared.Box.{Box}
+use Rattle.geometry.specs.Plane.{pointAt, boxAt, origin}
+use Rattle.neighbours.specs.Near.{distance, nearest}
+use Rattle.network.specs.Words.{occupied}
+use Rattle.network.specs.Seed.{placeAt}
+use Rattle.network.specs.Views.{countsIn, pointsIn, boxesIn}
+use Rattle.network.proofs.Views.{putPoint, points-zero, points-push, getD-points, getD-boxes, boxes-suc, boxes-zero}
+use Rattle.units.specs.Unit.{coordinates}
+use Rattle.units.proofs.Near.{nearest-take}
+use Rattle.placement.specs.Place.{noBox, boxIn}
+use Rattle.placement.proofs.Rest.{onward, onward-yes, onward-end}
+use Rattle.figures.specs.Figure.{middle, middles, displacements, shorter, spacingsFrom, spacings}
+use Rattle.figures.proofs.Front.{Front, front-count}
+
+-- ---- what is left of a list over the occupied stations
+module _ (k : ℕ) (st : List ℕ) (boxes seeds : List Float) where
+  abbrev pub displaced : List ℕ → List Float
+  displaced ss = displacements (pointsIn k seeds) (boxesIn k boxes) ss
+
+  pub displaced-yes : (s : ℕ) (p q : Point) (b : Box) (v : Float) → s < k → 0 < getD st (2 * s) 0 → p ≡ pointAt seeds s → b ≡ boxAt boxes s → q ≡ middle b → v ≡ distance p q
+      → displaced (onward k st s) ≡ v ∷ displaced (onward k st (s + 1))
+  unfolding displacements
+  displaced-yes s p q b v h o e f g d =
+      let x : v ≡ distance (placeAt (pointsIn k seeds) s) (middle (boxIn (boxesIn k boxes) s)) =
+      d ∙ ap (λ (y : Point). distance y q) (e ∙ sym (getD-points k s seeds origin h))
+      ∙ ap (distance (placeAt (pointsIn k seeds) s)) (g ∙ ap middle (f ∙ sym (getD-boxes k s boxes noBox h))) in
+      ap displaced (onward-yes k st s h o) ∙ ap (λ (y : Float). y ∷ displaced (onward k st (s + 1))) (sym x)
+
+  pub displaced-end : (s : ℕ) → k ≤ s → displaced (onward k st s) ≡ []
+  unfolding displacements
+  displaced-end s h = ap displaced (onward-end k st s h)
+
+module _ (k : ℕ) (st : List ℕ) (boxes path : List Float) (n : ℕ) where
+  abbrev pub spaced : ℕ → List ℕ → List Float
+  spaced c ss = spacingsFrom path n (boxesIn k boxes) c ss
+
+  pub spaced-yes : (s c : ℕ) (b : Box) (d w : Float) → s < k → 0 < getD st (2 * s) 0 → d ≡ nearest path n c → b ≡ boxAt boxes s → w ≡ shorter b
+      → spaced c (onward k st s) ≡ (d ⊘ w) ∷ spaced (c + 1) (onward k st (s + 1))
+  unfolding spacingsFrom
+  spaced-yes s c b d w h o e f g =
+      let x : w ≡ shorter (boxIn (boxesIn k boxes) s) = g ∙ ap shorter (f ∙ sym (getD-boxes k s boxes noBox h)) in
+      ap (spaced c) (onward-yes k st s h o)
+      ∙ ap (λ (y : Float). y ⊘ shorter (boxIn (boxesIn k boxes) s) ∷ spaced (suc c) (onward k st (s + 1))) (sym e)
+      ∙ ap (λ (y : Float). d ⊘ y ∷ spaced (suc c) (onward k st (s + 1))) (sym x)
+      ∙ ap (λ (i : ℕ). d ⊘ w ∷ spaced i (onward k st (s + 1))) (sym (add-one c))
+
+  pub spaced-end : (s c : ℕ) → k ≤ s → spaced c (onward k st s) ≡ []
+  unfolding spacingsFrom
+  spaced-end s c h = ap (spaced c) (onward-end k st s h)
+
+length-spaced : (ps : List Float) (n : ℕ) (bs : List Box) (i : ℕ) (ss : List ℕ) → length (spacingsFrom ps n bs i ss) ≡ length ss
+unfolding spacingsFrom
+length-spaced ps n bs i [] = refl
+length-spaced ps n bs i (s ∷ ss) = ap suc (length-spaced ps n bs (suc i) ss)
+
+pub spaced-below : (k : ℕ) (st : List ℕ) (boxes path : List Float) (n s c : ℕ) (old l : List Float) → n ≡ length (occupied (countsIn k st)) → s < k → 0 < getD st (2 * s) 0
+    → Front (spaced k st boxes path n 0 (occupied (countsIn k st))) (spaced k st boxes path n c (onward k st s)) old l c → c < n
+spaced-below k st boxes path n s c old l e h o f =
+    let a : length (onward k st s) ≡ suc (length (onward k st (s + 1))) = ap length (onward-yes k st s h o) in
+    omega (arith, a, e, front-count _ _ _ _ _ f, length-spaced path n (boxesIn k boxes) c (onward k st s), length-spaced path n (boxesIn k boxes) 0 (occupied (countsIn k st)))
+
+-- only the first n points count
+from-front : (path : List Float) (n : ℕ) (bs : List Box) (i : ℕ) (ss : List ℕ) → i + length ss ≤ n → spacingsFrom path n bs i ss ≡ spacingsFrom (take (2 * n) path) n bs i ss
+unfolding spacingsFrom
+from-front path n bs i [] h = refl
+from-front path n bs i (s ∷ ss) h =
+    let g : i < n = omega arith in
+    let j : suc i + length ss ≤ n = omega arith in
+    ap (λ (d : Float). d ⊘ shorter (boxIn bs s) ∷ spacingsFrom path n bs (suc i) ss) (sym (nearest-take path n i g))
+    ∙ ap (λ (l : List Float). nearest (take (2 * n) path) n i ⊘ shorter (boxIn bs s) ∷ l) (from-front path n bs (suc i) ss j)
+
+pub spacings-is : (path : List Float) (n : ℕ) (bs : List Box) (ss : List ℕ) (ps : List Point) → n ≡ length ss → ps ≡ middles bs → take (2 * n) path ≡ coordinates ps ss
+    → spacingsFrom path n bs 0 ss ≡ spacings bs ss
+unfolding spacings
+spacings-is path n bs ss ps e m t =
+    from-front path n bs 0 ss (omega (arith, e))
+    ∙ ap (λ (l : List Float). spacingsFrom l n bs 0 ss) (t ∙ ap (λ (x : List Point). coordinates x ss) m)
+    ∙ ap (λ (k : ℕ). spacingsFrom (coordinates (middles bs) ss) k bs 0 ss) e
+
+-- ---- the middles of the first s boxes
+pub middles-none : (boxes points : List Float) → pointsIn 0 points ≡ middles (boxesIn 0 boxes)
+unfolding middles
+middles-none boxes points = points-zero points ∙ sym (ap middles (boxes-zero boxes))
+
+middles-append : (bs : List Box) (b : Box) → middles (bs ++ (b ∷ [])) ≡ middles bs ++ (middle b ∷ [])
+unfolding middles
+middles-append [] b = refl
+middles-append (x ∷ bs) b = ap (λ (l : List Point). middle x ∷ l) (middles-append bs b)
+
+pub middles-more : (boxes points after : List Float) (s : ℕ) (b : Box) (c : Point) → 2 * s + 1 < length points → b ≡ boxAt boxes s → c ≡ middle b
+    → after ≡ putPoint points s (c .x) (c .y) → pointsIn s points ≡ middles (boxesIn s boxes) → pointsIn (s + 1) after ≡ middles (boxesIn (s + 1) boxes)
+middles-more boxes points after s b c h e f g i =
+    rw (add-one s)
+    (ap (pointsIn (suc s)) g ∙ points-push s points (c .x) (c .y) h
+    ∙ ap (λ (l : List Point). l ++ (c ∷ [])) i
+    ∙ ap (λ (x : Point). middles (boxesIn s boxes) ++ (x ∷ [])) (f ∙ ap middle e)
+    ∙ sym (ap middles (boxes-suc s boxes) ∙ middles-append (boxesIn s boxes) (boxAt boxes s)))
