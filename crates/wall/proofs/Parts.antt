@@ -1,0 +1,165 @@
+-- The parts of the lists after a call that draws. Assumes nothing.
+use Prim.Native.Nat.{ℕ, _*_, _<_}
+use mathlib.Core.Path.{_≡_, refl, sym, ap, subst, _∙_}
+use mathlib.Core.List.{List, [], _∷_, _++_, map}
+use native.Mathlib.Omega.{arith}
+use lib.ListN.{length, getD, take, drop, List·getD-map}
+use lib.Seq.{take-append-seam}
+use lib.Ieee.{Float, nan}
+use Rattle.float.specs.Ops.{f0, f1, _⊗_}
+use Rattle.order.specs.Table.{table}
+use Rattle.order.proofs.Tables.{length-table, getD-table}
+use Rattle.geometry.specs.declared.Point.{Point}
+use Rattle.geometry.specs.declared.Box.{Box}
+use Rattle.geometry.specs.Plane.{point, boxAt}
+use Rattle.network.specs.declared.options.Options.{Options}
+use Rattle.network.specs.Words.{stationOf, stationCount, busesIn, busCounts}
+use Rattle.network.specs.Seed as Seed
+use Rattle.network.specs.Views.{boxesIn}
+use Rattle.network.proofs.Stations.{station-below}
+use Rattle.stations.specs.Row.{rowsIn}
+use Rattle.units.specs.Size as Sizes
+use Rattle.units.specs.Size.{Size, sizeAt, sizeFor}
+use Rattle.units.specs.Scale as Scale
+use Rattle.placement.specs.Place.{Frame, frames, frameFor, frameAt, boxes, boxIn}
+use Rattle.bars.specs.declared.Bar.{Bar}
+use Rattle.bars.specs.Bar.{position, barAt, blockAt, rowEnd, rowY}
+use Rattle.runs.specs.Run.{Piece}
+use Rattle.runs.specs.Lists.{flat, pointNumbers, boxNumbers, barNumbers, pieceNumbers, over, after}
+use Rattle.figures.proofs.Reading.{boxes-read}
+use Rattle.layout.specs.declared.answer.Plot.{Plot}
+use Rattle.layout.specs.declared.answer.Answer.the-variants.{Drawn}
+use Rattle.layout.specs.Network.{Network, Lists, Work, Crossings}
+use Rattle.layout.specs.Drawing.{drawing}
+use Rattle.layout.specs.Answer.{listsOf, listsAfter, layoutOf}
+use Rattle.wall.specs.Wall.{allKinds, rowCount, positionIn, rowEndIn, frameIn, piecesIn}
+use Rattle.wall.proofs.Reading.{flat-length, read-position, read-bar, read-box, read-one, read-pieces}
+use Rattle.wall.proofs.Opened.{counts, seeds, sizes, gap, unit, scales, fs, end, blocks, unit-is, scales-is, boxes-is, bars-length, slotAt}
+use Rattle.wall.proofs.Call.{plot-is, lists-are}
+
+pub counts-length : (N : Network) → length (busCounts (N .station)) ≡ stationCount (N .station)
+unfolding busCounts
+counts-length N = length-table _ (stationCount (N .station))
+
+pub seeds-length : (N : Network) → length (busCounts (N .station)) ≡ length (Seed.seeds (N .station) (N .xy))
+unfolding Seed.seeds
+seeds-length N = counts-length N ∙ sym (length-table _ (stationCount (N .station)))
+
+module _ (o : Options) (N : Network) (L : Lists) (W : Work) (X : Crossings) (p : Plot) (drawn : layoutOf o N L W X .answer ≡ Drawn p) where
+  abbrev exit : Lists
+  exit = layoutOf o N L W X .lists
+
+  abbrev k : ℕ
+  k = stationCount (N .station)
+
+  unit-of : p .unit ≡ unit o N
+  unit-of = ap (λ (q : Plot). q .unit) (plot-is o N L W X p drawn) ∙ unit-is o N
+
+  pieces-of : p .pieces ≡ length (drawing o N .pieces)
+  pieces-of = ap (λ (q : Plot). q .pieces) (plot-is o N L W X p drawn)
+
+  -- ---- each list begins with the drawing's numbers
+  positions-are : exit .positions
+      ≡ flat (λ (b : Bar). pointNumbers (position b)) (drawing o N .bars)
+      ++ drop (length (flat (λ (b : Bar). pointNumbers (position b)) (drawing o N .bars))) (L .positions)
+  unfolding listsAfter listsOf after over
+  positions-are = ap (λ (l : Lists). l .positions) (lists-are o N L W X p drawn)
+
+  bars-are : exit .bars ≡ flat barNumbers (drawing o N .bars) ++ drop (length (flat barNumbers (drawing o N .bars))) (L .bars)
+  unfolding listsAfter listsOf after over
+  bars-are = ap (λ (l : Lists). l .bars) (lists-are o N L W X p drawn)
+
+  boxes-are : exit .boxes ≡ flat boxNumbers (drawing o N .boxes) ++ drop (length (flat boxNumbers (drawing o N .boxes))) (L .boxes)
+  unfolding listsAfter listsOf after over
+  boxes-are = ap (λ (l : Lists). l .boxes) (lists-are o N L W X p drawn)
+
+  scales-are : exit .scales ≡ drawing o N .scales ++ drop (length (drawing o N .scales)) (L .scales)
+  unfolding listsAfter listsOf after over
+  scales-are = ap (λ (l : Lists). l .scales) (lists-are o N L W X p drawn)
+
+  pieces-are : exit .pieces ≡ flat pieceNumbers (drawing o N .pieces) ++ drop (length (flat pieceNumbers (drawing o N .pieces))) (L .pieces)
+  unfolding listsAfter listsOf after over
+  pieces-are = ap (λ (l : Lists). l .pieces) (lists-are o N L W X p drawn)
+
+  branches-are : exit .branches
+      ≡ map (λ (q : Piece). q .branch) (drawing o N .pieces) ++ drop (length (map (λ (q : Piece). q .branch) (drawing o N .pieces))) (L .branches)
+  unfolding listsAfter listsOf after over
+  branches-are = ap (λ (l : Lists). l .branches) (lists-are o N L W X p drawn)
+
+  -- ---- what they hold
+  pub held-pieces : piecesIn exit (p .pieces) ≡ drawing o N .pieces
+  held-pieces = ap (piecesIn exit) pieces-of ∙ read-pieces (drawing o N .pieces) _ _ exit pieces-are branches-are
+
+  pub held-position : (i : ℕ) → i < length (N .station) → positionIn exit i ≡ position (barAt (drawing o N .bars) i)
+  held-position i h =
+      ap (λ (l : List Float). Rattle.geometry.specs.Plane.pointAt l i) positions-are
+      ∙ read-position (drawing o N .bars) _ i (subst (λ (n : ℕ). i < n) (sym (bars-length o N)) h)
+
+  boxes-length : length (drawing o N .boxes) ≡ k
+  unfolding boxes
+  boxes-length = ap (λ (l : List Box). length l) (boxes-is o N) ∙ length-table _ (length (counts o N)) ∙ counts-length N
+
+  pub held-box : (s : ℕ) → s < k → boxAt (exit .boxes) s ≡ boxIn (drawing o N .boxes) s
+  held-box s h =
+      ap (λ (l : List Float). boxAt l s) boxes-are ∙ read-box (drawing o N .boxes) _ s (subst (λ (n : ℕ). s < n) (sym boxes-length) h)
+
+  -- the box list that an audit is handed
+  pub held-boxes : boxesIn k (take (4 * k) (exit .boxes)) ≡ boxes (fs o N) (counts o N) (end o N)
+  held-boxes =
+      let bs = drawing o N .boxes in
+      let e : 4 * k ≡ length (flat boxNumbers bs) = ap (λ (n : ℕ). 4 * n) (sym boxes-length) ∙ sym (flat-length boxNumbers 4 (λ x. refl) bs) in
+      ap (λ (l : List Float). boxesIn k (take (4 * k) l)) boxes-are
+      ∙ ap (λ (n : ℕ). boxesIn k (take n (flat boxNumbers bs ++ drop (length (flat boxNumbers bs)) (L .boxes)))) e
+      ∙ ap (boxesIn k) (take-append-seam (flat boxNumbers bs) (drop (length (flat boxNumbers bs)) (L .boxes)))
+      ∙ ap (boxesIn k) (sym (mathlib.Core.List.append-nil (flat boxNumbers bs)))
+      ∙ ap (λ (n : ℕ). boxesIn n (flat boxNumbers bs ++ [])) (sym boxes-length)
+      ∙ boxes-read bs [] ∙ boxes-is o N
+
+  scales-length : length (scales o N) ≡ k
+  unfolding Scale.scales Scale.scalesOf
+  scales-length = length-table _ (length (counts o N)) ∙ counts-length N
+
+  held-scale : (s : ℕ) → s < k → getD (exit .scales) s nan ≡ getD (scales o N) s f1
+  held-scale s h =
+      ap (λ (l : List Float). getD l s nan) scales-are
+      ∙ read-one (drawing o N .scales) _ s nan f1 (subst (λ (l : List Float). s < length l) (sym (scales-is o N)) (subst (λ (n : ℕ). s < n) (sym scales-length) h))
+      ∙ ap (λ (l : List Float). getD l s f1) (scales-is o N)
+
+  sizes-length : length (sizes o N) ≡ k
+  unfolding Sizes.sizes
+  sizes-length = length-table _ (length (counts o N)) ∙ counts-length N
+
+  frame-at : (s : ℕ) → s < k → frameAt (fs o N) s ≡ frameFor (unit o N) (getD (scales o N) s f1) (sizeAt (sizes o N) s)
+  unfolding frames
+  frame-at s h = getD-table _ (length (sizes o N)) s _ (subst (λ (n : ℕ). s < n) (sym sizes-length) h)
+
+  size-at : (s : ℕ) → s < k → sizeAt (sizes o N) s ≡ sizeFor (busesIn (N .station) s) (rowCount N s)
+  unfolding Sizes.sizes busCounts
+  size-at s h =
+      getD-table _ (length (counts o N)) s _ (subst (λ (n : ℕ). s < n) (sym (counts-length N)) h)
+      ∙ ap (λ (c : ℕ). sizeFor c (rowCount N s)) (getD-table (busesIn (N .station)) k s 0 h)
+
+  pub held-frame : (s : ℕ) → s < k → frameAt (fs o N) s ≡ frameIn N p exit s
+  unfolding frameIn
+  held-frame s h =
+      frame-at s h ∙ ap (frameFor (unit o N) (getD (scales o N) s f1)) (size-at s h)
+      ∙ ap (λ (x : Float). frameFor (unit o N) x (sizeFor (busesIn (N .station) s) (rowCount N s))) (sym (held-scale s h))
+      ∙ ap (λ (u : Float). frameFor u (getD (exit .scales) s nan) (sizeFor (busesIn (N .station) s) (rowCount N s))) (sym unit-of)
+
+  block-at : (s : ℕ) → s < k → blockAt (blocks o N) s ≡ p .unit ⊗ getD (exit .scales) s nan
+  unfolding frameIn frameFor
+  block-at s h = List·getD-map (λ (r : Frame). r .f) (fs o N) s _ ∙ ap (λ (r : Frame). r .f) (held-frame s h)
+
+  bar-at : (i : ℕ) → i < length (N .station) → getD (exit .bars) (4 * i) nan ≡ barAt (drawing o N .bars) i .x
+  bar-at i h =
+      ap (λ (l : List Float). getD l (4 * i) nan) bars-are
+      ∙ read-bar (drawing o N .bars) _ i (subst (λ (n : ℕ). i < n) (sym (bars-length o N)) h)
+
+  pub held-end : (i r : ℕ) → i < length (N .station) → rowEndIn N p exit i r ≡ slotAt o N i r
+  unfolding rowEndIn rowEnd
+  held-end i r h =
+      let s = stationOf (N .station) i in
+      let l : stationOf (N .station) i < k = station-below (N .station) i h in
+      ap (λ (x : Float). point x (rowY (boxAt (exit .boxes) s) (p .unit ⊗ getD (exit .scales) s nan) r)) (bar-at i h)
+      ∙ ap (λ (b : Box). point (barAt (drawing o N .bars) i .x) (rowY b (p .unit ⊗ getD (exit .scales) s nan) r)) (held-box s l)
+      ∙ ap (λ (f : Float). point (barAt (drawing o N .bars) i .x) (rowY (boxIn (drawing o N .boxes) s) f r)) (sym (block-at s l))

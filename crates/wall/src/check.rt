@@ -1,0 +1,168 @@
+// A drawing and the audit of it in one call.
+ghost use mathlib.Core.Path.{_≡_};
+ghost use Prim.Native.Nat.{_*_, _≤_, min};
+ghost use lib.ListN.{length};
+ghost use Rattle.layout.specs.Network.{network, lists, work, crossings};
+ghost use Rattle.audit.specs.Drawn as Lent;
+ghost use Rattle.audit.specs.Answer as Audited;
+ghost use Rattle.wall.specs.Wall.{auditParts};
+ghost use Rattle.wall.specs.Claim.{both, Claim};
+use audit::answer::Audit;
+use audit::quality::tx_layout_quality;
+use layout::answer::Answer;
+use layout::call::tx_schematic_layout;
+use network::options::Options;
+use network::words::station_count;
+
+// The lesser of two lengths.
+fn shorter(n: usize, len: usize) -> usize
+    ensures { λ r. ⌜ r ≡ min n len ⌝ }
+{
+    if n < len { n } else { len }
+}
+
+// Audits the parts of the lists that a drawing of `count` pieces fills.
+pub fn audit_drawing(
+    sub: &[u32],
+    kv: &[u64],
+    from: &[i64],
+    to: &[i64],
+    xy: &[f64],
+    boxes: &[f64],
+    roles: &[u8],
+    pieces: &[f64],
+    branches: &[u32],
+    count: usize,
+    displacement: &mut [f64],
+    spacing: &mut [f64],
+    relative: &mut [f64],
+    stations: &mut [u32],
+    hits: &mut [u32],
+    points: &mut [f64],
+    path: &mut [f64],
+) -> Audit
+    requires { ⌜ (4 * count ≤ length (now pieces)) × (count ≤ length (now branches)) ⌝ }
+    ensures { λ r. ⌜ Audited.call r (Lent.lists (now (displacement .exit)) (now (spacing .exit)) (now (relative .exit))) (Lent.work (now (stations .exit)) (now (hits .exit)) (now (points .exit)) (now (path .exit)))
+        ≡ Audited.auditOf (auditParts (now (sub .entry)) (now (kv .entry)) (now (from .entry)) (now (to .entry)) (now (xy .entry)) (now (boxes .entry)) (now (roles .entry)) (now (pieces .entry)) (now (branches .entry)) count)
+        (Lent.lists (now (displacement .entry)) (now (spacing .entry)) (now (relative .entry))) (Lent.work (now (stations .entry)) (now (hits .entry)) (now (points .entry)) (now (path .entry))) ⌝ }
+{
+    let k = station_count(sub);
+    let b = shorter(4 * k, boxes.len());
+    let m = shorter(from.len(), roles.len());
+    tx_layout_quality(
+        sub,
+        kv,
+        from,
+        to,
+        xy,
+        &boxes[0..b],
+        &roles[0..m],
+        &pieces[0..4 * count],
+        &branches[0..count],
+        displacement,
+        spacing,
+        relative,
+        stations,
+        hits,
+        points,
+        path,
+    )
+}
+
+// Draws the network into the lent lists and audits the drawing as it stands there: the audit's answer, or layout's refusal.
+// The audit's numbers of each station and line go into `blocks`, `frames` and `crossing_ways`.
+pub fn draw_and_audit(
+    o: Options,
+    sub: &[u32],
+    kv: &[u64],
+    from: &[i64],
+    to: &[i64],
+    service: &[u8],
+    xy: &[f64],
+    corners: &[u32],
+    twins: &[u32],
+    positions: &mut [f64],
+    bars: &mut [f64],
+    boxes: &mut [f64],
+    scales: &mut [f64],
+    roles: &mut [u8],
+    pieces: &mut [f64],
+    branches: &mut [u32],
+    stations: &mut [u32],
+    buses: &mut [u32],
+    ends: &mut [u32],
+    sorted: &mut [u32],
+    spare: &mut [u32],
+    keys: &mut [u64],
+    places: &mut [f64],
+    blocks: &mut [f64],
+    frames: &mut [f64],
+    path: &mut [f64],
+    crossing_numbers: &mut [u32],
+    crossing_places: &mut [f64],
+    crossing_ways: &mut [f64],
+) -> Audit
+    ensures { λ r. ⌜ Claim o
+        (network (now (sub .entry)) (now (kv .entry)) (now (from .entry)) (now (to .entry)) (now (service .entry)) (now (xy .entry)) (now (corners .entry)) (now (twins .entry)))
+        (lists (now (positions .entry)) (now (bars .entry)) (now (boxes .entry)) (now (scales .entry)) (now (roles .entry)) (now (pieces .entry)) (now (branches .entry)))
+        (work (now (stations .entry)) (now (buses .entry)) (now (ends .entry)) (now (sorted .entry)) (now (spare .entry)) (now (keys .entry)) (now (places .entry)) (now (blocks .entry)) (now (frames .entry)) (now (path .entry)))
+        (crossings (now («crossing_numbers» .entry)) (now («crossing_places» .entry)) (now («crossing_ways» .entry)))
+        (both r
+        (lists (now (positions .exit)) (now (bars .exit)) (now (boxes .exit)) (now (scales .exit)) (now (roles .exit)) (now (pieces .exit)) (now (branches .exit)))
+        (work (now (stations .exit)) (now (buses .exit)) (now (ends .exit)) (now (sorted .exit)) (now (spare .exit)) (now (keys .exit)) (now (places .exit)) (now (blocks .exit)) (now (frames .exit)) (now (path .exit)))
+        (crossings (now («crossing_numbers» .exit)) (now («crossing_places» .exit)) (now («crossing_ways» .exit)))) ⌝ }
+{
+    let a = tx_schematic_layout(
+        o,
+        sub,
+        kv,
+        from,
+        to,
+        service,
+        xy,
+        corners,
+        twins,
+        positions,
+        bars,
+        boxes,
+        scales,
+        roles,
+        pieces,
+        branches,
+        stations,
+        buses,
+        ends,
+        sorted,
+        spare,
+        keys,
+        places,
+        blocks,
+        frames,
+        path,
+        crossing_numbers,
+        crossing_places,
+        crossing_ways,
+    );
+    match a {
+        Answer::Drawn(p) => audit_drawing(
+            sub,
+            kv,
+            from,
+            to,
+            xy,
+            boxes,
+            roles,
+            pieces,
+            branches,
+            p.pieces,
+            blocks,
+            frames,
+            crossing_ways,
+            stations,
+            sorted,
+            places,
+            path,
+        ),
+        Answer::Refused(r) => Audit::Refused(r),
+    }
+}

@@ -1,0 +1,2 @@
+// A drawing and the audit of it.
+pub mod check;
