@@ -1,22 +1,29 @@
-//! Measures exported functions beside plain Rust ones, in one run on the same numbers. Best of several rounds.
+//! Measures exported functions beside the original's and plain Rust ones: one process, the same inputs, by turns, in processor time.
+//! The original is unchanged, with the platform's `hypot`; a mesh is handed in to both.
+#[path = "../../target/reference/original.rs"]
+mod tx_schematic;
+
+#[path = "../ours/library.rs"]
+mod library;
+#[path = "../oracle/mesh.rs"]
+mod mesh;
+#[path = "../oracle/network.rs"]
+mod network;
+#[path = "../oracle/random.rs"]
+mod random;
+
+mod calls;
+mod networks;
+
+/// Stress seeding waits (01), so it is left out here.
+mod stress {
+    pub fn sparse_stress(_: usize, _: &[(usize, usize)]) -> Vec<(f64, f64)> {
+        panic!("stress seeding is left out")
+    }
+}
+
 use std::hint::black_box;
 use std::time::Instant;
-
-#[link(name = "exports", kind = "static")]
-extern "C" {
-    fn tansygate_hypot(x: f64, y: f64) -> f64;
-    fn tansygate_nearest(points: *const f64, points_len: usize, out: *mut f64, out_len: usize) -> usize;
-}
-
-fn hypot(x: f64, y: f64) -> f64 {
-    // SAFETY: takes and returns numbers only.
-    unsafe { tansygate_hypot(x, y) }
-}
-
-fn nearest(points: &[f64], out: &mut [f64]) -> usize {
-    // SAFETY: both lists are lent with their own lengths.
-    unsafe { tansygate_nearest(points.as_ptr(), points.len(), out.as_mut_ptr(), out.len()) }
-}
 
 /// The nearest distances by a plain loop that compares squared distances.
 fn plain(points: &[f64], out: &mut [f64]) {
@@ -35,46 +42,85 @@ fn plain(points: &[f64], out: &mut [f64]) {
     }
 }
 
-/// xorshift, so that runs repeat.
-fn numbers(count: usize, size: f64) -> Vec<f64> {
-    let mut s = 0x9E37_79B9_7F4A_7C15u64;
-    (0..count)
-        .map(|_| {
-            s ^= s << 13;
-            s ^= s >> 7;
-            s ^= s << 17;
-            ((s >> 11) as f64 / (1u64 << 53) as f64 - 0.5) * size
-        })
-        .collect()
+/// Takes a result, so that it has to be computed.
+pub fn keep<T>(result: T) {
+    black_box(result);
 }
 
-fn best(rounds: usize, mut f: impl FnMut()) -> f64 {
-    (0..rounds)
-        .map(|_| {
-            let t = Instant::now();
-            f();
-            t.elapsed().as_secs_f64()
-        })
-        .fold(f64::INFINITY, f64::min)
+/// This thread's processor time in seconds: what else runs on the machine does not count.
+fn processor_time() -> f64 {
+    #[repr(C)]
+    struct Time {
+        seconds: i64,
+        nanoseconds: i64,
+    }
+    extern "C" {
+        fn clock_gettime(clock: i32, time: *mut Time) -> i32;
+    }
+    const THREAD: i32 = 3;
+    let mut t = Time { seconds: 0, nanoseconds: 0 };
+    // SAFETY: the time is lent as the C library lays it out on 64-bit Linux.
+    unsafe { clock_gettime(THREAD, &mut t) };
+    t.seconds as f64 + t.nanoseconds as f64 * 1e-9
 }
 
-fn main() {
-    let xs = numbers(200_000, 1e4);
+fn seconds(f: &mut dyn FnMut()) -> f64 {
+    let start = processor_time();
+    f();
+    processor_time() - start
+}
+
+fn median(mut list: Vec<f64>) -> f64 {
+    list.sort_by(f64::total_cmp);
+    list[list.len() / 2]
+}
+
+/// Medians of both, run by turns for some two seconds and at least five times each.
+fn by_turns(ours: &mut dyn FnMut(), theirs: &mut dyn FnMut()) -> (f64, f64) {
+    let (mut a, mut b) = (Vec::new(), Vec::new());
+    seconds(ours);
+    seconds(theirs);
+    let start = Instant::now();
+    while a.len() < 5 || a.len() < 2001 && start.elapsed().as_secs_f64() < 2.0 {
+        a.push(seconds(ours));
+        b.push(seconds(theirs));
+    }
+    (median(a), median(b))
+}
+
+fn shown(what: &str, (ours, theirs): (f64, f64)) {
+    println!("| {what} | {:.3} | {:.3} | {:.2} |", ours * 1e3, theirs * 1e3, ours / theirs);
+}
+
+fn small() {
+    let xs = networks::numbers(200_000, 1e4);
     let sum = |h: &dyn Fn(f64, f64) -> f64| xs.chunks(2).map(|p| h(p[0], p[1])).sum::<f64>();
-    let calls = (xs.len() / 2) as f64;
-    let ours = best(20, || {
-        black_box(sum(&|x, y| hypot(x, y)));
-    });
-    let platform = best(20, || {
-        black_box(sum(&|x, y| x.hypot(y)));
-    });
-    println!("hypot: {:.1} ns a call, the platform's {:.1} ns", ours / calls * 1e9, platform / calls * 1e9);
+    let both = by_turns(
+        &mut || keep(sum(&|x, y| library::hypot(x, y))),
+        &mut || keep(sum(&|x, y| x.hypot(y))),
+    );
+    shown("`hypot`, 100,000 pairs, beside the platform's", both);
+    let points = networks::numbers(2 * 4096, 1e6);
+    let (mut out, mut other) = (vec![0.0; 4096], vec![0.0; 4096]);
+    let both = by_turns(
+        &mut || keep(library::nearest(black_box(&points), &mut out)),
+        &mut || plain(black_box(&points), black_box(&mut other)),
+    );
+    shown("nearest of 4,096 points, beside a plain Rust loop", both);
+}
 
-    let points = numbers(2 * 4096, 1e6);
-    let mut out = vec![0.0; 4096];
-    let ours = best(7, || {
-        black_box(nearest(black_box(&points), &mut out));
-    });
-    let rust = best(7, || plain(black_box(&points), &mut out));
-    println!("nearest of 4,096 points: {:.1} ms, a plain Rust loop {:.1} ms, ratio {:.2}", ours * 1e3, rust * 1e3, ours / rust);
+/// All of it, or with words `layout` or `audit`, stations, branches, iterations and rounds only our call, so many times (to profile).
+fn main() {
+    let words: Vec<String> = std::env::args().skip(1).collect();
+    if let [call, numbers @ ..] = &words[..] {
+        let numbers: Vec<usize> = numbers.iter().map(|w| w.parse().expect("a number")).collect();
+        return calls::repeat(call == "audit", numbers[0], numbers[1], numbers[2] as i64, numbers[3]);
+    }
+    println!("| what | ours, ms | original, ms | ratio |\n|---|---|---|---|");
+    for (stations, branches) in [(40, 60), (400, 600), (4096, 8192)] {
+        for iterations in [0, 10] {
+            calls::measure(stations, branches, iterations);
+        }
+    }
+    small();
 }

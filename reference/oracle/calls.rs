@@ -14,6 +14,7 @@ pub struct Call {
     pub lent: Lent,
 }
 
+#[derive(Clone)]
 pub struct AuditCall {
     pub net: Network,
     pub drawing: Drawing,
@@ -151,9 +152,17 @@ fn lent(r: &mut Random, call: &Call) -> Lent {
 }
 
 pub fn layout_call(seed: u64, case: u64, most: usize) -> Call {
+    layout_call_with(seed, case, most, false)
+}
+
+/// Where `straight`, iterations in range become 0.
+pub fn layout_call_with(seed: u64, case: u64, most: usize, straight: bool) -> Call {
     let mut r = Random::new(seed, case);
     let net = network(&mut r, most);
-    let options = options(&mut r);
+    let mut options = options(&mut r);
+    if straight && (0..=100).contains(&options.iterations) {
+        options.iterations = 0;
+    }
     let mesh = meshed(&mut r, &net, &options);
     let mut call = Call { net, options, mesh, lent: Lent::ample() };
     call.lent = lent(&mut r, &call);

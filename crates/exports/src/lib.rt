@@ -1,4 +1,8 @@
 // Functions for C and Rust: numbers pass as themselves, a list as a pointer and a length.
+pub mod auditing;
+pub mod drawing;
+pub mod plain;
+
 ghost use mathlib.Core.Path.{_≡_};
 ghost use mathlib.Core.List.{_++_};
 ghost use Prim.Native.Nat.{_*_, _/_, _≤_, min};

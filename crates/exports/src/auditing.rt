@@ -1,0 +1,57 @@
+// The audit call.
+ghost use mathlib.Core.Path.{_≡_};
+ghost use Rattle.audit.specs.Drawn.{drawn, lists, work};
+ghost use Rattle.audit.specs.Answer.{auditOf};
+ghost use Rattle.exports.specs.Plain.{judged, plainAudit};
+use crate::plain::Audited;
+use crate::plain::audit_numbers;
+use audit::quality::tx_layout_quality;
+
+// Audits a drawing: the figures of each station and line in the result lists, the others in the answer.
+#[no_mangle]
+pub extern "C" fn tansygate_audit(
+    sub: &[u32],
+    kv: &[u64],
+    from: &[i64],
+    to: &[i64],
+    xy: &[f64],
+    boxes: &[f64],
+    roles: &[u8],
+    pieces: &[f64],
+    branches: &[u32],
+    displacement: &mut [f64],
+    spacing: &mut [f64],
+    relative: &mut [f64],
+    stations: &mut [u32],
+    hits: &mut [u32],
+    points: &mut [f64],
+    path: &mut [f64],
+) -> Audited
+    ensures { λ r. ⌜ judged r
+        (lists (now (displacement .exit)) (now (spacing .exit)) (now (relative .exit)))
+        (work (now (stations .exit)) (now (hits .exit)) (now (points .exit)) (now (path .exit)))
+        ≡ plainAudit (auditOf
+        (drawn (now (sub .entry)) (now (kv .entry)) (now (from .entry)) (now (to .entry)) (now (xy .entry)) (now (boxes .entry)) (now (roles .entry)) (now (pieces .entry)) (now (branches .entry)))
+        (lists (now (displacement .entry)) (now (spacing .entry)) (now (relative .entry)))
+        (work (now (stations .entry)) (now (hits .entry)) (now (points .entry)) (now (path .entry)))) ⌝ }
+{
+    let a = tx_layout_quality(
+        sub,
+        kv,
+        from,
+        to,
+        xy,
+        boxes,
+        roles,
+        pieces,
+        branches,
+        displacement,
+        spacing,
+        relative,
+        stations,
+        hits,
+        points,
+        path,
+    );
+    audit_numbers(a)
+}

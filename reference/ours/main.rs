@@ -1,0 +1,249 @@
+//! Runs our calls and the oracle's on generated inputs and compares answers, lists, and what stands past and in work lists.
+#[path = "../../target/reference/tx_schematic.rs"]
+mod tx_schematic;
+
+#[path = "../oracle/audit.rs"]
+mod audit;
+#[path = "../oracle/calls.rs"]
+mod calls;
+#[path = "../oracle/hypot.rs"]
+mod hypot;
+#[path = "../oracle/layout.rs"]
+mod layout;
+#[path = "../oracle/mesh.rs"]
+mod mesh;
+#[path = "../oracle/neighbours.rs"]
+mod neighbours;
+#[path = "../oracle/network.rs"]
+mod network;
+#[path = "../oracle/random.rs"]
+mod random;
+#[path = "../oracle/request.rs"]
+mod request;
+#[path = "../oracle/witness.rs"]
+mod witness;
+#[path = "../oracle/words.rs"]
+mod words;
+
+mod audits;
+mod layouts;
+mod library;
+mod lists;
+
+/// Stress seeding waits (01), so it is left out here.
+mod stress {
+    pub fn sparse_stress(_: usize, _: &[(usize, usize)]) -> Vec<(f64, f64)> {
+        panic!("stress seeding is left out")
+    }
+}
+
+use calls::{audit_call, layout_call_with, AuditCall, Call};
+use std::collections::BTreeMap;
+use std::sync::mpsc::{channel, RecvTimeoutError};
+use std::thread;
+use std::time::Duration;
+
+/// A case on which the original runs longer is left out and counted.
+const PATIENCE: Duration = Duration::from_secs(60);
+
+const USAGE: &str = "usage: compare layout SEED COUNT BUSES [straight]
+       compare audit SEED COUNT BUSES
+  straight   every call with 0 iterations";
+
+/// One kind of call: how a case arises, what the oracle answers, and what is wrong with ours.
+trait Compared: Clone + Send + 'static {
+    type Want: Send + 'static;
+    fn case(seed: u64, case: u64, most: usize, straight: bool) -> Self;
+    fn want(&self, salt: u64) -> Self::Want;
+    fn number(want: &Self::Want) -> u32;
+    fn wrong(&self, want: &Self::Want, salt: u64) -> Vec<String>;
+    fn size(&self) -> usize;
+    fn shown(&self) -> String;
+    /// The call with its branch e left out, or with its last bus.
+    fn without_branch(&self, e: usize) -> Option<Self>;
+    fn without_bus(&self) -> Option<Self>;
+}
+
+fn network_without_branch(net: &network::Network, e: usize) -> Option<network::Network> {
+    let mut less = net.clone();
+    (e < net.from.len() && net.to.len() == net.from.len()).then(|| {
+        less.from.remove(e);
+        less.to.remove(e);
+        if e < less.live.len() {
+            less.live.remove(e);
+        }
+        less
+    })
+}
+
+fn network_without_bus(net: &network::Network) -> Option<network::Network> {
+    let n = net.sub.len();
+    (n > 0).then(|| {
+        let mut less = net.clone();
+        less.sub.truncate(n - 1);
+        less.kv.truncate(n - 1);
+        less.xy.truncate(2 * (n - 1));
+        less
+    })
+}
+
+impl Compared for Call {
+    type Want = Result<tx_schematic::TxLayout, u32>;
+    fn case(seed: u64, case: u64, most: usize, straight: bool) -> Self {
+        layout_call_with(seed, case, most, straight)
+    }
+    fn want(&self, _: u64) -> Self::Want {
+        layout::layout(&self.net, &self.options, &self.mesh, &self.lent)
+    }
+    fn number(want: &Self::Want) -> u32 {
+        want.as_ref().err().copied().unwrap_or(0)
+    }
+    fn wrong(&self, want: &Self::Want, salt: u64) -> Vec<String> {
+        layouts::wrong(self, want, salt)
+    }
+    fn size(&self) -> usize {
+        self.net.sub.len() + self.net.from.len() + self.mesh.corners.len()
+    }
+    fn shown(&self) -> String {
+        self.text()
+    }
+    fn without_branch(&self, e: usize) -> Option<Self> {
+        Some(Self { net: network_without_branch(&self.net, e)?, ..self.clone() })
+    }
+    fn without_bus(&self) -> Option<Self> {
+        Some(Self { net: network_without_bus(&self.net)?, ..self.clone() })
+    }
+}
+
+impl Compared for AuditCall {
+    type Want = Result<audit::Figures, u32>;
+    fn case(seed: u64, case: u64, most: usize, _: bool) -> Self {
+        audit_call(seed, case, most)
+    }
+    fn want(&self, salt: u64) -> Self::Want {
+        audits::expected(self, salt)
+    }
+    fn number(want: &Self::Want) -> u32 {
+        want.as_ref().err().copied().unwrap_or(0)
+    }
+    fn wrong(&self, want: &Self::Want, salt: u64) -> Vec<String> {
+        audits::wrong(self, want, salt)
+    }
+    fn size(&self) -> usize {
+        self.net.sub.len() + self.net.from.len() + self.drawing.branches.len()
+    }
+    fn shown(&self) -> String {
+        self.text()
+    }
+    fn without_branch(&self, _: usize) -> Option<Self> {
+        None
+    }
+    fn without_bus(&self) -> Option<Self> {
+        None
+    }
+}
+
+enum Outcome<T> {
+    Done(T),
+    Panicked,
+    TooLong,
+}
+
+/// Work of the original's on a thread of its own, which is left behind where it takes too long.
+fn patiently<T: Send + 'static>(work: impl FnOnce() -> T + Send + 'static) -> Outcome<T> {
+    let (send, receive) = channel();
+    thread::spawn(move || send.send(work()));
+    match receive.recv_timeout(PATIENCE) {
+        Ok(value) => Outcome::Done(value),
+        Err(RecvTimeoutError::Disconnected) => Outcome::Panicked,
+        Err(RecvTimeoutError::Timeout) => Outcome::TooLong,
+    }
+}
+
+/// What is wrong with a call; nothing where the original does not answer.
+fn differ<C: Compared>(call: &C, salt: u64) -> Vec<String> {
+    let asked = call.clone();
+    match patiently(move || asked.want(salt)) {
+        Outcome::Done(want) => call.wrong(&want, salt),
+        _ => Vec::new(),
+    }
+}
+
+/// Branches and last buses are left out as long as the two still differ.
+fn shrunk<C: Compared>(call: &C, salt: u64) -> C {
+    let mut best = call.clone();
+    let mut e = 0;
+    while let Some(less) = best.without_branch(e) {
+        if differ(&less, salt).is_empty() {
+            e += 1;
+        } else {
+            best = less;
+        }
+    }
+    while let Some(less) = best.without_bus().filter(|less| !differ(less, salt).is_empty()) {
+        best = less;
+    }
+    best
+}
+
+fn compare<C: Compared>(seed: u64, count: u64, most: usize, straight: bool) -> bool {
+    let (mut compared, mut panicked, mut too_long) = (0, 0, 0);
+    let mut answers: BTreeMap<u32, usize> = BTreeMap::new();
+    let mut differing: Vec<(u64, C)> = Vec::new();
+    for i in 0..count {
+        let salt = seed ^ i << 20;
+        let both = patiently(move || {
+            let call = C::case(seed, i, most, straight);
+            let want = call.want(salt);
+            (call, want)
+        });
+        let (call, want) = match both {
+            Outcome::Done(both) => both,
+            Outcome::Panicked => {
+                panicked += 1;
+                continue;
+            }
+            Outcome::TooLong => {
+                too_long += 1;
+                continue;
+            }
+        };
+        compared += 1;
+        *answers.entry(C::number(&want)).or_default() += 1;
+        if !call.wrong(&want, salt).is_empty() {
+            differing.push((i, call));
+        }
+    }
+    println!("compared {compared}, differ {}; left out: {panicked} where the original panics, {too_long} where it takes more than {} s", differing.len(), PATIENCE.as_secs());
+    for (number, times) in answers {
+        println!("  answer {number}: {times}");
+    }
+    differing.sort_by_key(|(_, call)| call.size());
+    if let Some((i, call)) = differing.first() {
+        let salt = seed ^ i << 20;
+        let small = shrunk(call, salt);
+        println!("smallest differing case: {i}, made smaller:\n{}", small.shown());
+        for line in differ(&small, salt) {
+            println!("  {line}");
+        }
+    }
+    differing.is_empty()
+}
+
+fn main() {
+    let words: Vec<String> = std::env::args().skip(1).collect();
+    let words: Vec<&str> = words.iter().map(String::as_str).collect();
+    let number = |w: &str| w.parse::<u64>().unwrap_or_else(|_| panic!("not a number: {w}"));
+    let same = match words[..] {
+        ["layout", seed, count, buses] => compare::<Call>(number(seed), number(count), number(buses) as usize, false),
+        ["layout", seed, count, buses, "straight"] => {
+            compare::<Call>(number(seed), number(count), number(buses) as usize, true)
+        }
+        ["audit", seed, count, buses] => compare::<AuditCall>(number(seed), number(count), number(buses) as usize, false),
+        _ => {
+            eprintln!("{USAGE}");
+            std::process::exit(2)
+        }
+    };
+    std::process::exit(i32::from(!same));
+}
