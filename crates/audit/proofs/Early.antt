@@ -1,15 +1,14 @@
 -- Refusals 1 to 7 by their tests, and what they promise where none applies. Assumes nothing.
 use mathlib.Core.Path.{_≡_, refl, sym, ap, _∙_}
-use mathlib.Core.Bool.{Bool, true, false, not, _||_, true≢false}
-use mathlib.Core.List.{List}
+use mathlib.Core.Bool.{Bool, true, false, not}
 use Prim.Native.Nat.{ℕ, zero, suc, _*_, _≤_}
 use native.Mathlib.Omega.{arith}
 use lib.Dec.{eqb}
-use lib.IntN.{ℤ}
 use lib.ListN.{length}
 use borrow.Author.Tests.{ltb-false, ne-eqb}
 use Rattle.network.specs.Words.{stationCount}
-use Rattle.network.specs.Refusal.{tooMany, kvUnlike, toUnlike, numberTooHigh, refuse, shapeRefusal, tooFar}
+use Rattle.network.specs.Refusal.{refuse, shapeRefusal, tooFar}
+use Rattle.network.proofs.Shapes.{shape-fits, neither}
 use Rattle.audit.specs.declared.room.Room.{Room}
 use Rattle.audit.specs.Drawn.{Drawn}
 use Rattle.audit.specs.Answer.{tooShort, early}
@@ -40,25 +39,6 @@ module _ (D : Drawn) (R : Room) where
       by-none h = rw (sym s, sym f, sym e, sym h)
 
 -- ---- what they promise
-
-neither : (a b : Bool) → (a || b) ≡ false → (a ≡ false) × (b ≡ false)
-neither true b h = absurd (true≢false h)
-neither false b h = (refl, h)
-
-none-of : (a b c d : Bool) → 0 ≡ refuse a 1 (refuse b 2 (refuse c 3 (refuse d 4 0))) → (a ≡ false) × (d ≡ false)
-none-of true b c d h = absurd (omega (arith, h))
-none-of false true c d h = absurd (omega (arith, h))
-none-of false false true d h = absurd (omega (arith, h))
-none-of false false false true h = absurd (omega (arith, h))
-none-of false false false false h = (refl, refl)
-
--- at most 4,096 buses, and no station number at or past their count
-pub shape-fits : (sub kv : List ℕ) (from to : List ℤ) → 0 ≡ shapeRefusal sub kv from to → (length sub ≤ 4096) × (stationCount sub ≤ length sub)
-unfolding shapeRefusal
-shape-fits sub kv from to h =
-    let z = none-of (tooMany sub from) (kvUnlike sub kv) (toUnlike from to) (numberTooHigh sub) h in
-    let m = neither _ _ (z .0) in
-    (ltb-false _ _ (m .0), ltb-false _ _ (z .1))
 
 passes : (s : ℕ) (b c : Bool) → 0 ≡ refuse (not (eqb s 0)) s (refuse b 6 (refuse c 7 0)) → (0 ≡ s) × (c ≡ false)
 passes zero true c h = absurd (omega (arith, h))
@@ -91,8 +71,8 @@ passed-of D R h =
     let e = neither _ _ (d .1) in
     let f = neither _ _ (e .1) in
     record {
-      few = s .0;
-      below = s .1;
+      few = s .few;
+      below = s .below;
       displacement = ltb-false _ _ (a .0);
       spacing = ltb-false _ _ (b .0);
       relative = ltb-false _ _ (c .0);

@@ -9,11 +9,11 @@ use lib.IntN.{ℤ}
 use lib.ListN.{length, take, drop, length-append}
 use lib.Ieee.{Float}
 use Rattle.network.specs.declared.options.Options.{Options}
-use Rattle.layout.specs.declared.answer.Plot.{Plot}
-use Rattle.layout.specs.declared.answer.Answer.{Answer}
-use Rattle.layout.specs.declared.answer.Answer.the-variants.{Drawn, Refused}
-use Rattle.layout.specs.Network.{Network, network, Lists, lists, Work, Crossings}
-use Rattle.layout.specs.Answer.{Call, call, layoutOf}
+use Rattle.drawing.specs.declared.answer.Plot.{Plot}
+use Rattle.drawing.specs.declared.answer.Answer.{Answer}
+use Rattle.drawing.specs.declared.answer.Answer.the-variants.{Drawn, Refused}
+use Rattle.drawing.specs.Network.{Network, network, Lists, lists, Work, Crossings}
+use Rattle.drawing.specs.Answer.{Call, call, layoutOf}
 use Rattle.layout.proofs.Drawn.{pieces-fit}
 use Rattle.listing.specs.declared.input.Counts.{Counts}
 use Rattle.listing.specs.declared.input.Parsed.the-variants as Parsed

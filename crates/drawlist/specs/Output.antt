@@ -8,10 +8,10 @@ use lib.Ieee.{Float, binary64, ofBits}
 use Rattle.float.specs.Ops.{f0}
 use Rattle.network.specs.declared.options.Options.{Options}
 use Rattle.network.specs.Options.{defaults}
-use Rattle.layout.specs.declared.answer.Answer.{Answer}
-use Rattle.layout.specs.declared.answer.Answer.the-variants.{Drawn, Refused}
-use Rattle.layout.specs.Network.{Network, network, Lists, lists, Work, work, Crossings, crossings}
-use Rattle.layout.specs.Answer.{Call, layoutOf}
+use Rattle.drawing.specs.declared.answer.Answer.{Answer}
+use Rattle.drawing.specs.declared.answer.Answer.the-variants.{Drawn, Refused}
+use Rattle.drawing.specs.Network.{Network, network, Lists, lists, Work, work, Crossings, crossings}
+use Rattle.drawing.specs.Answer.{Call, layoutOf}
 use Rattle.listing.specs.Input.{Input, parsed}
 use Rattle.listing.specs.Output.{listing, refusal}
 

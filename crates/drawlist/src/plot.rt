@@ -1,9 +1,9 @@
 // A drawing at fill 1/2 and 0 iterations, the other options the default ones, in lists that it holds itself.
 ghost use mathlib.Core.Path.{_≡_};
 ghost use mathlib.Core.List.{[]};
-ghost use Rattle.layout.specs.Network.{network, lists};
+ghost use Rattle.drawing.specs.Network.{network, lists};
 ghost use Rattle.drawlist.specs.Output.{zeros, listOptions, Plotted, Shown};
-use layout::answer::Answer;
+use drawing::answer::Answer;
 use layout::call::tx_schematic_layout;
 use network::options::Options;
 

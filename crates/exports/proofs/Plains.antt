@@ -1,9 +1,9 @@
 -- The numbers and the lists that cross, from those of the call inside. Assumes nothing.
 use mathlib.Core.Path.{_≡_, ap, _∙_}
 use Rattle.network.specs.declared.options.Options.{Options}
-use Rattle.layout.specs.declared.answer.Answer.{Answer}
-use Rattle.layout.specs.Network as Network
-use Rattle.layout.specs.Answer as Layout
+use Rattle.drawing.specs.declared.answer.Answer.{Answer}
+use Rattle.drawing.specs.Network as Network
+use Rattle.drawing.specs.Answer as Layout
 use Rattle.audit.specs.declared.answer.Audit.{Audit}
 use Rattle.audit.specs.Drawn as Drawn
 use Rattle.audit.specs.Answer as Quality

@@ -2,10 +2,10 @@
 use Prim.Native.Nat.{ℕ}
 use Rattle.float.specs.Ops.{f0}
 use Rattle.network.specs.declared.options.Options.{Options}
-use Rattle.layout.specs.declared.answer.Answer.{Answer}
-use Rattle.layout.specs.declared.answer.Answer.the-variants as Layouts
-use Rattle.layout.specs.Network as Network
-use Rattle.layout.specs.Answer as Layout
+use Rattle.drawing.specs.declared.answer.Answer.{Answer}
+use Rattle.drawing.specs.declared.answer.Answer.the-variants as Layouts
+use Rattle.drawing.specs.Network as Network
+use Rattle.drawing.specs.Answer as Layout
 use Rattle.audit.specs.declared.answer.Audit.{Audit}
 use Rattle.audit.specs.declared.answer.Audit.the-variants as Audits
 use Rattle.audit.specs.Drawn as Drawn

@@ -1,7 +1,7 @@
 // Functions for C and Rust: numbers pass as themselves, a list as a pointer and a length.
 pub mod auditing;
-pub mod drawing;
 pub mod plain;
+pub mod plotting;
 
 ghost use mathlib.Core.Path.{_≡_};
 ghost use mathlib.Core.List.{_++_};

@@ -2,7 +2,7 @@
 ghost use mathlib.Core.Path.{_≡_};
 ghost use Rattle.exports.specs.Plain.{optionsOf, plotted, audited};
 use audit::answer::Audit;
-use layout::answer::Answer;
+use drawing::answer::Answer;
 use network::options::Options;
 
 // The options of a drawing (crate `network`).

@@ -4,12 +4,12 @@ use mathlib.Core.Path.{_≡_, refl, sym, ap, _∙_}
 use Prim.Native.Nat.{ℕ, zero, suc}
 use lib.ListN.{length}
 use Rattle.network.specs.declared.options.Options.{Options}
-use Rattle.layout.specs.declared.answer.Answer.{Answer}
-use Rattle.layout.specs.declared.answer.Answer.the-variants.{Refused}
-use Rattle.layout.specs.Network.{Network, Lists, Work, Crossings}
-use Rattle.layout.specs.Drawing.{drawing}
-use Rattle.layout.specs.Answer.{roomOf, early, late, clearedWork, clearedCrossings, call, callLate, callEarly, layoutOf}
-use Rattle.layout.specs.Draft.{Drew}
+use Rattle.drawing.specs.declared.answer.Answer.{Answer}
+use Rattle.drawing.specs.declared.answer.Answer.the-variants.{Refused}
+use Rattle.drawing.specs.Network.{Network, Lists, Work, Crossings}
+use Rattle.drawing.specs.Drawing.{drawing}
+use Rattle.drawing.specs.Answer.{roomOf, early, late, clearedWork, clearedCrossings, call, callLate, callEarly, layoutOf}
+use Rattle.finish.specs.Draft.{Drew}
 
 pub call-early : (o : Options) (N : Network) (L : Lists) (W : Work) (X : Crossings) (r : ℕ)
     → r ≡ early o N (roomOf L W X) → (r ≡ 0 → ⊥) → call (Refused r) L W X ≡ layoutOf o N L W X

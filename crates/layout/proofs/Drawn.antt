@@ -8,13 +8,13 @@ use lib.ListN.{length}
 use lib.Ieee.{Float}
 use Rattle.geometry.specs.declared.Box.{Box}
 use Rattle.network.specs.declared.options.Options.{Options}
-use Rattle.layout.specs.declared.answer.Plot.{Plot}
-use Rattle.layout.specs.declared.answer.Answer.{Answer}
-use Rattle.layout.specs.declared.answer.Answer.the-variants.{Drawn, Refused}
-use Rattle.layout.specs.Network.{Network, Lists, Work, Crossings}
-use Rattle.layout.specs.Drawing.{Drawing, drawing}
-use Rattle.layout.specs.Answer.{roomOf, early, late, lateBy, listsOf, listsAfter, answerBy, answerFor, callLate, callEarly, layoutOf}
-use Rattle.layout.proofs.Lates.{room-of}
+use Rattle.drawing.specs.declared.answer.Plot.{Plot}
+use Rattle.drawing.specs.declared.answer.Answer.{Answer}
+use Rattle.drawing.specs.declared.answer.Answer.the-variants.{Drawn, Refused}
+use Rattle.drawing.specs.Network.{Network, Lists, Work, Crossings}
+use Rattle.drawing.specs.Drawing.{Drawing, drawing}
+use Rattle.drawing.specs.Answer.{roomOf, early, late, lateBy, listsOf, listsAfter, answerBy, answerFor, callLate, callEarly, layoutOf}
+use Rattle.drawing.proofs.Lates.{room-of}
 
 not-drawn : {P : Type 0} (r : ℕ) (p : Plot) → Refused r ≡ Drawn p → P
 not-drawn r p e = let z : _≡_ {A = ℕ} 0 1 = cc in absurd (omega arith)

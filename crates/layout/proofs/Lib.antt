@@ -1,11 +1,3 @@
--- Laws that the functions' proofs use.
-pub mod Early
-pub mod Smalls
-pub mod Lates
-pub mod Scenes
-pub mod Fitting
-pub mod Laying
-pub mod Charts
-pub mod Drafts
+-- Laws of the whole call.
 pub mod Calls
 pub mod Drawn

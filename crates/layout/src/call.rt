@@ -1,15 +1,15 @@
 // The public call.
 ghost use mathlib.Core.Path.{_≡_};
 ghost use Prim.Native.Nat.{min};
-ghost use Rattle.layout.specs.Network.{network, lists, work, crossings};
-ghost use Rattle.layout.specs.Answer.{call, layoutOf, crossingRoom};
-use crate::answer::Answer;
-use crate::chart::chart;
-use crate::clear::clear_crossings;
-use crate::clear::clear_work;
-use crate::finish::finish;
-use crate::refuse::refusal_of_input;
-use crate::room::Room;
+ghost use Rattle.drawing.specs.Network.{network, lists, work, crossings};
+ghost use Rattle.drawing.specs.Answer.{call, layoutOf, crossingRoom};
+use chart::chart;
+use drawing::answer::Answer;
+use drawing::clear::clear_crossings;
+use drawing::clear::clear_work;
+use drawing::refuse::refusal_of_input;
+use drawing::room::Room;
+use finish::finish;
 use network::options::Options;
 use network::words::station_count;
 

@@ -6,3 +6,4 @@ pub mod Branches
 pub mod Counts
 pub mod Seeds
 mod Refusals
+pub mod Shapes

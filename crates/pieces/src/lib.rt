@@ -52,7 +52,7 @@ fn count_pieces(path: &[f64], c: usize) -> usize
 }
 
 // Whether both hold.
-fn both(a: bool, b: bool) -> bool
+pub fn both(a: bool, b: bool) -> bool
     ensures { λ r. ⌜ r ≡ a && b ⌝ }
 {
     if a { b } else { false }

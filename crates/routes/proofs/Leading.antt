@@ -39,16 +39,6 @@ use Rattle.routes.specs.Routes.{crossingsOf, routeRefusal}
 use Rattle.routes.specs.Led.{Led}
 use Rattle.routes.proofs.Few.{length-rounds, routing-short}
 
--- ---- tests that the code asks the other way round
-
-pub test-on : (b : Bool) → not b ≡ false → b ≡ true
-test-on true h = refl
-test-on false h = sym h
-
-pub test-off : (b : Bool) → not b ≡ true → b ≡ false
-test-off true h = sym h
-test-off false h = refl
-
 -- ---- refusals
 
 room-full : (full : Bool) (room x : ℕ) → full ≡ ltb room x → full ≡ true → 10 ≡ routeRefusal true x room

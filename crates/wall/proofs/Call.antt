@@ -14,11 +14,11 @@ use Rattle.network.specs.Words.{stationCount, occupied}
 use Rattle.network.specs.Refusal.{refuse, shapeRefusal, tooFar}
 use Rattle.placement.specs.Modest.{illSized}
 use Rattle.runs.specs.Finite.{allOf, finitePoint, finiteBox, finiteBar}
-use Rattle.layout.specs.declared.answer.Plot.{Plot}
-use Rattle.layout.specs.declared.answer.Answer.the-variants.{Drawn}
-use Rattle.layout.specs.Network.{Network, Lists, Work, Crossings}
-use Rattle.layout.specs.Drawing.{Drawing, drawing}
-use Rattle.layout.specs.Answer.{roomOf, early, late, lateBy, orLater, allFinite, pieceRoom, routedBy, crossingRoom, shortResults, shortWork, meshLength, listsOf, listsAfter, callEarly, callLate, layoutOf}
+use Rattle.drawing.specs.declared.answer.Plot.{Plot}
+use Rattle.drawing.specs.declared.answer.Answer.the-variants.{Drawn}
+use Rattle.drawing.specs.Network.{Network, Lists, Work, Crossings}
+use Rattle.drawing.specs.Drawing.{Drawing, drawing}
+use Rattle.drawing.specs.Answer.{roomOf, early, late, lateBy, orLater, allFinite, pieceRoom, routedBy, crossingRoom, shortResults, shortWork, meshLength, listsOf, listsAfter, callEarly, callLate, layoutOf}
 use Rattle.layout.proofs.Drawn.{Passed, passed}
 
 -- the tests of a chain of refusals that refuses nothing

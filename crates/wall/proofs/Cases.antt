@@ -14,11 +14,11 @@ use Rattle.geometry.specs.declared.Box.{Box}
 use Rattle.geometry.specs.Plane.{point}
 use Rattle.network.specs.declared.options.Options.{Options}
 use Rattle.placement.specs.declared.offset.Offset.{Offset}
-use Rattle.layout.specs.declared.answer.Plot.{Plot}
-use Rattle.layout.specs.declared.answer.Answer.{Answer}
-use Rattle.layout.specs.declared.answer.Answer.the-variants.{Drawn, Refused}
-use Rattle.layout.specs.Network as Net
-use Rattle.layout.specs.Network.{Network, network}
+use Rattle.drawing.specs.declared.answer.Plot.{Plot}
+use Rattle.drawing.specs.declared.answer.Answer.{Answer}
+use Rattle.drawing.specs.declared.answer.Answer.the-variants.{Drawn, Refused}
+use Rattle.drawing.specs.Network as Net
+use Rattle.drawing.specs.Network.{Network, network}
 use Rattle.audit.specs.declared.answer.Audit.{Audit}
 use Rattle.audit.specs.declared.answer.Audit.the-variants as Audits
 use Rattle.audit.specs.Drawn as AuditLists
@@ -62,8 +62,8 @@ use Rattle.routing.specs.Route as RoutingRoute
 use Rattle.routing.specs.Views as RoutingViews
 use Rattle.routes.specs.Routes as RoutesRoutes
 use Rattle.results.specs.Bounds as ResultsBounds
-use Rattle.layout.specs.Drawing as LayoutDrawing
-use Rattle.layout.specs.Answer as LayoutAnswer
+use Rattle.drawing.specs.Drawing as LayoutDrawing
+use Rattle.drawing.specs.Answer as LayoutAnswer
 use Rattle.figures.specs.Fit as FiguresFit
 use Rattle.figures.specs.Scale as FiguresScale
 use Rattle.figures.specs.Overlaps as FiguresOverlaps

@@ -9,11 +9,11 @@ use lib.ListN.{length, take, drop}
 use lib.Ieee.{Float}
 use Rattle.network.specs.declared.options.Options.{Options}
 use Rattle.network.specs.Words.{stationCount}
-use Rattle.layout.specs.declared.answer.Plot.{Plot}
-use Rattle.layout.specs.declared.answer.Answer.{Answer}
-use Rattle.layout.specs.declared.answer.Answer.the-variants.{Drawn, Refused}
-use Rattle.layout.specs.Network.{Network, Lists, Work, work, Crossings, crossings}
-use Rattle.layout.specs.Answer.{Call, call, layoutOf}
+use Rattle.drawing.specs.declared.answer.Plot.{Plot}
+use Rattle.drawing.specs.declared.answer.Answer.{Answer}
+use Rattle.drawing.specs.declared.answer.Answer.the-variants.{Drawn, Refused}
+use Rattle.drawing.specs.Network.{Network, Lists, Work, work, Crossings, crossings}
+use Rattle.drawing.specs.Answer.{Call, call, layoutOf}
 use Rattle.layout.proofs.Drawn.{pieces-fit}
 use Rattle.audit.specs.declared.answer.Figures.{Figures}
 use Rattle.audit.specs.declared.answer.Audit.{Audit}

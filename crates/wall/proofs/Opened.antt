@@ -41,8 +41,8 @@ use Rattle.detour.specs.Cells.{cellSize}
 use Rattle.detour.specs.Detour.{detour}
 use Rattle.routing.specs.Route as Route
 use Rattle.runs.specs.Run.{Scene, slot, between, linePoints, runFor, runOf, allPieces}
-use Rattle.layout.specs.Network.{Network}
-use Rattle.layout.specs.Drawing.{Drawing, drawing, planned, straightScene, ledScene, sceneOf, routedOf, waysOf}
+use Rattle.drawing.specs.Network.{Network}
+use Rattle.drawing.specs.Drawing.{Drawing, drawing, planned, straightScene, ledScene, sceneOf, routedOf, waysOf}
 use Rattle.wall.specs.Wall.{kind, allKinds, rowNumber, order, Between, pointsOf}
 use Rattle.wall.proofs.Every.{Every, every-at, every-table, every-append, every-map}
 use Rattle.wall.proofs.Detours.{FitsPoint, detour-fits}

@@ -27,11 +27,11 @@ use Rattle.bars.specs.Bar.{position, barAt, blockAt, rowEnd, rowY}
 use Rattle.runs.specs.Run.{Piece}
 use Rattle.runs.specs.Lists.{flat, pointNumbers, boxNumbers, barNumbers, pieceNumbers, over, after}
 use Rattle.figures.proofs.Reading.{boxes-read}
-use Rattle.layout.specs.declared.answer.Plot.{Plot}
-use Rattle.layout.specs.declared.answer.Answer.the-variants.{Drawn}
-use Rattle.layout.specs.Network.{Network, Lists, Work, Crossings}
-use Rattle.layout.specs.Drawing.{drawing}
-use Rattle.layout.specs.Answer.{listsOf, listsAfter, layoutOf}
+use Rattle.drawing.specs.declared.answer.Plot.{Plot}
+use Rattle.drawing.specs.declared.answer.Answer.the-variants.{Drawn}
+use Rattle.drawing.specs.Network.{Network, Lists, Work, Crossings}
+use Rattle.drawing.specs.Drawing.{drawing}
+use Rattle.drawing.specs.Answer.{listsOf, listsAfter, layoutOf}
 use Rattle.wall.specs.Wall.{allKinds, rowCount, positionIn, rowEndIn, frameIn, piecesIn}
 use Rattle.wall.proofs.Reading.{flat-length, read-position, read-bar, read-box, read-one, read-pieces}
 use Rattle.wall.proofs.Opened.{counts, seeds, sizes, gap, unit, scales, fs, end, blocks, unit-is, scales-is, boxes-is, bars-length, slotAt}

@@ -19,7 +19,7 @@ use Rattle.bars.specs.Bar.{position, barAt}
 use Rattle.runs.specs.Run.{Piece}
 use Rattle.runs.specs.Lists.{flat, pointNumbers, boxNumbers, barNumbers, pieceNumbers}
 use Rattle.figures.specs.Relative.{pieceStart, pieceEnd}
-use Rattle.layout.specs.Network.{Lists}
+use Rattle.drawing.specs.Network.{Lists}
 use Rattle.wall.specs.Wall.{pieceIn, piecesIn}
 
 module _ {A B : Type 0} (f : A → List B) (c : ℕ) (L : (x : A) → length (f x) ≡ c) where

@@ -46,11 +46,11 @@ use Rattle.placement.proofs.Rank.{Plus}
 use Rattle.bars.specs.Bar.{position, barAt}
 use Rattle.runs.specs.Run.{Piece, pieces, isLine, allPieces}
 use Rattle.runs.specs.Finite.{allOf, finitePoint, finiteBox}
-use Rattle.layout.specs.declared.answer.Plot.{Plot}
-use Rattle.layout.specs.declared.answer.Answer.the-variants.{Drawn}
-use Rattle.layout.specs.Network.{Network, Lists, Work, Crossings}
-use Rattle.layout.specs.Drawing.{drawing}
-use Rattle.layout.specs.Answer.{layoutOf}
+use Rattle.drawing.specs.declared.answer.Plot.{Plot}
+use Rattle.drawing.specs.declared.answer.Answer.the-variants.{Drawn}
+use Rattle.drawing.specs.Network.{Network, Lists, Work, Crossings}
+use Rattle.drawing.specs.Drawing.{drawing}
+use Rattle.drawing.specs.Answer.{layoutOf}
 use Rattle.audit.specs.declared.answer.Figures.{Figures}
 use Rattle.audit.specs.declared.answer.Audit.the-variants.{Audited}
 use Rattle.audit.specs.Drawn as Audit

@@ -4,11 +4,11 @@ use mathlib.Core.Path.{_≡_}
 use mathlib.Core.Bool.{true}
 use lib.ListN.{length, getD}
 use Rattle.network.specs.declared.options.Options.{Options}
-use Rattle.layout.specs.declared.answer.Plot.{Plot}
-use Rattle.layout.specs.declared.answer.Answer.{Answer}
-use Rattle.layout.specs.declared.answer.Answer.the-variants.{Drawn, Refused}
-use Rattle.layout.specs.Network.{Network, Lists, Work, work, Crossings, crossings}
-use Rattle.layout.specs.Answer.{Call, layoutOf}
+use Rattle.drawing.specs.declared.answer.Plot.{Plot}
+use Rattle.drawing.specs.declared.answer.Answer.{Answer}
+use Rattle.drawing.specs.declared.answer.Answer.the-variants.{Drawn, Refused}
+use Rattle.drawing.specs.Network.{Network, Lists, Work, work, Crossings, crossings}
+use Rattle.drawing.specs.Answer.{Call, layoutOf}
 use Rattle.audit.specs.declared.answer.Figures.{Figures}
 use Rattle.audit.specs.declared.answer.Audit.{Audit}
 use Rattle.audit.specs.declared.answer.Audit.the-variants as Audits

@@ -30,9 +30,9 @@ use Rattle.placement.specs.Place.{Frame, frameFor, boxOn, buffered, free, place
 use Rattle.bars.specs.Bar.{rowY}
 use Rattle.runs.specs.Run.{Piece, isLine}
 use Rattle.figures.specs.Relative.{pieceStart, pieceEnd}
-use Rattle.layout.specs.declared.answer.Plot.{Plot}
-use Rattle.layout.specs.Network.{Network, Lists}
-use Rattle.layout.specs.Drawing.{drawing}
+use Rattle.drawing.specs.declared.answer.Plot.{Plot}
+use Rattle.drawing.specs.Network.{Network, Lists}
+use Rattle.drawing.specs.Drawing.{drawing}
 use Rattle.audit.specs.declared.answer.Figures.{Figures}
 use Rattle.audit.specs.declared.answer.Audit.the-variants.{Audited}
 use Rattle.audit.specs.Drawn as Audit

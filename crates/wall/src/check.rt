@@ -2,14 +2,14 @@
 ghost use mathlib.Core.Path.{_≡_};
 ghost use Prim.Native.Nat.{_*_, _≤_, min};
 ghost use lib.ListN.{length};
-ghost use Rattle.layout.specs.Network.{network, lists, work, crossings};
+ghost use Rattle.drawing.specs.Network.{network, lists, work, crossings};
 ghost use Rattle.audit.specs.Drawn as Lent;
 ghost use Rattle.audit.specs.Answer as Audited;
 ghost use Rattle.wall.specs.Wall.{auditParts};
 ghost use Rattle.wall.specs.Claim.{both, Claim};
 use audit::answer::Audit;
 use audit::quality::tx_layout_quality;
-use layout::answer::Answer;
+use drawing::answer::Answer;
 use layout::call::tx_schematic_layout;
 use network::options::Options;
 use network::words::station_count;

@@ -1,6 +1,6 @@
 -- `routes::route_lines` meets its contract. Assumes nothing.
 use native.Mathlib.Omega.{arith}
-use Rattle.routes.proofs.Leading.{test-on, test-off}
+use Rattle.network.proofs.Shapes.{test-on, test-off}
 use Rattle.routes.proofs.Scenes.{order-rises, order-below, routes-used, routes-unused}
 use borrow.Author.Needs.{needs}
 use Rattle.routes.proofs.route_lines.Statement.{statement}

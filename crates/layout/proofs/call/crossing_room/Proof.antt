@@ -1,5 +1,5 @@
 -- `layout::call::crossing_room` meets its contract. Assumes nothing.
-use Rattle.layout.specs.Answer.{crossingRoom}
+use Rattle.drawing.specs.Answer.{crossingRoom}
 use borrow.Author.Needs.{needs}
 use Rattle.layout.proofs.call.crossing_room.Statement.{statement}
 use Rattle.layout.proofs.call.crossing_room.Tie as tie

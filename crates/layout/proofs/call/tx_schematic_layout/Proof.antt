@@ -1,9 +1,9 @@
 -- `layout::call::tx_schematic_layout` meets its contract. Assumes nothing.
 use native.Mathlib.Omega.{arith}
 use mathlib.Core.Path.{_∙_, sym, refl}
-use Rattle.layout.specs.Network.{network, lists, work, crossings}
-use Rattle.layout.proofs.Fitting.{fits-of, room-parts}
-use Rattle.layout.proofs.Charts.{charted-at}
+use Rattle.drawing.specs.Network.{network, lists, work, crossings}
+use Rattle.drawing.proofs.Fitting.{fits-of, room-parts}
+use Rattle.chart.proofs.Charts.{charted-at}
 use Rattle.layout.proofs.Calls.{call-early, call-late}
 use borrow.Author.Needs.{needs}
 use Rattle.layout.proofs.call.tx_schematic_layout.Statement.{statement}
@@ -11,11 +11,11 @@ use Rattle.layout.proofs.call.tx_schematic_layout.Tie as tie
 use Rattle.layout.proofs.call.tx_schematic_layout.Reads as reads
 use Rattle.layout.proofs.call.tx_schematic_layout.Lts as lts
 use Rattle.layout.proofs.call.crossing_room.Reads as crossing-room-reads
-use Rattle.layout.proofs.chart.chart.Reads as chart-reads
-use Rattle.layout.proofs.clear.clear_crossings.Reads as clear-crossings-reads
-use Rattle.layout.proofs.clear.clear_work.Reads as clear-work-reads
-use Rattle.layout.proofs.finish.finish.Reads as finish-reads
-use Rattle.layout.proofs.refuse.refusal_of_input.Reads as refusal-of-input-reads
+use Rattle.chart.proofs.chart.Reads as chart-reads
+use Rattle.drawing.proofs.clear.clear_crossings.Reads as clear-crossings-reads
+use Rattle.drawing.proofs.clear.clear_work.Reads as clear-work-reads
+use Rattle.finish.proofs.finish.Reads as finish-reads
+use Rattle.drawing.proofs.refuse.refusal_of_input.Reads as refusal-of-input-reads
 use Rattle.network.proofs.words.station_count.Reads as station-count-reads
 
 refusal-of-input-requires : tie.Need-refusal-of-input-requires

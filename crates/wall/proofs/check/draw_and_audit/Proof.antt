@@ -1,6 +1,6 @@
 -- `wall::check::draw_and_audit` meets its contract. Assumes nothing.
 use mathlib.Core.Path.{_∙_}
-use Rattle.layout.specs.Network.{network, lists, work, crossings}
+use Rattle.drawing.specs.Network.{network, lists, work, crossings}
 use Rattle.wall.proofs.Claiming.{claim-both, claim-none, pieces-room}
 use borrow.Author.Needs.{needs}
 use Rattle.wall.proofs.check.draw_and_audit.Statement.{statement}

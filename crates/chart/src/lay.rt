@@ -1,0 +1,87 @@
+// A drawing laid out in the work lists.
+ghost use mathlib.Core.Path.{_≡_};
+ghost use Prim.Native.Nat.{_+_, _*_, _≤_};
+ghost use lib.ListN.{length};
+ghost use Rattle.network.specs.Options.{searchOf};
+ghost use Rattle.network.specs.Words.{stationCount};
+ghost use Rattle.drawing.specs.Network.{network};
+ghost use Rattle.chart.specs.Held.{Laid};
+use bars::span::spans;
+use network::options::Options;
+use network::options::search_of;
+use plan::Inside;
+use plan::interiors;
+use plan::settle;
+
+// The search of these options, 0 where it is below 0.
+fn search_in(o: Options) -> usize
+    ensures { λ r. ⌜ r ≡ searchOf (o .search) ⌝ }
+{
+    search_of(o.search)
+}
+
+pub fn lay(
+    o: Options,
+    sub: &[u32],
+    kv: &[u64],
+    from: &[i64],
+    to: &[i64],
+    service: &[u8],
+    xy: &[f64],
+    corners: &[u32],
+    twins: &[u32],
+    k: usize,
+    stations: &mut [u32],
+    buses: &mut [u32],
+    ends: &mut [u32],
+    sorted: &mut [u32],
+    spare: &mut [u32],
+    keys: &mut [u64],
+    places: &mut [f64],
+    blocks: &mut [f64],
+    frames: &mut [f64],
+    path: &mut [f64],
+) -> Inside
+    requires { ⌜ (k ≡ stationCount (now sub)) × (length (now sub) ≤ 4096) × (k ≤ length (now sub)) × (length (now from) ≤ 8192) × (length (now kv) ≡ length (now sub)) × (searchOf (o .search) ≤ 20) ⌝ }
+    requires { ⌜ (2 * length (now sub) ≤ length (now stations)) × (3 * length (now sub) ≤ length (now buses)) × (4 * length (now from) ≤ length (now ends)) × (2 * length (now sub) ≤ length (now places)) × (3 * length (now sub) ≤ length (now blocks)) × (4 * length (now sub) ≤ length (now frames)) × (2 * length (now sub) ≤ length (now path)) ⌝ }
+    requires { ⌜ (length (now sub) + 2 * length (now from) + 1681 ≤ length (now sorted)) × (length (now sub) + 2 * length (now from) + 1681 ≤ length (now spare)) × (length (now sub) + 2 * length (now from) + 1681 ≤ length (now keys)) ⌝ }
+    ensures { λ r. ⌜ Laid o (network (now (sub .entry)) (now (kv .entry)) (now (from .entry)) (now (to .entry)) (now (service .entry)) (now (xy .entry)) (now (corners .entry)) (now (twins .entry))) k (r .unit) (r .finite) (now (stations .exit)) (now (buses .exit)) (now (ends .exit)) (now (blocks .exit)) (now (places .exit)) (now (frames .exit)) ⌝ }
+{
+    let inside = interiors(
+        o,
+        sub,
+        kv,
+        from,
+        to,
+        service,
+        xy,
+        k,
+        stations,
+        buses,
+        ends,
+        sorted,
+        spare,
+        keys,
+        places,
+        blocks,
+        frames,
+        path,
+    );
+    spans(sub, from, to, service, ends, buses);
+    let search = search_in(o);
+    settle(
+        sub,
+        kv,
+        k,
+        inside.unit,
+        search,
+        stations,
+        sorted,
+        spare,
+        keys,
+        blocks,
+        places,
+        frames,
+    );
+    inside
+}

@@ -1,0 +1,4 @@
+-- Laws of refusals and answers.
+pub mod Early
+pub mod Fitting
+pub mod Lates

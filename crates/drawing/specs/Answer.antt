@@ -1,0 +1,205 @@
+-- Answers of a call: what layout returns, and what each lent list holds after it. Definitions only.
+use Prim.Native.Nat.{ℕ, zero, suc, _+_, _*_, _/_, min}
+use mathlib.Core.Bool.{Bool, true, false, not, _&&_, _||_}
+use mathlib.Core.List.{List, [], _∷_, _++_, map}
+use lib.Dec.{ltb}
+use lib.ListN.{length, drop, replicate}
+use lib.Ieee.{Float}
+use Rattle.float.specs.Small.{isFinite}
+use Rattle.float.specs.Ops.{f0}
+use Rattle.geometry.specs.declared.Point.{Point}
+use Rattle.geometry.specs.declared.Box.{Box}
+use Rattle.network.specs.declared.options.Options.{Options}
+use Rattle.network.specs.Options.{inRange}
+use Rattle.network.specs.Words.{stationCount, occupied}
+use Rattle.network.specs.Refusal.{refuse, shapeRefusal, tooFar}
+use Rattle.placement.specs.Modest.{illSized}
+use Rattle.bars.specs.declared.Bar.{Bar}
+use Rattle.bars.specs.Bar.{position}
+use Rattle.drawing.specs.declared.room.Room.{Room}
+use Rattle.drawing.specs.declared.answer.Plot.{Plot}
+use Rattle.drawing.specs.declared.answer.Answer.{Answer}
+use Rattle.drawing.specs.declared.answer.Answer.the-variants.{Drawn, Refused}
+use Rattle.drawing.specs.Network.{Network, Lists, lists, Work, work, Crossings, crossings}
+use Rattle.routes.specs.Routes.{routeRefusal}
+use Rattle.runs.specs.Run.{Piece}
+use Rattle.runs.specs.Finite.{allOf, finitePoint, finiteBox, finiteBar}
+use Rattle.runs.specs.Lists.{flat, pointNumbers, boxNumbers, barNumbers, pieceNumbers, after}
+use Rattle.drawing.specs.Drawing.{Drawing, drawing}
+
+-- 01's number of an answer
+unfoldable pub numberOf : Answer → ℕ
+numberOf (Drawn p) = 0
+numberOf (Refused r) = r
+
+-- the lengths of the lent lists
+abbrev pub roomOf : Lists → Work → Crossings → Room
+roomOf L W X =
+    record {
+      positions = length (L .positions);
+      bars = length (L .bars);
+      boxes = length (L .boxes);
+      scales = length (L .scales);
+      roles = length (L .roles);
+      pieces = length (L .pieces);
+      branches = length (L .branches);
+      stations = length (W .stations);
+      buses = length (W .buses);
+      ends = length (W .ends);
+      sorted = length (W .sorted);
+      spare = length (W .spare);
+      keys = length (W .keys);
+      places = length (W .places);
+      blocks = length (W .blocks);
+      frames = length (W .frames);
+      path = length (W .path);
+      numbers = length (X .numbers);
+      crossings = length (X .places);
+      ways = length (X .ways);
+    }
+
+-- The mesh length is that of the corner list, counted as at most 24,576.
+abbrev pub meshLength : Network → ℕ
+meshLength N = min (length (N .corners)) 24576
+
+-- 7: a result or work list of fixed length is too short, for n buses, m branches, k stations and the mesh length (docs/WORK.md)
+unfoldable pub shortResults : ℕ → ℕ → ℕ → Room → Bool
+shortResults n m k R =
+    ltb (R .positions) (2 * n) || (ltb (R .bars) (4 * n) || (ltb (R .boxes) (4 * k) || (ltb (R .scales) k || ltb (R .roles) m)))
+
+-- the length of the three lists that sorts use
+abbrev pub sorting : ℕ → ℕ → ℕ → ℕ
+sorting n m mesh = n + 2 * m + mesh + 1681
+
+unfoldable pub shortWork : ℕ → ℕ → ℕ → Room → Bool
+shortWork n m mesh R =
+    ltb (R .stations) (2 * n) || (ltb (R .buses) (3 * n) || (ltb (R .ends) (4 * m + 4 * mesh + 4)
+    || (ltb (R .sorted) (sorting n m mesh) || (ltb (R .spare) (sorting n m mesh) || (ltb (R .keys) (sorting n m mesh)
+    || (ltb (R .places) (2 * n) || (ltb (R .blocks) (3 * n) || (ltb (R .frames) (4 * n) || ltb (R .path) (2 * n + 2 * mesh + 16)))))))))
+
+-- r, or where it is 0 what comes after it
+abbrev pub orLater : ℕ → ℕ → ℕ
+orLater zero later = later
+orLater (suc r) later = suc r
+
+-- 1 to 7, 0 where none applies
+unfoldable pub early : Options → Network → Room → ℕ
+early O N R =
+    orLater (shapeRefusal (N .station) (N .kv) (N .from) (N .to))
+    (refuse (not (inRange O)) 5
+    (refuse (tooFar (length (N .station)) (N .xy)) 6
+    (refuse (shortResults (length (N .station)) (length (N .from)) (stationCount (N .station)) R) 7
+    (refuse (shortWork (length (N .station)) (length (N .from)) (meshLength N) R) 7 0))))
+
+-- 11: pieces outnumber the lent piece lists: only whole pieces that both lists hold count
+unfoldable pub pieceRoom : ℕ → ℕ → ℕ
+pieceRoom numbers names = min (numbers / 4) names
+
+-- 10: crossings, those of cleared paths included, outnumber the lent crossing list, which holds as many as each of its six lists
+unfoldable pub crossingRoom : Room → ℕ
+crossingRoom R =
+    min (R .numbers / 3) (min (R .crossings) (min (R .ways / 2) (min (R .sorted) (min (R .spare) (R .keys)))))
+
+-- 12: a seed, the unit, a box corner, bar end, crossing place or route point isn't finite
+unfoldable pub allFinite : Drawing → Bool
+allFinite d =
+    allOf finitePoint (d .seeds) && (isFinite (d .unit) && (allOf finiteBox (d .boxes) && (allOf finiteBar (d .bars)
+    && (allOf isFinite (d .crossings) && allOf (allOf finitePoint) (d .runs)))))
+
+-- 8, 9 and 10: by whether sizes are ill, the mesh fits, the crossings and how many the crossing list holds
+unfoldable pub routedBy : Bool → Bool → ℕ → ℕ → ℕ
+routedBy ill fits crossings room = refuse ill 8 (routeRefusal fits crossings room)
+
+-- 11 and 12, where none of these applies: by the pieces, the lengths of the lent piece lists, and whether all is finite
+unfoldable pub lateBy : ℕ → ℕ → ℕ → ℕ → Bool → ℕ
+lateBy earlier pieces numbers names finite =
+    orLater earlier (refuse (ltb (pieceRoom numbers names) pieces) 11 (refuse (not finite) 12 0))
+
+unfoldable pub late : Drawing → Room → ℕ
+late d R =
+    lateBy (routedBy (illSized (d .boxes) (occupied (d .counts))) (d .meshFits) (length (d .crossings)) (crossingRoom R))
+    (length (d .pieces))
+    (R .pieces)
+    (R .branches)
+    (allFinite d)
+
+-- the drawing as lists of numbers
+unfoldable pub listsOf : Drawing → Lists
+listsOf d =
+    lists
+    (flat (λ b. pointNumbers (position b)) (d .bars))
+    (flat barNumbers (d .bars))
+    (flat boxNumbers (d .boxes))
+    (d .scales)
+    (d .roles)
+    (flat pieceNumbers (d .pieces))
+    (map (λ (p : Piece). p .branch) (d .pieces))
+
+-- the lists after a call: a refusal changes no result list
+unfoldable pub listsAfter : ℕ → Lists → Lists → Lists
+listsAfter r D L =
+    lists
+    (after r (D .positions) (L .positions))
+    (after r (D .bars) (L .bars))
+    (after r (D .boxes) (L .boxes))
+    (after r (D .scales) (L .scales))
+    (after r (D .roles) (L .roles))
+    (after r (D .pieces) (L .pieces))
+    (after r (D .branches) (L .branches))
+
+-- After a call that isn't refused by 1 to 7 all work lists hold zeros.
+abbrev pub noughts : List ℕ → List ℕ
+noughts l = replicate (length l) 0
+
+abbrev pub zeros : List Float → List Float
+zeros l = replicate (length l) f0
+
+unfoldable pub clearedWork : Work → Work
+clearedWork W =
+    work
+    (noughts (W .stations))
+    (noughts (W .buses))
+    (noughts (W .ends))
+    (noughts (W .sorted))
+    (noughts (W .spare))
+    (noughts (W .keys))
+    (zeros (W .places))
+    (zeros (W .blocks))
+    (zeros (W .frames))
+    (zeros (W .path))
+
+unfoldable pub clearedCrossings : Crossings → Crossings
+clearedCrossings X =
+    crossings (noughts (X .numbers)) (zeros (X .places)) (zeros (X .ways))
+
+-- ---- the whole of a call: its answer, and the lists after it
+
+pub record Call : Type 0 where
+  pub answer : Answer
+  pub lists : Lists
+  pub work : Work
+  pub crossings : Crossings
+
+abbrev pub call : Answer → Lists → Work → Crossings → Call
+call a l w x = record { answer = a; lists = l; work = w; crossings = x }
+
+-- with 0 the unit, the bounds and the number of pieces
+unfoldable pub answerBy : ℕ → Float → Box → ℕ → Answer
+answerBy zero u b p = Drawn (record { unit = u; bounds = b; pieces = p })
+answerBy (suc r) u b p = Refused (suc r)
+
+unfoldable pub answerFor : ℕ → Drawing → Answer
+answerFor r d = answerBy r (d .unit) (d .bounds) (length (d .pieces))
+
+-- where the input has passed, by the late refusal
+unfoldable pub callLate : ℕ → Drawing → Lists → Work → Crossings → Call
+callLate r d L W X = call (answerFor r d) (listsAfter r (listsOf d) L) (clearedWork W) (clearedCrossings X)
+
+-- by the early refusal: 1 to 7 leave every list unchanged
+unfoldable pub callEarly : ℕ → Options → Network → Lists → Work → Crossings → Call
+callEarly zero O N L W X = let d = drawing O N in callLate (late d (roomOf L W X)) d L W X
+callEarly (suc r) O N L W X = call (Refused (suc r)) L W X
+
+-- Layout returns the lowest number that applies.
+unfoldable pub layoutOf : Options → Network → Lists → Work → Crossings → Call
+layoutOf O N L W X = callEarly (early O N (roomOf L W X)) O N L W X

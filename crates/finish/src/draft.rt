@@ -1,0 +1,111 @@
+// A charted drawing judged: its bounds, number of pieces and late refusal.
+ghost use mathlib.Core.Path.{_≡_};
+ghost use Prim.Native.Nat.{_+_, _*_, _≤_};
+ghost use lib.Dec.{ltb};
+ghost use lib.ListN.{length};
+ghost use Rattle.network.specs.Words.{occupied};
+ghost use Rattle.network.specs.Views.{countsIn, boxesIn};
+ghost use Rattle.detour.specs.Cells.{cellSize};
+ghost use Rattle.routing.specs.Views.{gapOf};
+ghost use Rattle.drawing.specs.Network.{network};
+ghost use Rattle.drawing.specs.Answer.{crossingRoom};
+ghost use Rattle.chart.specs.Charted.{Charted};
+ghost use Rattle.finish.specs.Draft.{Judged};
+use chart::Course;
+use detour::cells::cell_size;
+use drawing::late::all_finite;
+use drawing::late::late_of;
+use drawing::room::Room;
+use geometry::Box;
+use network::options::Options;
+use network::refuse::finite_to;
+use pieces::survey;
+use results::bounds::bounds_of;
+use results::buses::finite_bars;
+
+// What a drawing answers beside its lists, its late refusal, 0 for none, and the side of a cell.
+pub struct Draft {
+    pub bounds: Box,
+    pub pieces: usize,
+    pub late: u32,
+    pub cell: f64,
+}
+
+// The gap between lines, 0.8 × unit.
+pub fn gap_of(unit: f64) -> f64
+    ensures { λ r. ⌜ r ≡ gapOf unit ⌝ }
+{
+    0.8 * unit
+}
+
+// Whether lines are led: there are iterations.
+pub fn is_led(o: Options) -> bool
+    ensures { λ r. ⌜ r ≡ ltb 0 (o .«route_iterations») ⌝ }
+{
+    0 < o.route_iterations
+}
+
+// Judges the drawing that the work lists hold, which nothing refuses so far, with lists of these lengths.
+pub fn judge(
+    o: Options,
+    sub: &[u32],
+    kv: &[u64],
+    from: &[i64],
+    to: &[i64],
+    service: &[u8],
+    xy: &[f64],
+    corners: &[u32],
+    twins: &[u32],
+    k: usize,
+    room: Room,
+    c: Course,
+    stations: &[u32],
+    buses: &[u32],
+    ends: &[u32],
+    sorted: &mut [u32],
+    blocks: &[f64],
+    places: &[f64],
+    frames: &[f64],
+    path: &mut [f64],
+    ways: &[f64],
+) -> Draft
+    requires { ⌜ (length (now sub) ≤ 4096) × (length (now from) ≤ 8192) × (k ≤ 4096) × (2 * k ≤ length (now stations)) × (4 * k ≤ length (now frames)) × (3 * k ≤ length (now blocks)) × (k ≤ length (now sorted)) ⌝ }
+    requires { ⌜ Charted o (network (now sub) (now kv) (now from) (now to) (now service) (now xy) (now corners) (now twins)) k (crossingRoom room) (c .unit) (c .finite) (c .late) (now stations) (now buses) (now ends) (now blocks) (now places) (now frames) (now path) (now ways) ⌝ }
+    requires { ⌜ c .late ≡ 0 ⌝ }
+    ensures { λ r. ⌜ Judged o (network (now (sub .entry)) (now (kv .entry)) (now (from .entry)) (now (to .entry)) (now (service .entry)) (now (xy .entry)) (now (corners .entry)) (now (twins .entry))) room (c .unit) (r .bounds) (r .pieces) (r .late) ⌝ }
+    ensures { λ r. ⌜ r .cell ≡ cellSize (boxesIn k (now (frames .entry))) (occupied (countsIn k (now (stations .entry)))) ⌝ }
+{
+    let unit = c.unit;
+    let cell = cell_size(k, stations, frames);
+    let all = survey(
+        sub,
+        from,
+        to,
+        service,
+        unit,
+        buses,
+        ends,
+        blocks,
+        places,
+        frames,
+        is_led(o),
+        cell,
+        gap_of(unit),
+        k,
+        stations,
+        sorted,
+        ways,
+        path,
+    );
+    let boxes = finite_to(frames, 4 * k);
+    let bars = finite_bars(sub, unit, buses, blocks, frames);
+    let finite = all_finite(c.finite, unit, boxes, bars, all.finite);
+    let bounds = bounds_of(k, stations, frames);
+    let late = late_of(0, all.pieces, room.pieces, room.branches, finite);
+    Draft {
+        bounds,
+        pieces: all.pieces,
+        late,
+        cell,
+    }
+}

@@ -1,5 +1,0 @@
-pub mod Network
-pub mod Drawing
-pub mod Answer
-pub mod Held
-pub mod Draft
