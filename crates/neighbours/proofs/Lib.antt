@@ -3,3 +3,8 @@ pub mod Sides
 pub mod Scans
 pub mod Fills
 pub mod Apart
+mod Leasts
+mod Places
+mod Stops
+mod Sweeps
+mod Numbers

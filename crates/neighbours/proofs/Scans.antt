@@ -2,16 +2,17 @@
 use mathlib.Core.Path.{_≡_, sym, ap, _∙_}
 use mathlib.Core.Bool.{Bool, true, false, not, _&&_}
 use mathlib.Core.List.{List}
-use Prim.Native.Nat.{ℕ, suc, _+_, _*_}
+use Prim.Native.Nat.{ℕ, suc, _+_, _*_, _≤_, zero-le}
 use native.Mathlib.Numerals.{add-one}
 use lib.ListN.{getD}
-use lib.Ieee.{Float, nan, le}
+use lib.Ieee.{Float, nan, lt, le}
 use borrow.Author.Tests.{eq-eqb, ne-eqb}
 use Rattle.float.specs.Hypot.{hypotOf}
-use Rattle.float.specs.Ops.{_⊖_}
+use Rattle.float.specs.Ops.{_⊖_, f0}
+use Rattle.order.specs.Order.{pick}
 use Rattle.order.specs.Table.{howMany}
-use Rattle.order.proofs.Tables.{howMany-yes, howMany-no}
-use Rattle.neighbours.specs.Near.{distance, nearer, nearestTo, near}
+use Rattle.order.proofs.Tables.{howMany-yes, howMany-no, howMany-le}
+use Rattle.neighbours.specs.Near.{distance, nearer, nearestTo, near, within, neighbours}
 
 module _ (ps : List Float) (i : ℕ) where
   -- the distance to point j, as the code has it
@@ -47,3 +48,17 @@ module _ (ps : List Float) (i : ℕ) where
     pub near-less : (j c : ℕ) (v : Bool) → c ≡ howMany (near ps radius i) j → (j ≡ i → ⊥) → v ≡ le (reach j) radius → v ≡ false
         → c ≡ howMany (near ps radius i) (j + 1)
     near-less j c v e h k y = rw add-one (e ∙ sym (howMany-no (near ps radius i) j (other j v h k ∙ y)))
+
+-- there are no more neighbours than points
+module _ (ps : List Float) (n : ℕ) (radius : Float) (i : ℕ) where
+  pub within-le : within ps n radius i ≤ n
+  unfolding within
+  within-le = howMany-le (near ps radius i) n
+
+  pub neighbours-le : neighbours ps n radius i ≤ n
+  unfolding neighbours
+  neighbours-le = go (lt f0 radius)
+    where
+      go : (b : Bool) → pick b (within ps n radius i) 0 ≤ n
+      go true = within-le
+      go false = zero-le

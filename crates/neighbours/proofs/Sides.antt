@@ -24,7 +24,7 @@ use Rattle.neighbours.specs.Near.{NotPast, nearer}
 
 -- ---- b below a, a at most h and h at most b can't all be
 -- of fractions b / p, a / q, h / r
-cycle : (b p a q h r : ℕ) → 0 < r → b * q < a * p → a * r ≤ h * q → h * p ≤ b * r → ⊥
+pub cycle : (b p a q h r : ℕ) → 0 < r → b * q < a * p → a * r ≤ h * q → h * p ≤ b * r → ⊥
 cycle b p a q h r R l m n = no (through a h b q r p R m n)
   where
     no : a * p ≤ b * q → ⊥
@@ -112,7 +112,7 @@ finite b x y X Y A P f h =
     (truth (lt b (absOf x)) h) (hypot-above x y f X Y))
 
 -- where a side exceeds b, the hypotenuse is not at most b
-hypot-past : (b x y : Float) → T (fits binary64 x) → lt b (absOf x) ≡ true → le (hypotOf x y) b ≡ false
+pub hypot-past : (b x y : Float) → T (fits binary64 x) → lt b (absOf x) ≡ true → le (hypotOf x y) b ≡ false
 unfolding absOf hypotOf isFinite plus lt le eq
 hypot-past b nan y f h = absurd (true≢false (sym h ∙ below-nan b))
 hypot-past b (inf t) y f h = below-inf b (inf false) h
@@ -122,7 +122,7 @@ hypot-past b (fin t k c) (fin u i d) f h = finite b (fin t k c) (fin u i d) tt t
 
 -- the longer of two sides, each the greater of a number and its negative
 -- what is below a negative number is below its negative
-raise : (b : Float) (m : ℕ) (e : ℤ) → lt b (fin true m e) ≡ true → lt b (fin false m e) ≡ true
+pub raise : (b : Float) (m : ℕ) (e : ℤ) → lt b (fin true m e) ≡ true → lt b (fin false m e) ≡ true
 unfolding lt
 raise nan m e h = h
 raise (inf s) m e h = h

@@ -1,2 +1,3 @@
 pub mod Overlap
 pub mod Near
+pub mod Sweep

@@ -1,7 +1,7 @@
-// Neighbours over all pairs: boxes that overlap, the distance to the nearest other point, and how many points are near.
+// Neighbours: boxes that overlap, the distance to the nearest other point, and how many points are near.
 ghost use mathlib.Core.Path.{_≡_};
 ghost use mathlib.Core.List.{_++_};
-ghost use Prim.Native.Nat.{_+_, _*_, _<_, _≤_};
+ghost use Prim.Native.Nat.{_+_, _*_, _^_, _<_, _≤_};
 ghost use lib.ListN.{length, drop};
 ghost use lib.Ieee.{le};
 ghost use Rattle.float.specs.Hypot.{hypotOf};
@@ -12,6 +12,8 @@ use float::hypot::hypot;
 use float::small::max;
 use float::small::min;
 use geometry::Box;
+
+mod sweep;
 
 // Whether each of l0 to r0 and l1 to r1 begins before the other ends.
 fn meet(l0: f64, r0: f64, l1: f64, r1: f64) -> bool
@@ -74,8 +76,8 @@ pub fn nearest_distance(points: &[f64], n: usize, i: usize) -> f64
     best
 }
 
-// The nearest distances of the first n points, in order, at the front of out.
-pub fn nearest_neighbour_distances(points: &[f64], n: usize, out: &mut [f64])
+// The nearest distances of the first n points, in order, at the front of out, over all pairs.
+pub fn nearest_of_all(points: &[f64], n: usize, out: &mut [f64])
     requires { ⌜ (2 * n ≤ length (now points)) × (n ≤ length (now out)) ⌝ }
     ensures { λ _. ⌜ now (out .exit) ≡ table (nearest (now (points .entry)) n) n ++ drop n (now (out .entry)) ⌝ }
 {
@@ -84,6 +86,26 @@ pub fn nearest_neighbour_distances(points: &[f64], n: usize, out: &mut [f64])
         out[i] = nearest_distance(points, n, i);
         i += 1;
     }
+}
+
+// The same along the order of x where every x is finite. The other lists are work lists.
+pub fn nearest_neighbour_distances(
+    points: &[f64],
+    n: usize,
+    out: &mut [f64],
+    keys: &mut [u64],
+    order: &mut [u32],
+    spare: &mut [u32],
+)
+    requires { ⌜ (n ≤ 2 ^ 32) × (2 * n ≤ length (now points)) × (n ≤ length (now out)) × (n ≤ length (now keys)) × (n ≤ length (now order)) × (n ≤ length (now spare)) ⌝ }
+    ensures { λ _. ⌜ now (out .exit) ≡ table (nearest (now (points .entry)) n) n ++ drop n (now (out .entry)) ⌝ }
+{
+    let r = sweep::by_x(points, n, keys, order, spare);
+    if r == n {
+        sweep::nearest_in_order(points, n, order, out);
+        return;
+    }
+    nearest_of_all(points, n, out);
 }
 
 // Whether the length of (x, y) is at most radius. A side longer than that settles it.
@@ -119,7 +141,7 @@ fn count_near(points: &[f64], n: usize, radius: f64, i: usize) -> usize
 }
 
 // The same, and none where the radius is not above 0.
-pub fn count_within(points: &[f64], n: usize, radius: f64, i: usize) -> usize
+fn count_within(points: &[f64], n: usize, radius: f64, i: usize) -> usize
     requires { ⌜ (2 * n ≤ length (now points)) × (i < n) ⌝ }
     ensures { λ r. ⌜ r ≡ neighbours (now (points .entry)) n radius i ⌝ }
 {
@@ -127,4 +149,36 @@ pub fn count_within(points: &[f64], n: usize, radius: f64, i: usize) -> usize
         return count_near(points, n, radius, i);
     }
     0
+}
+
+// These counts of the first n points, in order, at the front of counts, over all pairs.
+fn counts_of_all(points: &[f64], n: usize, radius: f64, counts: &mut [u32])
+    requires { ⌜ (n < 2 ^ 32) × (2 * n ≤ length (now points)) × (n ≤ length (now counts)) ⌝ }
+    ensures { λ _. ⌜ now (counts .exit) ≡ table (neighbours (now (points .entry)) n radius) n ++ drop n (now (counts .entry)) ⌝ }
+{
+    let mut i = 0;
+    while i < n {
+        counts[i] = count_within(points, n, radius, i) as u32;
+        i += 1;
+    }
+}
+
+// The same along the order of x where every x is finite. The other lists are work lists.
+pub fn neighbour_counts(
+    points: &[f64],
+    n: usize,
+    radius: f64,
+    counts: &mut [u32],
+    keys: &mut [u64],
+    order: &mut [u32],
+)
+    requires { ⌜ (n < 2 ^ 32) × (2 * n ≤ length (now points)) × (n ≤ length (now counts)) × (n ≤ length (now keys)) × (n ≤ length (now order)) ⌝ }
+    ensures { λ _. ⌜ now (counts .exit) ≡ table (neighbours (now (points .entry)) n radius) n ++ drop n (now (counts .entry)) ⌝ }
+{
+    let r = sweep::by_x(points, n, keys, order, counts);
+    if r == n {
+        sweep::counts_in_order(points, n, order, radius, counts);
+        return;
+    }
+    counts_of_all(points, n, radius, counts);
 }

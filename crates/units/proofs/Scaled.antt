@@ -5,12 +5,13 @@ use mathlib.Core.List.{List, [], _∷_, _++_}
 use Prim.Native.Nat.{ℕ, suc, _+_, _*_, _≤_, _<_}
 use native.Mathlib.Omega.{arith}
 use native.Mathlib.Numerals.{add-one}
-use lib.ListN.{length, getD, set}
+use lib.ListN.{length, getD, set, take}
+use lib.Seq.{take-at, getD-take}
 use lib.Ieee.{Float, nan}
 use Rattle.float.specs.Ops.{f1, _⊗_}
 use Rattle.order.specs.Order.{pick}
 use Rattle.order.specs.Table.{tableFrom, table, strided}
-use Rattle.order.proofs.Tables.{table-suc}
+use Rattle.order.proofs.Tables.{length-table, getD-table, table-suc}
 use Rattle.order.proofs.Strides.{strided-push, length-strided}
 use Rattle.neighbours.specs.Near.{neighbours}
 use Rattle.network.specs.declared.options.Options.{Options}
@@ -27,6 +28,13 @@ unfolding occupiedBelow
 passed-below k st s j n h g e f =
     let l : s < length (countsIn k st) = rw (length-strided 2 0 0 k st) h in
     rw (e, f) (occupied-below (countsIn k st) s l (is-occupied k s st h g))
+
+-- the numbers of neighbours at the front of a list
+pub counts-front : (f : ℕ → ℕ) (n : ℕ) (l d : List ℕ) → l ≡ table f n ++ d → take n l ≡ table f n
+counts-front f n l d e = ap (take n) e ∙ take-at (table f n) d n (length-table f n)
+
+pub count-at : (f : ℕ → ℕ) (n : ℕ) (l : List ℕ) (j : ℕ) → take n l ≡ table f n → j < n → getD l j 0 ≡ f j
+count-at f n l j e h = sym (getD-take n l j 0 h) ∙ ap (λ (t : List ℕ). getD t j 0) e ∙ getD-table f n j 0 h
 
 module _ (O : Options) (ps : List Float) (n : ℕ) (reach : Float) (k : ℕ) (st : List ℕ) where
   -- the scale of station s, and those of the first s

@@ -36,6 +36,6 @@ pub fn units(
     let n = unit::coordinates(k, stations, places, path);
     let gap = unit::spacing(n, path, frames, keys, sorted, spare);
     let side = unit::typical(k, stations, blocks, frames, keys, sorted, spare);
-    scale::scales(o, k, n, gap, stations, path, blocks);
+    scale::scales(o, k, n, gap, stations, path, blocks, keys, sorted, spare);
     unit::unit_for(o.fill, gap, side)
 }

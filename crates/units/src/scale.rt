@@ -1,6 +1,6 @@
 // The scale of each station by the number of its neighbours.
 ghost use mathlib.Core.Path.{_≡_};
-ghost use Prim.Native.Nat.{_*_, _≤_};
+ghost use Prim.Native.Nat.{_*_, _^_, _<_, _≤_};
 ghost use lib.ListN.{length};
 ghost use Rattle.network.specs.Words.{occupied};
 ghost use Rattle.network.specs.Views.{countsIn};
@@ -21,7 +21,7 @@ fn tier(o: Options, count: usize) -> f64
     1.0
 }
 
-// The scales of the first k stations by the spacing; path has the points of the n that are occupied.
+// The scales of the first k stations by the spacing; path has the points of the n that are occupied. The other lists are work lists.
 pub fn scales(
     o: Options,
     k: usize,
@@ -30,18 +30,20 @@ pub fn scales(
     stations: &[u32],
     path: &[f64],
     blocks: &mut [f64],
+    keys: &mut [u64],
+    sorted: &mut [u32],
+    spare: &mut [u32],
 )
-    requires { ⌜ (n ≡ length (occupied (countsIn k (now stations)))) × (2 * k ≤ length (now stations)) × (2 * n ≤ length (now path)) × (3 * k ≤ length (now blocks)) ⌝ }
+    requires { ⌜ (n ≡ length (occupied (countsIn k (now stations)))) × (2 * k ≤ length (now stations)) × (2 * n ≤ length (now path)) × (3 * k ≤ length (now blocks)) × (n < 2 ^ 32) × (n ≤ length (now keys)) × (n ≤ length (now sorted)) × (n ≤ length (now spare)) ⌝ }
     ensures { λ _. ⌜ scalesIn k (now (blocks .exit)) ≡ scalesOf o (now (path .entry)) n gap (countsIn k (now (stations .entry))) ⌝ }
     ensures { λ _. ⌜ sizesIn k (now (blocks .exit)) ≡ sizesIn k (now (blocks .entry)) ⌝ }
 {
-    let reach = o.tier_radius * gap;
+    neighbours::neighbour_counts(path, n, o.tier_radius * gap, spare, keys, sorted);
     let mut j = 0;
     let mut s = 0;
     while s < k {
         if stations[2 * s] > 0 {
-            let count = neighbours::count_within(path, n, reach, j);
-            blocks[3 * s + 2] = tier(o, count);
+            blocks[3 * s + 2] = tier(o, spare[j] as usize);
             j += 1;
             s += 1;
         } else {

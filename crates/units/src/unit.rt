@@ -70,7 +70,7 @@ pub fn spacing(
     requires { ⌜ (n ≤ 2 ^ 32) × (2 * n ≤ length (now path)) × (n ≤ length (now frames)) × (n ≤ length (now keys)) × (n ≤ length (now sorted)) × (n ≤ length (now spare)) ⌝ }
     ensures { λ r. ⌜ r ≡ spacingOf (now (path .entry)) n ⌝ }
 {
-    neighbours::nearest_neighbour_distances(path, n, frames);
+    neighbours::nearest_neighbour_distances(path, n, frames, keys, sorted, spare);
     median_of(frames, n, keys, sorted, spare)
 }
 

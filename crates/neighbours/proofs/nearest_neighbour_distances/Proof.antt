@@ -1,66 +1,65 @@
-use mathlib.Core.Path.{_≡_, refl}
-use mathlib.Core.List.{_++_}
-use Prim.Native.Nat.{_≤_, _<_, _-_}
+-- `neighbours::nearest_neighbour_distances` meets its contract. Assumes nothing.
+use mathlib.Core.Path.{subst}
+use Prim.Native.Nat.{ℕ}
 use native.Mathlib.Omega.{arith}
-use lib.ListN.{length, length-set, drop}
-use Rattle.order.specs.Table.{table}
-use Rattle.neighbours.specs.Near.{nearest}
-use Rattle.neighbours.proofs.Fills.{fill-none, fill-more}
+use Rattle.neighbours.specs.Sweep.{Swept}
 use borrow.Author.Needs.{needs}
 use Rattle.neighbours.proofs.nearest_neighbour_distances.Statement.{statement}
 use Rattle.neighbours.proofs.nearest_neighbour_distances.Tie as tie
 
-abbrev Inv-loop : tie.InvT-loop
-Inv-loop points n out₀ i₀ out i = (i ≤ n) × (length out ≡ length out₀) × (out ≡ table (nearest points n) i ++ drop i out₀)
+by-x-requires : tie.Need-by-x-requires
+by-x-requires c κs = search needs
 
-abbrev μ-loop : tie.MeasureT-loop
-μ-loop points n out₀ i₀ out i = n - i
+nearest-in-order-requires : tie.Need-nearest-in-order-requires
+nearest-in-order-requires c κs = (c .before .before .before .before .before .before .before .before .before .before .before .before .before .before .before .before .before .before .pre .1, omega (arith, c .before .before .before .before .before .before .before .before .before .before .before .before .before .before .before .before .before .before .pre .4, c .before .before .before .before .before .before .before .before .before .by-x .kept .1 .1 .1 .0), c .before .before .before .before .before .before .before .before .before .before .before .before .before .before .before .before .before .before .pre .2, subst (λ (t : ℕ). Swept (c .before .before .before .before .before .before .before .before .before .before .before .before .before .before .before .before .before .before .args .points .now) t (c .before .before .before .before .before .before .before .before .before .by-x .last .1 .1 .1 .0)) (c .before .before .if1 .taken) (c .before .before .before .before .before .before .before .before .before .by-x .ensures .1 .0))
 
-loop-holds : tie.Need-loop-holds Inv-loop μ-loop
-loop-holds c = (omega arith, refl, fill-none _ _)
-
-nearest-distance-requires : tie.Need-nearest-distance-requires Inv-loop μ-loop
-nearest-distance-requires c κs = search needs
-
-mul-out : tie.Need-mul-out Inv-loop μ-loop
-mul-out c = search needs
-
-slice-write-out : tie.Need-slice-write-out Inv-loop μ-loop
-slice-write-out c = search needs
-
-add-i : tie.Need-add-i Inv-loop μ-loop
-add-i c = search needs
-
-loop-less : tie.Need-loop-less Inv-loop μ-loop
-loop-less c = search needs
-
-loop-again : tie.Need-loop-again Inv-loop μ-loop
-loop-again c =
-    let at = c .before .before in
-    let v = at .loop .inv in
-    let h : at .loop .i < length (at .before .before .before .args .out .now) = omega arith in
-    (omega arith, simp length-set (v .1), cc (c .nearest-distance .ensures, v .2, fill-more (nearest _ _) _ (at .loop .i) h))
-
-same-length : tie.Need-same-length Inv-loop μ-loop
+same-length : tie.Need-same-length
 same-length c = search needs
 
-returns : tie.Need-returns Inv-loop μ-loop
-returns c =
-    let e : c .before .loop .i ≡ c .before .before .before .before .args .n = omega arith in
-    cc (e, c .before .loop .inv .2)
+same-length-2 : tie.Need-same-length-2
+same-length-2 c = search needs
+
+same-length-3 : tie.Need-same-length-3
+same-length-3 c = search needs
+
+same-length-4 : tie.Need-same-length-4
+same-length-4 c = search needs
+
+returns : tie.Need-returns
+returns c = search needs
+
+nearest-of-all-requires : tie.Need-nearest-of-all-requires
+nearest-of-all-requires c κs = search needs
+
+same-length-5 : tie.Need-same-length-5
+same-length-5 c = search needs
+
+same-length-6 : tie.Need-same-length-6
+same-length-6 c = search needs
+
+same-length-7 : tie.Need-same-length-7
+same-length-7 c = search needs
+
+same-length-8 : tie.Need-same-length-8
+same-length-8 c = search needs
+
+returns-2 : tie.Need-returns-2
+returns-2 c = search needs
 
 pub nearest-neighbour-distances-spec : {M : Type 1} → statement M
 nearest-neighbour-distances-spec =
     tie.close
     (tie.spec
-    Inv-loop
-    μ-loop
-    loop-holds
-    nearest-distance-requires
-    mul-out
-    slice-write-out
-    add-i
-    loop-less
-    loop-again
+    by-x-requires
+    nearest-in-order-requires
     same-length
-    returns)
+    same-length-2
+    same-length-3
+    same-length-4
+    returns
+    nearest-of-all-requires
+    same-length-5
+    same-length-6
+    same-length-7
+    same-length-8
+    returns-2)

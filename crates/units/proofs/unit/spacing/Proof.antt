@@ -23,7 +23,7 @@ same-length-4 : tie.Need-same-length-4
 same-length-4 c = search needs
 
 returns : tie.Need-returns
-returns c = spacing-of _ _ _ _ _ (c .before .before .before .before .before .before .before .before .before .before .before .before .before .nearest-neighbour-distances .ensures) (c .before .before .before .before .before .before .median-of .ensures)
+returns c = spacing-of _ _ _ _ _ (c .before .before .before .before .before .before .before .before .before .before .before .before .before .before .before .before .before .before .before .nearest-neighbour-distances .ensures) (c .before .before .before .before .before .before .median-of .ensures)
 
 pub spacing-spec : {M : Type 1} → statement M
 spacing-spec =
