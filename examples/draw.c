@@ -55,12 +55,12 @@ int main(void) {
                pieces[4 * p + 1], pieces[4 * p + 2], pieces[4 * p + 3]);
 
     double displacement[K], spacing[K], relative[PIECES];
-    uint32_t hits[N];
+    uint32_t index[N];
     double points[2 * N];
     tansygate_audited audit = tansygate_audit(
         LEN(sub), LEN(kv), LEN(from), LEN(to), LEN(xy), LEN(boxes), LEN(roles), pieces, 4 * plot.pieces,
         branches, plot.pieces, LEN(displacement), LEN(spacing), LEN(relative),
-        LEN(stations), LEN(hits), LEN(points), path, 2 * N);
+        LEN(stations), LEN(index), LEN(points), path, 2 * N);
     if (audit.number != TANSYGATE_DONE) {
         printf("audit refused %u\n", (unsigned)audit.number);
         return 1;

@@ -140,7 +140,7 @@ tansygate_audited tansygate_audit(
     double *relative, size_t relative_len,                  /* one a piece: each line's drawn length over its straight length */
     /* work lists */
     uint32_t *stations, size_t stations_len,                /* 2n */
-    uint32_t *hits, size_t hits_len,                        /* n */
+    uint32_t *index, size_t index_len,                      /* n */
     double *points, size_t points_len,                      /* 2n */
     double *path, size_t path_len);                         /* 2n */
 

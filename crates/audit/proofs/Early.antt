@@ -55,7 +55,7 @@ pub record Passed (D : Drawn) (R : Room) : Type 0 where
   pub spacing : stationCount (D .station) ≤ R .spacing
   pub relative : length (D .branches) ≤ R .relative
   pub stations : 2 * length (D .station) ≤ R .stations
-  pub hits : length (D .station) ≤ R .hits
+  pub index : length (D .station) ≤ R .index
   pub points : 2 * length (D .station) ≤ R .points
   pub path : 2 * length (D .station) ≤ R .path
 
@@ -77,7 +77,7 @@ passed-of D R h =
       spacing = ltb-false _ _ (b .0);
       relative = ltb-false _ _ (c .0);
       stations = ltb-false _ _ (d .0);
-      hits = ltb-false _ _ (e .0);
+      index = ltb-false _ _ (e .0);
       points = ltb-false _ _ (f .0);
       path = ltb-false _ _ (f .1);
     }

@@ -94,13 +94,13 @@ module _ (D : Drawn) (L : Lists) (W : Work) where
   judged a L' W' i z = rw (i .answer, i .lists, z)
 
   -- clearing goes by the lengths
-  zeroed : (U : Work) → length (U .stations) ≡ length (W .stations) → length (U .hits) ≡ length (W .hits) → length (U .points) ≡ length (W .points) → length (U .path) ≡ length (W .path)
+  zeroed : (U : Work) → length (U .stations) ≡ length (W .stations) → length (U .index) ≡ length (W .index) → length (U .points) ≡ length (W .points) → length (U .path) ≡ length (W .path)
       → cleared U ≡ cleared W
   unfolding cleared
   zeroed U p q r s = rw (p, q, r, s)
 
   pub call-judged : (a : Audit) (L' : Lists) (U W' : Work) (x : ℕ) → x ≡ early D (roomOf L W) → x ≡ 0 → Inner D L a L' → W' ≡ cleared U
-      → length (U .stations) ≡ length (W .stations) → length (U .hits) ≡ length (W .hits) → length (U .points) ≡ length (W .points) → length (U .path) ≡ length (W .path)
+      → length (U .stations) ≡ length (W .stations) → length (U .index) ≡ length (W .index) → length (U .points) ≡ length (W .points) → length (U .path) ≡ length (W .path)
       → call a L' W' ≡ auditOf D L W
   unfolding auditOf
   call-judged a L' U W' x e z i c p q r s = judged a L' W' i (c ∙ zeroed U p q r s) ∙ ap (λ (y : ℕ). callEarly y D L W) (sym z ∙ e)

@@ -33,12 +33,12 @@ lists a b c = record { displacement = a; spacing = b; relative = c }
 -- the work lists
 pub record Work : Type 0 where
   pub stations : List ℕ
-  pub hits : List ℕ
+  pub index : List ℕ
   pub points : List Float
   pub path : List Float
 
 abbrev pub work : List ℕ → List ℕ → List Float → List Float → Work
-work a b c d = record { stations = a; hits = b; points = c; path = d }
+work a b c d = record { stations = a; index = b; points = c; path = d }
 
 -- the lengths of the lent lists
 abbrev pub roomOf : Lists → Work → Room
@@ -48,7 +48,7 @@ roomOf L W =
       spacing = length (L .spacing);
       relative = length (L .relative);
       stations = length (W .stations);
-      hits = length (W .hits);
+      index = length (W .index);
       points = length (W .points);
       path = length (W .path);
     }

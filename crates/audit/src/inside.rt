@@ -37,13 +37,13 @@ fn figures_of(
     displacement: &mut [f64],
     spacing: &mut [f64],
     relative: &mut [f64],
-    hits: &mut [u32],
+    index: &mut [u32],
     points: &mut [f64],
     path: &mut [f64],
 ) -> Figures
     requires { ⌜ (k ≡ stationCount (now sub)) × (length (now sub) ≤ 4096) × (k ≤ length (now sub)) × (countsIn k (now stations) ≡ busCounts (now sub)) ⌝ }
     requires { ⌜ (4 * k ≤ length (now boxes)) × (length (now pieces) ≡ 4 * length (now branches)) × (2 * length (now sub) ≤ length (now stations)) ⌝ }
-    requires { ⌜ (k ≤ length (now displacement)) × (k ≤ length (now spacing)) × (length (now branches) ≤ length (now relative)) × (length (now sub) ≤ length (now hits)) × (2 * length (now sub) ≤ length (now points)) × (2 * length (now sub) ≤ length (now path)) ⌝ }
+    requires { ⌜ (k ≤ length (now displacement)) × (k ≤ length (now spacing)) × (length (now branches) ≤ length (now relative)) × (2 * length (now sub) ≤ length (now points)) × (2 * length (now sub) ≤ length (now path)) ⌝ }
     ensures { λ r. ⌜ Figured (drawn (now (sub .entry)) (now (kv .entry)) (now (from .entry)) (now (to .entry)) (now (xy .entry)) (now (boxes .entry)) (now (roles .entry)) (now (pieces .entry)) (now (branches .entry)))
         (lists (now (displacement .entry)) (now (spacing .entry)) (now (relative .entry))) r (lists (now (displacement .exit)) (now (spacing .exit)) (now (relative .exit))) ⌝ }
 {
@@ -57,7 +57,7 @@ fn figures_of(
         k,
         stations,
         boxes,
-        hits,
+        index,
         sub,
         from,
         to,
@@ -89,12 +89,12 @@ pub fn audited(
     spacing: &mut [f64],
     relative: &mut [f64],
     stations: &mut [u32],
-    hits: &mut [u32],
+    index: &mut [u32],
     points: &mut [f64],
     path: &mut [f64],
 ) -> Audit
     requires { ⌜ (length (now sub) ≤ 4096) × (stationCount (now sub) ≤ length (now sub)) × (2 * length (now sub) ≤ length (now stations)) ⌝ }
-    requires { ⌜ (stationCount (now sub) ≤ length (now displacement)) × (stationCount (now sub) ≤ length (now spacing)) × (length (now branches) ≤ length (now relative)) × (length (now sub) ≤ length (now hits)) × (2 * length (now sub) ≤ length (now points)) × (2 * length (now sub) ≤ length (now path)) ⌝ }
+    requires { ⌜ (stationCount (now sub) ≤ length (now displacement)) × (stationCount (now sub) ≤ length (now spacing)) × (length (now branches) ≤ length (now relative)) × (2 * length (now sub) ≤ length (now points)) × (2 * length (now sub) ≤ length (now path)) ⌝ }
     ensures { λ r. ⌜ Inner (drawn (now (sub .entry)) (now (kv .entry)) (now (from .entry)) (now (to .entry)) (now (xy .entry)) (now (boxes .entry)) (now (roles .entry)) (now (pieces .entry)) (now (branches .entry)))
         (lists (now (displacement .entry)) (now (spacing .entry)) (now (relative .entry))) r (lists (now (displacement .exit)) (now (spacing .exit)) (now (relative .exit))) ⌝ }
 {
@@ -121,7 +121,7 @@ pub fn audited(
         displacement,
         spacing,
         relative,
-        hits,
+        index,
         points,
         path,
     );

@@ -23,20 +23,20 @@ pub fn tx_layout_quality(
     spacing: &mut [f64],
     relative: &mut [f64],
     stations: &mut [u32],
-    hits: &mut [u32],
+    index: &mut [u32],
     points: &mut [f64],
     path: &mut [f64],
 ) -> Audit
-    ensures { λ r. ⌜ call r (lists (now (displacement .exit)) (now (spacing .exit)) (now (relative .exit))) (work (now (stations .exit)) (now (hits .exit)) (now (points .exit)) (now (path .exit)))
+    ensures { λ r. ⌜ call r (lists (now (displacement .exit)) (now (spacing .exit)) (now (relative .exit))) (work (now (stations .exit)) (now (index .exit)) (now (points .exit)) (now (path .exit)))
         ≡ auditOf (drawn (now (sub .entry)) (now (kv .entry)) (now (from .entry)) (now (to .entry)) (now (xy .entry)) (now (boxes .entry)) (now (roles .entry)) (now (pieces .entry)) (now (branches .entry)))
-        (lists (now (displacement .entry)) (now (spacing .entry)) (now (relative .entry))) (work (now (stations .entry)) (now (hits .entry)) (now (points .entry)) (now (path .entry))) ⌝ }
+        (lists (now (displacement .entry)) (now (spacing .entry)) (now (relative .entry))) (work (now (stations .entry)) (now (index .entry)) (now (points .entry)) (now (path .entry))) ⌝ }
 {
     let room = Room {
         displacement: displacement.len(),
         spacing: spacing.len(),
         relative: relative.len(),
         stations: stations.len(),
-        hits: hits.len(),
+        index: index.len(),
         points: points.len(),
         path: path.len(),
     };
@@ -58,10 +58,10 @@ pub fn tx_layout_quality(
         spacing,
         relative,
         stations,
-        hits,
+        index,
         points,
         path,
     );
-    clear_work(stations, hits, points, path);
+    clear_work(stations, index, points, path);
     a
 }

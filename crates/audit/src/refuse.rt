@@ -25,7 +25,7 @@ fn too_short(n: usize, k: usize, p: usize, room: Room) -> bool
     if room.stations < 2 * n {
         return true;
     }
-    if room.hits < n {
+    if room.index < n {
         return true;
     }
     if room.points < 2 * n {

@@ -4,7 +4,7 @@ pub struct Room {
     pub spacing: usize,
     pub relative: usize,
     pub stations: usize,
-    pub hits: usize,
+    pub index: usize,
     pub points: usize,
     pub path: usize,
 }

@@ -4,10 +4,12 @@ ghost use Prim.Native.Nat.{_+_, _*_, _≤_, _<_};
 ghost use lib.ListN.{length};
 ghost use Rattle.network.specs.Words.{occupied};
 ghost use Rattle.network.specs.Views.{countsIn, boxesIn};
+ghost use Rattle.detour.specs.Index.{Indexed};
 ghost use Rattle.audit.specs.Through.{stationAt, isHit, crosses, through};
+use detour::boxes::hit_among;
 use detour::cells::cell_size;
+use detour::index::index_boxes;
 use detour::walk::FirstHit;
-use detour::walk::first_hit;
 use figures::fit::branch_of;
 use figures::fit::end_at;
 use figures::fit::is_line;
@@ -42,7 +44,7 @@ fn crosses(
     k: usize,
     stations: &[u32],
     boxes: &[f64],
-    hits: &mut [u32],
+    index: &[u32],
     sub: &[u32],
     from: &[i64],
     to: &[i64],
@@ -50,14 +52,15 @@ fn crosses(
     e: usize,
     j: usize,
 ) -> bool
-    requires { ⌜ (2 * k ≤ length (now stations)) × (4 * k ≤ length (now boxes)) × (k ≤ length (now hits)) × (k ≤ 4096) × (4 * j + 3 < length (now pieces)) ⌝ }
+    requires { ⌜ (2 * k ≤ length (now stations)) × (4 * k ≤ length (now boxes)) × (k ≤ 4096) × (4 * j + 3 < length (now pieces)) ⌝ }
+    requires { ⌜ Indexed (boxesIn k (now boxes)) (occupied (countsIn k (now stations))) cell k (now index) ⌝ }
     ensures { λ r. ⌜ r ≡ crosses cell (boxesIn k (now (boxes .entry))) (occupied (countsIn k (now (stations .entry)))) (now (sub .entry)) (now (from .entry)) (now (to .entry)) (now (pieces .entry)) e j ⌝ }
 {
     let p = piece_start(pieces, j);
     let q = piece_end(pieces, j);
     let a = station_at(sub, end_at(sub.len(), from, e));
     let b = station_at(sub, end_at(sub.len(), to, e));
-    is_hit(first_hit(cell, k, stations, boxes, hits, p, q, a, b))
+    is_hit(hit_among(cell, k, stations, boxes, index, p, q, a, b))
 }
 
 // How many pieces of lines hit a box that isn't one of their own stations'.
@@ -65,7 +68,7 @@ pub fn count_through(
     k: usize,
     stations: &[u32],
     boxes: &[f64],
-    hits: &mut [u32],
+    index: &mut [u32],
     sub: &[u32],
     from: &[i64],
     to: &[i64],
@@ -73,16 +76,17 @@ pub fn count_through(
     pieces: &[f64],
     branches: &[u32],
 ) -> usize
-    requires { ⌜ (2 * k ≤ length (now stations)) × (4 * k ≤ length (now boxes)) × (k ≤ length (now hits)) × (k ≤ 4096) × (length (now pieces) ≡ 4 * length (now branches)) ⌝ }
+    requires { ⌜ (2 * k ≤ length (now stations)) × (4 * k ≤ length (now boxes)) × (k ≤ 4096) × (length (now pieces) ≡ 4 * length (now branches)) ⌝ }
     ensures { λ r. ⌜ r ≡ through (boxesIn k (now (boxes .entry))) (occupied (countsIn k (now (stations .entry)))) (now (sub .entry)) (now (from .entry)) (now (to .entry)) (now (roles .entry)) (now (pieces .entry)) (now (branches .entry)) ⌝ }
 {
     let cell = cell_size(k, stations, boxes);
+    index_boxes(true, cell, k, stations, boxes, index);
     let mut c = 0;
     let mut j = 0;
     while j < branches.len() {
         let e = branch_of(branches, j);
         if is_line(roles, e) {
-            if crosses(cell, k, stations, boxes, hits, sub, from, to, pieces, e, j) {
+            if crosses(cell, k, stations, boxes, index, sub, from, to, pieces, e, j) {
                 c += 1;
                 j += 1;
             } else {

@@ -3,7 +3,11 @@ pub mod Numbers
 pub mod Sizing
 pub mod Sides
 pub mod Choosing
-pub mod Gathering
+pub mod Chaining
+pub mod Indexing
+pub mod Entering
 pub mod Walking
+pub mod Filling
 pub mod Shifting
 pub mod Detours
+pub mod Lending

@@ -1,5 +1,5 @@
 -- The walk cell by cell, and the walk along a piece from its parts. Assumes nothing.
-use mathlib.Core.Path.{_≡_, sym, ap, _∙_}
+use mathlib.Core.Path.{_≡_, refl, sym, ap, _∙_}
 use mathlib.Core.Bool.{Bool, true, false, cond, _||_}
 use Prim.Native.Nat.{ℕ, zero, suc, _-_, _≤_, _<_}
 use native.Mathlib.Omega.{arith}
@@ -11,9 +11,35 @@ use Rattle.float.specs.Ops.{_⊕_, _⊖_}
 use Rattle.geometry.specs.declared.Point.{Point}
 use Rattle.detour.specs.declared.walk.Best.{Best}
 use Rattle.detour.specs.declared.walk.Best.the-variants.{Nothing}
-use Rattle.detour.specs.Cells.{cellOf, ahead, signOf, firstSide, sideStep, sameCell, Ray, Spot, settled, onward, walk, rayOf, spotOf, cellCount, walked}
-use Rattle.detour.specs.Hits.{ray, spot}
-use Rattle.detour.proofs.Gathering.{cellStep}
+use Rattle.detour.specs.Cells.{cellOf, ahead, signOf, firstSide, sideStep, sameCell, Ray, Spot, atEnd, settled, onward, walk, rayOf, spotOf, cellCount, walked}
+use Rattle.detour.specs.Parts.{ray, spot}
+
+-- one cell of a walk: what is found there, and what the rest of the walk makes of it
+abbrev pub cellStep : Ray → Spot → (Best → Best) → Best → Best
+cellStep r w rest x = elim (settled (r .cell) (r .len) (minOf (w .tx) (w .ty)) (atEnd r w) x || atEnd r w) as (λ _. Best) [ true ↦ x | false ↦ rest x ]
+
+-- two ways to look at a cell that find the same make the same walk
+pub walk-same : (f g : ℤ → ℤ → Best → Best) → ((cx cy : ℤ) (b : Best) → f cx cy b ≡ g cx cy b) → (r : Ray) (n : ℕ) (w : Spot) (b : Best) → walk f r n w b ≡ walk g r n w b
+unfolding walk
+walk-same f g h r zero w b = refl
+walk-same f g h r (suc n) w b =
+    ap (cellStep r w (walk f r n (onward r w))) (h (w .cx) (w .cy) b)
+    ∙ go (settled (r .cell) (r .len) (minOf (w .tx) (w .ty)) (atEnd r w) (g (w .cx) (w .cy) b) || atEnd r w) (g (w .cx) (w .cy) b) (walk-same f g h r n (onward r w) (g (w .cx) (w .cy) b))
+  where
+    go : (t : Bool) (x : Best) → walk f r n (onward r w) x ≡ walk g r n (onward r w) x
+        → _≡_ {A = Best} (elim t as (λ _. Best) [ true ↦ x | false ↦ walk f r n (onward r w) x ]) (elim t as (λ _. Best) [ true ↦ x | false ↦ walk g r n (onward r w) x ])
+    go true x e = refl
+    go false x e = e
+
+-- no box to look at: none is found
+pub walk-none : (f : ℤ → ℤ → Best → Best) → ((cx cy : ℤ) (b : Best) → f cx cy b ≡ b) → (r : Ray) (n : ℕ) (w : Spot) → walk f r n w Nothing ≡ Nothing
+unfolding walk settled
+walk-none f h r zero w = refl
+walk-none f h r (suc n) w = ap (cellStep r w (walk f r n (onward r w))) (h (w .cx) (w .cy) Nothing) ∙ go (atEnd r w) (walk-none f h r n (onward r w))
+  where
+    go : (b : Bool) → walk f r n (onward r w) Nothing ≡ Nothing → _≡_ {A = Best} (elim b as (λ _. Best) [ true ↦ Nothing | false ↦ walk f r n (onward r w) Nothing ]) Nothing
+    go true h = refl
+    go false h = h
 
 module _ (see : ℤ → ℤ → Best → Best) (cell : Float) (ex ey sx sy : ℤ) (tdx tdy len : Float) where
   abbrev r : Ray

@@ -1,5 +1,6 @@
 pub mod Cells
-pub mod Hits
+pub mod Index
+pub mod Parts
 pub mod Detour
 pub mod Paths
 pub mod Cases

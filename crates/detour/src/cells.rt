@@ -1,6 +1,5 @@
 // The square cells that boxes are registered in: a cell's side, a coordinate's cell, and where a piece leaves it.
 ghost use mathlib.Core.Path.{_≡_};
-ghost use mathlib.Core.Bool.{_&&_};
 ghost use Prim.Native.Nat.{_+_, _*_, _^_, _≤_, _<_};
 ghost use lib.ListN.{length};
 ghost use lib.IntN.{natAbs};

@@ -23,17 +23,17 @@ pub extern "C" fn tansygate_audit(
     spacing: &mut [f64],
     relative: &mut [f64],
     stations: &mut [u32],
-    hits: &mut [u32],
+    index: &mut [u32],
     points: &mut [f64],
     path: &mut [f64],
 ) -> Audited
     ensures { λ r. ⌜ judged r
         (lists (now (displacement .exit)) (now (spacing .exit)) (now (relative .exit)))
-        (work (now (stations .exit)) (now (hits .exit)) (now (points .exit)) (now (path .exit)))
+        (work (now (stations .exit)) (now (index .exit)) (now (points .exit)) (now (path .exit)))
         ≡ plainAudit (auditOf
         (drawn (now (sub .entry)) (now (kv .entry)) (now (from .entry)) (now (to .entry)) (now (xy .entry)) (now (boxes .entry)) (now (roles .entry)) (now (pieces .entry)) (now (branches .entry)))
         (lists (now (displacement .entry)) (now (spacing .entry)) (now (relative .entry)))
-        (work (now (stations .entry)) (now (hits .entry)) (now (points .entry)) (now (path .entry)))) ⌝ }
+        (work (now (stations .entry)) (now (index .entry)) (now (points .entry)) (now (path .entry)))) ⌝ }
 {
     let a = tx_layout_quality(
         sub,
@@ -49,7 +49,7 @@ pub extern "C" fn tansygate_audit(
         spacing,
         relative,
         stations,
-        hits,
+        index,
         points,
         path,
     );

@@ -34,6 +34,6 @@ pub extern "C" fn tansygate_nearest(points: &[f64], out: &mut [f64]) -> usize
     ensures { λ r. ⌜ now (out .exit) ≡ table (nearest (now (points .entry)) r) r ++ drop r (now (out .entry)) ⌝ }
 {
     let n = points_in(points.len(), out.len());
-    neighbours::nearest_neighbour_distances(points, n, out);
+    neighbours::nearest_of_all(points, n, out);
     n
 }

@@ -6,6 +6,7 @@ ghost use lib.ListN.{length};
 ghost use Rattle.network.specs.Words.{occupied};
 ghost use Rattle.network.specs.Views.{countsIn, boxesIn};
 ghost use Rattle.detour.specs.Cells.{cellSize};
+ghost use Rattle.detour.specs.Index.{Indexed};
 ghost use Rattle.routing.specs.Views.{gapOf};
 ghost use Rattle.drawing.specs.Network.{network};
 ghost use Rattle.drawing.specs.Answer.{crossingRoom};
@@ -13,6 +14,7 @@ ghost use Rattle.chart.specs.Charted.{Charted};
 ghost use Rattle.finish.specs.Draft.{Judged};
 use chart::Course;
 use detour::cells::cell_size;
+use detour::index::index_boxes;
 use drawing::late::all_finite;
 use drawing::late::late_of;
 use drawing::room::Room;
@@ -45,7 +47,7 @@ pub fn is_led(o: Options) -> bool
     0 < o.route_iterations
 }
 
-// Judges the drawing that the work lists hold, which nothing refuses so far, with lists of these lengths.
+// Judges the drawing that the work lists hold, which nothing refuses so far, with lists of these lengths, and enters its boxes by cell in `sorted`.
 pub fn judge(
     o: Options,
     sub: &[u32],
@@ -69,14 +71,17 @@ pub fn judge(
     path: &mut [f64],
     ways: &[f64],
 ) -> Draft
-    requires { ⌜ (length (now sub) ≤ 4096) × (length (now from) ≤ 8192) × (k ≤ 4096) × (2 * k ≤ length (now stations)) × (4 * k ≤ length (now frames)) × (3 * k ≤ length (now blocks)) × (k ≤ length (now sorted)) ⌝ }
+    requires { ⌜ (length (now sub) ≤ 4096) × (length (now from) ≤ 8192) × (k ≤ 4096) × (2 * k ≤ length (now stations)) × (4 * k ≤ length (now frames)) × (3 * k ≤ length (now blocks)) ⌝ }
     requires { ⌜ Charted o (network (now sub) (now kv) (now from) (now to) (now service) (now xy) (now corners) (now twins)) k (crossingRoom room) (c .unit) (c .finite) (c .late) (now stations) (now buses) (now ends) (now blocks) (now places) (now frames) (now path) (now ways) ⌝ }
     requires { ⌜ c .late ≡ 0 ⌝ }
     ensures { λ r. ⌜ Judged o (network (now (sub .entry)) (now (kv .entry)) (now (from .entry)) (now (to .entry)) (now (service .entry)) (now (xy .entry)) (now (corners .entry)) (now (twins .entry))) room (c .unit) (r .bounds) (r .pieces) (r .late) ⌝ }
     ensures { λ r. ⌜ r .cell ≡ cellSize (boxesIn k (now (frames .entry))) (occupied (countsIn k (now (stations .entry)))) ⌝ }
+    ensures { λ r. ⌜ Indexed (boxesIn k (now (frames .entry))) (occupied (countsIn k (now (stations .entry)))) (r .cell) k (now (sorted .exit)) ⌝ }
 {
     let unit = c.unit;
+    let led = is_led(o);
     let cell = cell_size(k, stations, frames);
+    index_boxes(led, cell, k, stations, frames, sorted);
     let all = survey(
         sub,
         from,
@@ -88,7 +93,7 @@ pub fn judge(
         blocks,
         places,
         frames,
-        is_led(o),
+        led,
         cell,
         gap_of(unit),
         k,

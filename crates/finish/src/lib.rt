@@ -53,7 +53,7 @@ fn write(
     pieces: &mut [f64],
     branches: &mut [u32],
 ) -> Answer
-    requires { ⌜ (length (now sub) ≤ 4096) × (length (now from) ≤ 8192) × (k ≤ 4096) × (2 * k ≤ length (now stations)) × (4 * k ≤ length (now frames)) × (3 * k ≤ length (now blocks)) × (k ≤ length (now sorted)) ⌝ }
+    requires { ⌜ (length (now sub) ≤ 4096) × (length (now from) ≤ 8192) × (k ≤ 4096) × (2 * k ≤ length (now stations)) × (4 * k ≤ length (now frames)) × (3 * k ≤ length (now blocks)) ⌝ }
     requires { ⌜ (2 * length (now sub) ≤ length (now positions)) × (4 * length (now sub) ≤ length (now bars)) × (4 * k ≤ length (now boxes)) × (k ≤ length (now scales)) × (length (now from) ≤ length (now roles)) × (room .pieces ≡ length (now pieces)) × (room .branches ≡ length (now branches)) ⌝ }
     requires { ⌜ Charted o (network (now sub) (now kv) (now from) (now to) (now service) (now xy) (now corners) (now twins)) k (crossingRoom room) (c .unit) (c .finite) (c .late) (now stations) (now buses) (now ends) (now blocks) (now places) (now frames) (now path) (now ways) ⌝ }
     requires { ⌜ c .late ≡ 0 ⌝ }
@@ -143,7 +143,7 @@ pub fn finish(
     pieces: &mut [f64],
     branches: &mut [u32],
 ) -> Answer
-    requires { ⌜ (length (now sub) ≤ 4096) × (length (now from) ≤ 8192) × (k ≤ 4096) × (2 * k ≤ length (now stations)) × (4 * k ≤ length (now frames)) × (3 * k ≤ length (now blocks)) × (k ≤ length (now sorted)) ⌝ }
+    requires { ⌜ (length (now sub) ≤ 4096) × (length (now from) ≤ 8192) × (k ≤ 4096) × (2 * k ≤ length (now stations)) × (4 * k ≤ length (now frames)) × (3 * k ≤ length (now blocks)) ⌝ }
     requires { ⌜ (2 * length (now sub) ≤ length (now positions)) × (4 * length (now sub) ≤ length (now bars)) × (4 * k ≤ length (now boxes)) × (k ≤ length (now scales)) × (length (now from) ≤ length (now roles)) × (room .pieces ≡ length (now pieces)) × (room .branches ≡ length (now branches)) ⌝ }
     requires { ⌜ Charted o (network (now sub) (now kv) (now from) (now to) (now service) (now xy) (now corners) (now twins)) k (crossingRoom room) (c .unit) (c .finite) (c .late) (now stations) (now buses) (now ends) (now blocks) (now places) (now frames) (now path) (now ways) ⌝ }
     ensures { λ r. ⌜ Drew o (network (now (sub .entry)) (now (kv .entry)) (now (from .entry)) (now (to .entry)) (now (service .entry)) (now (xy .entry)) (now (corners .entry)) (now (twins .entry))) (late (drawing o (network (now (sub .entry)) (now (kv .entry)) (now (from .entry)) (now (to .entry)) (now (service .entry)) (now (xy .entry)) (now (corners .entry)) (now (twins .entry)))) room) (lists (now (positions .entry)) (now (bars .entry)) (now (boxes .entry)) (now (scales .entry)) (now (roles .entry)) (now (pieces .entry)) (now (branches .entry))) r (lists (now (positions .exit)) (now (bars .exit)) (now (boxes .exit)) (now (scales .exit)) (now (roles .exit)) (now (pieces .exit)) (now (branches .exit))) ⌝ }

@@ -90,22 +90,20 @@ module _ (H : Held) (from to : List ℤ) (service : List ℕ) where
       ∙ joined-two (passAt false H from to service) (passAt true H from to service) drawn (length from) both-passes
 
   -- ---- the survey, after e branches
-  pub record Surveying (n : ℕ) (finite : Bool) (e : ℕ) (hits₀ hits : List ℕ) (path₀ path : List Float) : Type 0 where
+  pub record Surveying (n : ℕ) (finite : Bool) (e : ℕ) (path₀ path : List Float) : Type 0 where
     pub within : e ≤ length from
     pub counted : n ≡ length (joined drawn e)
     pub few : n ≤ 4294967296 * e
     pub tested : finite ≡ allOf (allOf finitePoint) (table (runAt H from to service) e)
-    pub struck : length hits ≡ length hits₀
     pub sized : length path ≡ length path₀
 
-  pub survey-none : (hits : List ℕ) (path : List Float) → Surveying 0 true 0 hits hits path path
-  survey-none hits path =
+  pub survey-none : (path : List Float) → Surveying 0 true 0 path path
+  survey-none path =
       record {
         within = omega arith;
         counted = ap length (sym (joined-zero drawn));
         few = omega arith;
         tested = sym (all-zero (allOf finitePoint) (runAt H from to service));
-        struck = refl;
         sized = refl;
       }
 
@@ -123,10 +121,10 @@ module _ (H : Held) (from to : List ℤ) (service : List ℕ) where
         let u : c < 2 ^ 32 = run-short h in
         omega (arith, k e)
 
-    pub survey-more : (n x : ℕ) (f a b : Bool) (hits₀ past hits : List ℕ) (path₀ old : List Float) → e < length from → waysOf (H .ends) e < 2 ^ 31 → Surveying n f e hits₀ past path₀ old
-        → length hits ≡ length past → length path ≡ length old → Counted x (pointsIn c path) → a ≡ allOf finitePoint (pointsIn c path) → b ≡ f && a
-        → Surveying (n + x) b (e + 1) hits₀ hits path₀ path
-    survey-more n x f a b hits₀ past hits path₀ old h w I r s k t u =
+    pub survey-more : (n x : ℕ) (f a b : Bool) (path₀ old : List Float) → e < length from → waysOf (H .ends) e < 2 ^ 31 → Surveying n f e path₀ old
+        → length path ≡ length old → Counted x (pointsIn c path) → a ≡ allOf finitePoint (pointsIn c path) → b ≡ f && a
+        → Surveying (n + x) b (e + 1) path₀ path
+    survey-more n x f a b path₀ old h w I s k t u =
         record {
           within = omega arith;
           counted =
@@ -136,34 +134,32 @@ module _ (H : Held) (from to : List ℤ) (service : List ℕ) where
           tested =
               rw add-one
               (cc (u, t, I .tested, ap (allOf finitePoint) (R .holds), all-suc (allOf finitePoint) (runAt H from to service) e));
-          struck = r ∙ I .struck;
           sized = s ∙ I .sized;
         }
 
-  pub survey-count : (n : ℕ) (f : Bool) (e : ℕ) (hits₀ hits : List ℕ) (path₀ path : List Float) → Surveying n f e hits₀ hits path₀ path → length from ≤ e
+  pub survey-count : (n : ℕ) (f : Bool) (e : ℕ) (path₀ path : List Float) → Surveying n f e path₀ path → length from ≤ e
       → n ≡ length (allPieces (kinds (H .sub) from to service) (runsIn H from to service))
-  survey-count n f e hits₀ hits path₀ path I h =
+  survey-count n f e path₀ path I h =
       let z : e ≡ length from = omega (arith, I .within) in
       I .counted ∙ ap (λ (k : ℕ). length (joined drawn k)) z ∙ sym all-length
 
-  pub survey-test : (n : ℕ) (f : Bool) (e : ℕ) (hits₀ hits : List ℕ) (path₀ path : List Float) → Surveying n f e hits₀ hits path₀ path → length from ≤ e
+  pub survey-test : (n : ℕ) (f : Bool) (e : ℕ) (path₀ path : List Float) → Surveying n f e path₀ path → length from ≤ e
       → f ≡ allOf (allOf finitePoint) (runsIn H from to service)
   unfolding runsIn
-  survey-test n f e hits₀ hits path₀ path I h =
+  survey-test n f e path₀ path I h =
       let z : e ≡ length from = omega (arith, I .within) in
       I .tested ∙ ap (λ (k : ℕ). allOf (allOf finitePoint) (table (runAt H from to service) k)) z
 
   -- ---- a pass, after e branches
-  pub record Passing (lines : Bool) (at : ℕ) (n n' : List Float) (b b' : List ℕ) (k e : ℕ) (hits₀ hits : List ℕ) (path₀ path : List Float) : Type 0 where
+  pub record Passing (lines : Bool) (at : ℕ) (n n' : List Float) (b b' : List ℕ) (k e : ℕ) (path₀ path : List Float) : Type 0 where
     pub filling : Filling (passAt lines H from to service) (length from) at n n' b b' k e
-    pub struck : length hits ≡ length hits₀
     pub sized : length path ≡ length path₀
 
   module _ (lines : Bool) (at : ℕ) where
-    pub pass-none : (n : List Float) (b hits : List ℕ) (path : List Float) → Room at (passIn lines H from to service) n b
-        → Passing lines at n n b b at 0 hits hits path path
+    pub pass-none : (n : List Float) (b : List ℕ) (path : List Float) → Room at (passIn lines H from to service) n b
+        → Passing lines at n n b b at 0 path path
     unfolding passIn
-    pass-none n b hits path h = record { filling = fill-none (passAt lines H from to service) (length from) at n b (h .0) (h .1); struck = refl; sized = refl }
+    pass-none n b path h = record { filling = fill-none (passAt lines H from to service) (length from) at n b (h .0) (h .1); sized = refl }
 
     taken : (e : ℕ) → pick (isLine (kindOf (H .sub) from to service e)) lines (not lines) ≡ true → passAt lines H from to service e ≡ drawn e
     unfolding passAt
@@ -173,7 +169,7 @@ module _ (H : Held) (from to : List ℤ) (service : List ℕ) where
     unfolding passAt
     left e t = ap (λ (z : Bool). pick z (drawn e) []) t
 
-    module _ {n n' : List Float} {b b' : List ℕ} {k e : ℕ} {hits₀ past : List ℕ} {path₀ old : List Float} (I : Passing lines at n n' b b' k e hits₀ past path₀ old) where
+    module _ {n n' : List Float} {b b' : List ℕ} {k e : ℕ} {path₀ old : List Float} (I : Passing lines at n n' b b' k e path₀ old) where
       pub pass-room : {c : ℕ} {path : List Float} → e < length from → Ran c path (runAt H from to service e)
           → pick (isLine (kindOf (H .sub) from to service e)) lines (not lines) ≡ true
           → (4 * (k + length (pieces e (pointsIn c path))) ≤ length n') × (k + length (pieces e (pointsIn c path)) ≤ length b')
@@ -182,18 +178,17 @@ module _ (H : Held) (from to : List ℤ) (service : List ℕ) where
           let z : length (pieces e (pointsIn c path)) ≡ length (passAt lines H from to service e) = ap length (run-pieces e c path R ∙ sym (taken e t)) in
           (omega (arith, q .0), omega (arith, q .1))
 
-      pub pass-more : {c r : ℕ} {hits : List ℕ} {path : List Float} {n'' : List Float} {b'' : List ℕ} → e < length from → Ran c path (runAt H from to service e)
-          → pick (isLine (kindOf (H .sub) from to service e)) lines (not lines) ≡ true → length hits ≡ length past → length path ≡ length old
-          → Put k r (pieces e (pointsIn c path)) n' n'' b' b'' → Passing lines at n n'' b b'' r (e + 1) hits₀ hits path₀ path
-      pass-more {c} {r} {hits} {path} h R t q s w =
+      pub pass-more : {c r : ℕ} {path : List Float} {n'' : List Float} {b'' : List ℕ} → e < length from → Ran c path (runAt H from to service e)
+          → pick (isLine (kindOf (H .sub) from to service e)) lines (not lines) ≡ true → length path ≡ length old
+          → Put k r (pieces e (pointsIn c path)) n' n'' b' b'' → Passing lines at n n'' b b'' r (e + 1) path₀ path
+      pass-more {c} {r} {path} h R t s w =
           record {
             filling = fill-more (passAt lines H from to service) (length from) at (I .filling) h (put-of w (run-pieces e c path R ∙ sym (taken e t)));
-            struck = q ∙ I .struck;
             sized = s ∙ I .sized;
           }
 
-      pub pass-skip : e < length from → pick (isLine (kindOf (H .sub) from to service e)) lines (not lines) ≡ false → Passing lines at n n' b b' k (e + 1) hits₀ past path₀ old
-      pass-skip h t = record { filling = fill-skip (passAt lines H from to service) (length from) at (I .filling) h (left e t); struck = I .struck; sized = I .sized }
+      pub pass-skip : e < length from → pick (isLine (kindOf (H .sub) from to service e)) lines (not lines) ≡ false → Passing lines at n n' b b' k (e + 1) path₀ old
+      pass-skip h t = record { filling = fill-skip (passAt lines H from to service) (length from) at (I .filling) h (left e t); sized = I .sized }
 
       pub pass-end : length from ≤ e → Put at k (passIn lines H from to service) n n' b b'
       unfolding passIn

@@ -119,7 +119,7 @@ fn put_pieces(
     k
 }
 
-// Counts the pieces of all runs, and tests their points. `hits` is a work list.
+// Counts the pieces of all runs, and tests their points. `index` enters boxes by cell, or none.
 pub fn survey(
     sub: &[u32],
     from: &[i64],
@@ -136,13 +136,13 @@ pub fn survey(
     gap: f64,
     k: usize,
     stations: &[u32],
-    hits: &mut [u32],
+    index: &[u32],
     ways: &[f64],
     path: &mut [f64],
 ) -> Totals
     requires { ⌜ (length (now from) ≤ 8192) × (length (now sub) ≤ 4096) ⌝ }
     requires { ⌜ FitAll (now from) (now ends) (now path) ⌝ }
-    requires { ⌜ Stands k (now stations) (now frames) (now hits) ⌝ }
+    requires { ⌜ Stands cell k (now stations) (now frames) (now index) ⌝ }
     ensures { λ r. ⌜ r .pieces ≡ length (allPieces (kinds (now (sub .entry)) (now (from .entry)) (now (to .entry)) (now (service .entry))) (runsIn (held (now (sub .entry)) unit (now (buses .entry)) (now (ends .entry)) (now (blocks .entry)) (now (places .entry)) (now (frames .entry)) (lead led cell gap k (now (stations .entry)) (now (ways .entry)))) (now (from .entry)) (now (to .entry)) (now (service .entry)))) ⌝ }
     ensures { λ r. ⌜ r .finite ≡ allOf (allOf finitePoint) (runsIn (held (now (sub .entry)) unit (now (buses .entry)) (now (ends .entry)) (now (blocks .entry)) (now (places .entry)) (now (frames .entry)) (lead led cell gap k (now (stations .entry)) (now (ways .entry)))) (now (from .entry)) (now (to .entry)) (now (service .entry))) ⌝ }
     ensures { λ r. ⌜ r .pieces ≤ 2 ^ 45 ⌝ }
@@ -167,7 +167,7 @@ pub fn survey(
             gap,
             k,
             stations,
-            hits,
+            index,
             ways,
             e,
             path,
@@ -210,7 +210,7 @@ fn write_pass(
     gap: f64,
     k: usize,
     stations: &[u32],
-    hits: &mut [u32],
+    index: &[u32],
     ways: &[f64],
     path: &mut [f64],
     numbers: &mut [f64],
@@ -218,7 +218,7 @@ fn write_pass(
 ) -> usize
     requires { ⌜ (length (now from) ≤ 8192) × (length (now sub) ≤ 4096) ⌝ }
     requires { ⌜ FitAll (now from) (now ends) (now path) ⌝ }
-    requires { ⌜ Stands k (now stations) (now frames) (now hits) ⌝ }
+    requires { ⌜ Stands cell k (now stations) (now frames) (now index) ⌝ }
     requires { ⌜ Room at (passIn lines (held (now sub) unit (now buses) (now ends) (now blocks) (now places) (now frames) (lead led cell gap k (now stations) (now ways))) (now from) (now to) (now service)) (now numbers) (now branches) ⌝ }
     ensures { λ r. ⌜ Put at r (passIn lines (held (now (sub .entry)) unit (now (buses .entry)) (now (ends .entry)) (now (blocks .entry)) (now (places .entry)) (now (frames .entry)) (lead led cell gap k (now (stations .entry)) (now (ways .entry)))) (now (from .entry)) (now (to .entry)) (now (service .entry))) (now (numbers .entry)) (now (numbers .exit)) (now (branches .entry)) (now (branches .exit)) ⌝ }
 {
@@ -242,7 +242,7 @@ fn write_pass(
                 gap,
                 k,
                 stations,
-                hits,
+                index,
                 ways,
                 e,
                 path,
@@ -274,7 +274,7 @@ pub fn write_pieces(
     gap: f64,
     k: usize,
     stations: &[u32],
-    hits: &mut [u32],
+    index: &[u32],
     ways: &[f64],
     path: &mut [f64],
     numbers: &mut [f64],
@@ -282,7 +282,7 @@ pub fn write_pieces(
 )
     requires { ⌜ (length (now from) ≤ 8192) × (length (now sub) ≤ 4096) ⌝ }
     requires { ⌜ FitAll (now from) (now ends) (now path) ⌝ }
-    requires { ⌜ Stands k (now stations) (now frames) (now hits) ⌝ }
+    requires { ⌜ Stands cell k (now stations) (now frames) (now index) ⌝ }
     requires { ⌜ RoomIf l (allPieces (kinds (now sub) (now from) (now to) (now service)) (runsIn (held (now sub) unit (now buses) (now ends) (now blocks) (now places) (now frames) (lead led cell gap k (now stations) (now ways))) (now from) (now to) (now service))) (now numbers) (now branches) ⌝ }
     ensures { λ _. ⌜ now (numbers .exit) ≡ after l (flat pieceNumbers (allPieces (kinds (now (sub .entry)) (now (from .entry)) (now (to .entry)) (now (service .entry))) (runsIn (held (now (sub .entry)) unit (now (buses .entry)) (now (ends .entry)) (now (blocks .entry)) (now (places .entry)) (now (frames .entry)) (lead led cell gap k (now (stations .entry)) (now (ways .entry)))) (now (from .entry)) (now (to .entry)) (now (service .entry))))) (now (numbers .entry)) ⌝ }
     ensures { λ _. ⌜ now (branches .exit) ≡ after l (map branchOf (allPieces (kinds (now (sub .entry)) (now (from .entry)) (now (to .entry)) (now (service .entry))) (runsIn (held (now (sub .entry)) unit (now (buses .entry)) (now (ends .entry)) (now (blocks .entry)) (now (places .entry)) (now (frames .entry)) (lead led cell gap k (now (stations .entry)) (now (ways .entry)))) (now (from .entry)) (now (to .entry)) (now (service .entry))))) (now (branches .entry)) ⌝ }
@@ -308,7 +308,7 @@ pub fn write_pieces(
         gap,
         k,
         stations,
-        hits,
+        index,
         ways,
         path,
         numbers,
@@ -332,7 +332,7 @@ pub fn write_pieces(
         gap,
         k,
         stations,
-        hits,
+        index,
         ways,
         path,
         numbers,

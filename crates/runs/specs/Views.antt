@@ -14,6 +14,7 @@ use Rattle.network.specs.declared.words.Kind.the-variants.{Undrawn, Open, Inter
 use Rattle.network.specs.Words.{stationOf, occupied}
 use Rattle.network.specs.Views.{countsIn, fromRowsIn, toRowsIn, pointsIn, boxesIn}
 use Rattle.detour.specs.Detour.{detour}
+use Rattle.detour.specs.Index.{Indexed}
 use Rattle.detour.specs.Paths.{pathIn}
 use Rattle.bars.specs.declared.Bar.{Bar}
 use Rattle.bars.specs.Bar.{rowY, barFor, spanOf, position}
@@ -109,9 +110,10 @@ Roomy n path = 2 * (n + 8) ≤ length path
 abbrev pub Fits : List ℕ → List Float → ℕ → Type 0
 Fits ends path e = Roomy (waysOf ends e) path × (wayOf ends e + waysOf ends e < 2 ^ 31)
 
--- the lists of k stations are as long as leading needs
-abbrev pub Stands : ℕ → List ℕ → List Float → List ℕ → Type 0
-Stands k stations frames hits = (2 * k ≤ length stations) × (4 * k ≤ length frames) × (k ≤ length hits) × (k ≤ 4096)
+-- the lists of k stations are as long as leading needs, and the index enters their boxes by cells of this side, or none
+abbrev pub Stands : Float → ℕ → List ℕ → List Float → List ℕ → Type 0
+Stands cell k stations frames index =
+    (2 * k ≤ length stations) × (4 * k ≤ length frames) × (k ≤ 4096) × Indexed (boxesIn k frames) (occupied (countsIn k stations)) cell k index
 
 -- the scene that the lists hold, with these blocks of stations and bars of buses
 abbrev pub sceneWith : Held → List Kind → List Float → List Bar → Scene

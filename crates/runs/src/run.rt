@@ -178,19 +178,19 @@ fn lead(
     k: usize,
     stations: &[u32],
     frames: &[f64],
-    hits: &mut [u32],
+    index: &[u32],
     s: usize,
     t: usize,
     path: &mut [f64],
     count: usize,
 ) -> usize
-    requires { ⌜ Stands k (now stations) (now frames) (now hits) ⌝ }
+    requires { ⌜ Stands cell k (now stations) (now frames) (now index) ⌝ }
     requires { ⌜ 2 * (count + 5) ≤ length (now path) ⌝ }
     ensures { λ r. ⌜ pathIn 1 r (now (path .exit)) ≡ ledIn led cell gap k (now (stations .entry)) (now (frames .entry)) s t (pathIn 1 count (now (path .entry))) ⌝ }
     ensures { λ r. ⌜ r ≤ count + 4 ⌝ }
 {
     if led {
-        return detour(cell, gap, k, stations, frames, hits, s, t, path, 1, count);
+        return detour(cell, gap, k, stations, frames, index, s, t, path, 1, count);
     }
     count
 }
@@ -218,7 +218,7 @@ fn run_line(
     gap: f64,
     k: usize,
     stations: &[u32],
-    hits: &mut [u32],
+    index: &[u32],
     ways: &[f64],
     a: usize,
     b: usize,
@@ -229,7 +229,7 @@ fn run_line(
     path: &mut [f64],
 ) -> usize
     requires { ⌜ (a < 2 ^ 32) × (b < 2 ^ 32) × (Roomy n (now path)) × (w + n < 2 ^ 31) ⌝ }
-    requires { ⌜ Stands k (now stations) (now frames) (now hits) ⌝ }
+    requires { ⌜ Stands cell k (now stations) (now frames) (now index) ⌝ }
     ensures { λ r. ⌜ Ran r (now (path .exit)) (lineFrom (now (sub .entry)) unit (now (buses .entry)) (now (blocks .entry)) (now (places .entry)) (now (frames .entry)) (lead led cell gap k (now (stations .entry)) (now (ways .entry))) a b ra rb w n) ⌝ }
 {
     let s = station_of(sub, a);
@@ -244,11 +244,23 @@ fn run_line(
         n,
         exit_of(places, frames, t, s, q.y),
     );
-    let r = lead(led, cell, gap, k, stations, frames, hits, s, t, path, n + 2);
+    let r = lead(
+        led,
+        cell,
+        gap,
+        k,
+        stations,
+        frames,
+        index,
+        s,
+        t,
+        path,
+        n + 2,
+    );
     put_ends(path, p, q, r)
 }
 
-// Puts the run of branch e at the front of path, and answers how many points it has. `hits` is a work list.
+// Puts the run of branch e at the front of path, and answers how many points it has. `index` enters boxes by cell, or none.
 pub fn run(
     sub: &[u32],
     from: &[i64],
@@ -265,14 +277,14 @@ pub fn run(
     gap: f64,
     k: usize,
     stations: &[u32],
-    hits: &mut [u32],
+    index: &[u32],
     ways: &[f64],
     e: usize,
     path: &mut [f64],
 ) -> usize
     requires { ⌜ (e < 2 ^ 32) × (length (now sub) ≤ 2 ^ 32) ⌝ }
     requires { ⌜ Fits (now ends) (now path) e ⌝ }
-    requires { ⌜ Stands k (now stations) (now frames) (now hits) ⌝ }
+    requires { ⌜ Stands cell k (now stations) (now frames) (now index) ⌝ }
     ensures { λ r. ⌜ Ran r (now (path .exit)) (runIn (held (now (sub .entry)) unit (now (buses .entry)) (now (ends .entry)) (now (blocks .entry)) (now (places .entry)) (now (frames .entry)) (lead led cell gap k (now (stations .entry)) (now (ways .entry)))) e (kindOf (now (sub .entry)) (now (from .entry)) (now (to .entry)) (now (service .entry)) e)) ⌝ }
 {
     let ra = at(ends, 4 * e);
@@ -295,7 +307,7 @@ pub fn run(
             gap,
             k,
             stations,
-            hits,
+            index,
             ways,
             a,
             b,

@@ -83,7 +83,7 @@ module _ (o : Options) (N : Network) (L : Lists) (W : Work) (X : Crossings) wher
       (Lent.lists (w .blocks) (w .frames) (x .ways)) (Lent.work (w .stations) (w .sorted) (w .places) (w .path))
       → Claim o N L W X
       (both (A .answer) l
-      (work (A .work .stations) (w .buses) (w .ends) (A .work .hits) (w .spare) (w .keys) (A .work .points) (A .lists .displacement) (A .lists .spacing) (A .work .path))
+      (work (A .work .stations) (w .buses) (w .ends) (A .work .index) (w .spare) (w .keys) (A .work .points) (A .lists .displacement) (A .lists .spacing) (A .work .path))
       (crossings (x .numbers) (x .places) (A .lists .relative)))
   unfolding bothAfter auditAfter audited
   claim-both a l w x e p d A f = claim-drawn p l w x (subst (λ (b : Answer). call b l w x ≡ layoutOf o N L W X) d e) A f

@@ -39,7 +39,7 @@ auditAfter N count C =
 unfoldable pub bothAfter : Call → Audited.Call → Both
 bothAfter C A =
     both (A .answer) (C .lists)
-    (work (A .work .stations) (C .work .buses) (C .work .ends) (A .work .hits) (C .work .spare) (C .work .keys) (A .work .points) (A .lists .displacement) (A .lists .spacing) (A .work .path))
+    (work (A .work .stations) (C .work .buses) (C .work .ends) (A .work .index) (C .work .spare) (C .work .keys) (A .work .points) (A .lists .displacement) (A .lists .spacing) (A .work .path))
     (crossings (C .crossings .numbers) (C .crossings .places) (A .lists .relative))
 
 -- by layout's answer: what it refuses is not audited

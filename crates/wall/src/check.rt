@@ -37,14 +37,14 @@ pub fn audit_drawing(
     spacing: &mut [f64],
     relative: &mut [f64],
     stations: &mut [u32],
-    hits: &mut [u32],
+    index: &mut [u32],
     points: &mut [f64],
     path: &mut [f64],
 ) -> Audit
     requires { ⌜ (4 * count ≤ length (now pieces)) × (count ≤ length (now branches)) ⌝ }
-    ensures { λ r. ⌜ Audited.call r (Lent.lists (now (displacement .exit)) (now (spacing .exit)) (now (relative .exit))) (Lent.work (now (stations .exit)) (now (hits .exit)) (now (points .exit)) (now (path .exit)))
+    ensures { λ r. ⌜ Audited.call r (Lent.lists (now (displacement .exit)) (now (spacing .exit)) (now (relative .exit))) (Lent.work (now (stations .exit)) (now (index .exit)) (now (points .exit)) (now (path .exit)))
         ≡ Audited.auditOf (auditParts (now (sub .entry)) (now (kv .entry)) (now (from .entry)) (now (to .entry)) (now (xy .entry)) (now (boxes .entry)) (now (roles .entry)) (now (pieces .entry)) (now (branches .entry)) count)
-        (Lent.lists (now (displacement .entry)) (now (spacing .entry)) (now (relative .entry))) (Lent.work (now (stations .entry)) (now (hits .entry)) (now (points .entry)) (now (path .entry))) ⌝ }
+        (Lent.lists (now (displacement .entry)) (now (spacing .entry)) (now (relative .entry))) (Lent.work (now (stations .entry)) (now (index .entry)) (now (points .entry)) (now (path .entry))) ⌝ }
 {
     let k = station_count(sub);
     let b = shorter(4 * k, boxes.len());
@@ -63,7 +63,7 @@ pub fn audit_drawing(
         spacing,
         relative,
         stations,
-        hits,
+        index,
         points,
         path,
     )

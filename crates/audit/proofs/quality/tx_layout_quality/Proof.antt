@@ -13,7 +13,7 @@ returns : tie.Need-returns
 returns c = call-refused _ _ _ _ (c .before .refusal-of-input .ensures) (c .if1 .taken)
 
 audited-requires : tie.Need-audited-requires
-audited-requires c κs = let z = passed-of _ _ (sym (c .before .before .before .before .before .before .before .if1 .left) ∙ c .before .before .before .before .before .before .before .before .refusal-of-input .ensures) in ((z .few, z .below, z .stations), (z .displacement, z .spacing, z .relative, z .hits, z .points, z .path))
+audited-requires c κs = let z = passed-of _ _ (sym (c .before .before .before .before .before .before .before .if1 .left) ∙ c .before .before .before .before .before .before .before .before .refusal-of-input .ensures) in ((z .few, z .below, z .stations), (z .displacement, z .spacing, z .relative, z .points, z .path))
 
 clear-work-requires : tie.Need-clear-work-requires
 clear-work-requires c κs = search needs

@@ -22,17 +22,14 @@ end-at-requires-2 c κs = search needs
 station-at-requires-2 : tie.Need-station-at-requires-2
 station-at-requires-2 c κs = search needs
 
-first-hit-requires : tie.Need-first-hit-requires
-first-hit-requires c κs = search needs
+hit-among-requires : tie.Need-hit-among-requires
+hit-among-requires c κs = search needs
 
 is-hit-requires : tie.Need-is-hit-requires
 is-hit-requires c κs = search needs
 
-same-length : tie.Need-same-length
-same-length c = search needs
-
 returns : tie.Need-returns
-returns c = crosses-by _ _ _ _ _ _ _ _ _ _ _ _ _ _ _ _ _ (c .before .before .before .before .before .before .before .before .before .before .piece-start .ensures) (c .before .before .before .before .before .before .before .before .before .piece-end .ensures) (c .before .before .before .before .before .before .before .before .end-at .ensures) (c .before .before .before .before .before .before .before .station-at .ensures) (c .before .before .before .before .before .before .end-at2 .ensures) (c .before .before .before .before .before .station-at2 .ensures) (c .before .before .before .first-hit .ensures) (c .is-hit .ensures)
+returns c = crosses-by _ _ _ _ _ _ _ _ _ _ _ _ _ _ _ _ _ (c .before .before .before .before .before .before .before .piece-start .ensures) (c .before .before .before .before .before .before .piece-end .ensures) (c .before .before .before .before .before .end-at .ensures) (c .before .before .before .before .station-at .ensures) (c .before .before .before .end-at2 .ensures) (c .before .before .station-at2 .ensures) (c .before .hit-among .ensures) (c .is-hit .ensures)
 
 pub crosses-spec : {M : Type 1} → statement M
 crosses-spec =
@@ -44,7 +41,6 @@ crosses-spec =
     station-at-requires
     end-at-requires-2
     station-at-requires-2
-    first-hit-requires
+    hit-among-requires
     is-hit-requires
-    same-length
     returns)

@@ -1,5 +1,5 @@
 -- `detour::walk::walked` meets its contract. Assumes nothing.
-use mathlib.Core.Path.{ap, _∙_}
+use mathlib.Core.Path.{refl, ap, _∙_}
 use native.Mathlib.Omega.{arith}
 use lib.IntN.{natAbs}
 use Rattle.detour.proofs.Numbers.{cell-back, at-cell, sign-back, at-sign, at-count}
@@ -41,30 +41,11 @@ sign-of-requires c κs = search needs
 sign-of-requires-2 : tie.Need-sign-of-requires-2
 sign-of-requires-2 c κs = search needs
 
-hypot-requires : tie.Need-hypot-requires
-hypot-requires c κs = search needs
-
 walk-requires : tie.Need-walk-requires
-walk-requires c κs = (c .before .before .before .before .before .before .before .before .before .before .before .before .before .before .before .before .before .before .pre, (omega (arith, ap natAbs (cell-back _ _ _ (c .before .before .before .before .before .before .before .before .before .before .before .cell-of .ensures)), at-cell _ _ _ (c .before .before .before .before .before .before .before .before .before .before .before .cell-of .ensures), at-count _ _ _ _ _ (c .before .before .before .cell-count .ensures)), omega (arith, ap natAbs (cell-back _ _ _ (c .before .before .before .before .before .before .before .before .before .before .cell-of2 .ensures)), at-cell _ _ _ (c .before .before .before .before .before .before .before .before .before .before .cell-of2 .ensures), at-count _ _ _ _ _ (c .before .before .before .cell-count .ensures)), omega (arith, ap natAbs (sign-back _ _ (c .before .before .sign-of .ensures)), at-sign _ _ (c .before .before .sign-of .ensures)), omega (arith, ap natAbs (sign-back _ _ (c .before .sign-of2 .ensures)), at-sign _ _ (c .before .sign-of2 .ensures))))
+walk-requires c κs = (c .before .before .before .before .before .before .before .before .before .before .before .before .before .before .before .before .before .pre, (omega (arith, ap natAbs (cell-back _ _ _ (c .before .before .before .before .before .before .before .before .before .before .cell-of .ensures)), at-cell _ _ _ (c .before .before .before .before .before .before .before .before .before .before .cell-of .ensures), at-count _ _ _ _ _ (c .before .before .cell-count .ensures)), omega (arith, ap natAbs (cell-back _ _ _ (c .before .before .before .before .before .before .before .before .before .cell-of2 .ensures)), at-cell _ _ _ (c .before .before .before .before .before .before .before .before .before .cell-of2 .ensures), at-count _ _ _ _ _ (c .before .before .cell-count .ensures)), omega (arith, ap natAbs (sign-back _ _ (c .before .sign-of .ensures)), at-sign _ _ (c .before .sign-of .ensures)), omega (arith, ap natAbs (sign-back _ _ (c .sign-of2 .ensures)), at-sign _ _ (c .sign-of2 .ensures))))
 
 returns : tie.Need-returns
-returns c = c .walk .ensures ∙ walked-made _ _ _ _ _ _ _ _ _ _ _ _ _ _ _ _ (cell-back _ _ _ (c .before .before .before .before .before .before .before .before .before .before .before .before .cell-of .ensures) ∙ c .before .before .before .before .before .before .before .before .before .before .before .before .cell-of .ensures) (cell-back _ _ _ (c .before .before .before .before .before .before .before .before .before .before .before .cell-of2 .ensures) ∙ c .before .before .before .before .before .before .before .before .before .before .before .cell-of2 .ensures) (cell-back _ _ _ (c .before .before .before .before .before .before .before .before .before .before .cell-of3 .ensures) ∙ c .before .before .before .before .before .before .before .before .before .before .cell-of3 .ensures) (cell-back _ _ _ (c .before .before .before .before .before .before .before .before .before .cell-of4 .ensures) ∙ c .before .before .before .before .before .before .before .before .before .cell-of4 .ensures) (sign-back _ _ (c .before .before .before .sign-of .ensures) ∙ c .before .before .before .sign-of .ensures) (sign-back _ _ (c .before .before .sign-of2 .ensures) ∙ c .before .before .sign-of2 .ensures) (c .before .before .before .before .before .before .before .before .first-side .ensures) (c .before .before .before .before .before .before .before .first-side2 .ensures) (c .before .before .before .before .before .before .side-step .ensures) (c .before .before .before .before .before .side-step2 .ensures) (c .before .hypot .ensures) (c .before .before .before .before .cell-count .ensures)
+returns c = c .walk .ensures ∙ walked-made _ _ _ _ _ _ _ _ _ _ _ _ _ _ _ _ (cell-back _ _ _ (c .before .before .before .before .before .before .before .before .before .before .before .cell-of .ensures) ∙ c .before .before .before .before .before .before .before .before .before .before .before .cell-of .ensures) (cell-back _ _ _ (c .before .before .before .before .before .before .before .before .before .before .cell-of2 .ensures) ∙ c .before .before .before .before .before .before .before .before .before .before .cell-of2 .ensures) (cell-back _ _ _ (c .before .before .before .before .before .before .before .before .before .cell-of3 .ensures) ∙ c .before .before .before .before .before .before .before .before .before .cell-of3 .ensures) (cell-back _ _ _ (c .before .before .before .before .before .before .before .before .cell-of4 .ensures) ∙ c .before .before .before .before .before .before .before .before .cell-of4 .ensures) (sign-back _ _ (c .before .before .sign-of .ensures) ∙ c .before .before .sign-of .ensures) (sign-back _ _ (c .before .sign-of2 .ensures) ∙ c .before .sign-of2 .ensures) (c .before .before .before .before .before .before .before .first-side .ensures) (c .before .before .before .before .before .before .first-side2 .ensures) (c .before .before .before .before .before .side-step .ensures) (c .before .before .before .before .side-step2 .ensures) (refl) (c .before .before .before .cell-count .ensures)
 
 pub walked-spec : {M : Type 1} → statement M
-walked-spec =
-    tie.close
-    (tie.spec
-    cell-of-requires
-    cell-of-requires-2
-    cell-of-requires-3
-    cell-of-requires-4
-    first-side-requires
-    first-side-requires-2
-    side-step-requires
-    side-step-requires-2
-    cell-count-requires
-    sign-of-requires
-    sign-of-requires-2
-    hypot-requires
-    walk-requires
-    returns)
+walked-spec = tie.close (tie.spec cell-of-requires cell-of-requires-2 cell-of-requires-3 cell-of-requires-4 first-side-requires first-side-requires-2 side-step-requires side-step-requires-2 cell-count-requires sign-of-requires sign-of-requires-2 walk-requires returns)

@@ -74,7 +74,7 @@ enum-known-a-3 : tie.Need-enum-known-a-3
 enum-known-a-3 c = search needs
 
 run-line-requires : tie.Need-run-line-requires
-run-line-requires c κs = let z = subst Small (c .before .before .before .a3 .given .1) (small _ _ (c .before .before .before .before .before .before .before .before .before .before .before .before .before .before .before .before .before .before .before .before .before .pre .0 .1) (c .before .before .before .before .before .kind-of .ensures .1)) in ((z .0, z .1, omega (arith, c .before .before .before .before .before .before .before .before .before .before .before .before .before .before .before .before .before .before .before .before .before .pre .1 .0 .0, c .before .before .before .before .before .before .at4 .ensures), omega (arith, c .before .before .before .before .before .before .before .before .before .before .before .before .before .before .before .before .before .before .before .before .before .pre .1 .0 .1, c .before .before .before .before .before .before .before .at3 .ensures, c .before .before .before .before .before .before .at4 .ensures)), c .before .before .before .before .before .before .before .before .before .before .before .before .before .before .before .before .before .before .before .before .before .pre .1 .1)
+run-line-requires c κs = let z = subst Small (c .before .before .a3 .given .1) (small _ _ (c .before .before .before .before .before .before .before .before .before .before .before .before .before .before .before .before .before .before .before .before .pre .0 .1) (c .before .before .before .before .kind-of .ensures .1)) in ((z .0, z .1, omega (arith, c .before .before .before .before .before .before .before .before .before .before .before .before .before .before .before .before .before .before .before .before .pre .1 .0 .0, c .before .before .before .before .before .at4 .ensures), omega (arith, c .before .before .before .before .before .before .before .before .before .before .before .before .before .before .before .before .before .before .before .before .pre .1 .0 .1, c .before .before .before .before .before .before .at3 .ensures, c .before .before .before .before .before .at4 .ensures)), c .before .before .before .before .before .before .before .before .before .before .before .before .before .before .before .before .before .before .before .before .pre .1 .1)
 
 returns : tie.Need-returns
 returns c = ran-of (ran 0 _ _ refl (front-none _ (omega (arith, c .before .before .before .before .before .before .before .before .before .before .before .before .before .before .before .before .before .before .pre .1 .0 .0)))) (none-run _ _ _ (sym (c .before .before .kind-of .ensures .0) ∙ c .enum-told .given .1))
@@ -94,11 +94,8 @@ returns-3 c = ran-of (c .before .before .run-internal .ensures) (internal-run _ 
 same-length-3 : tie.Need-same-length-3
 same-length-3 c = search needs
 
-same-length-4 : tie.Need-same-length-4
-same-length-4 c = search needs
-
 returns-4 : tie.Need-returns-4
-returns-4 c = ran-of (c .before .before .before .before .run-line .ensures) (line-run _ _ _ _ _ _ _ _ _ (sym (c .before .before .before .before .before .before .before .before .before .before .kind-of .ensures .0) ∙ c .before .before .before .before .before .before .before .before .a3 .given .1) (c .before .before .before .before .before .before .before .before .before .before .before .before .before .before .at .ensures) (c .before .before .before .before .before .before .before .before .before .before .before .before .before .at2 .ensures) (c .before .before .before .before .before .before .before .before .before .before .before .before .at3 .ensures) (c .before .before .before .before .before .before .before .before .before .before .before .at4 .ensures))
+returns-4 c = ran-of (c .before .before .run-line .ensures) (line-run _ _ _ _ _ _ _ _ _ (sym (c .before .before .before .before .before .before .before .kind-of .ensures .0) ∙ c .before .before .before .before .before .a3 .given .1) (c .before .before .before .before .before .before .before .before .before .before .before .at .ensures) (c .before .before .before .before .before .before .before .before .before .before .at2 .ensures) (c .before .before .before .before .before .before .before .before .before .at3 .ensures) (c .before .before .before .before .before .before .before .before .at4 .ensures))
 
 pub run-spec : {M : Type 1} → statement M
 run-spec =
@@ -131,5 +128,4 @@ run-spec =
     same-length-2
     returns-3
     same-length-3
-    same-length-4
     returns-4)

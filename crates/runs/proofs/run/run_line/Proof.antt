@@ -35,22 +35,19 @@ put-middle-requires : tie.Need-put-middle-requires
 put-middle-requires c κs = (c .before .before .before .before .before .before .before .before .before .before .before .before .before .before .before .before .pre .0 .2, c .before .before .before .before .before .before .before .before .before .before .before .before .before .before .before .before .pre .0 .3)
 
 add-lead : tie.Need-add-lead
-add-lead c = omega (arith, c .before .before .before .before .before .before .before .before .before .before .before .before .before .before .before .before .before .before .before .before .before .pre .0 .3)
+add-lead c = omega (arith, c .before .before .before .before .before .before .before .before .before .before .before .before .before .before .before .before .before .before .before .before .pre .0 .3)
 
 lead-requires : tie.Need-lead-requires
-lead-requires c κs = (c .before .before .before .before .before .before .before .before .before .before .before .before .before .before .before .before .before .before .before .before .before .pre .1, omega (arith, c .before .before .before .before .before .before .before .before .before .before .before .before .before .before .before .before .before .before .before .before .before .pre .0 .2, c .before .before .before .before .put-middle .kept .0))
+lead-requires c κs = (c .before .before .before .before .before .before .before .before .before .before .before .before .before .before .before .before .before .before .before .before .pre .1, omega (arith, c .before .before .before .before .before .before .before .before .before .before .before .before .before .before .before .before .before .before .before .before .pre .0 .2, c .before .before .before .put-middle .kept .0))
 
 put-ends-requires : tie.Need-put-ends-requires
-put-ends-requires c κs = (omega (arith, c .before .before .before .before .before .before .before .before .before .before .before .before .before .before .before .before .before .before .before .before .before .before .before .before .before .before .before .pre .0 .2, c .before .before .before .before .before .before .before .before .before .before .put-middle .kept .0, c .before .before .before .before .before .lead .kept .1 .1 .1 .1 .1 .1 .1 .1 .1 .0, c .before .before .before .before .before .lead .ensures .1), omega (arith, c .before .before .before .before .before .before .before .before .before .before .before .before .before .before .before .before .before .before .before .before .before .before .before .before .before .before .before .pre .0 .3, c .before .before .before .before .before .lead .ensures .1))
+put-ends-requires c κs = (omega (arith, c .before .before .before .before .before .before .before .before .before .before .before .before .before .before .before .before .before .before .before .before .before .before .before .before .pre .0 .2, c .before .before .before .before .before .before .before .put-middle .kept .0, c .before .before .before .lead .kept .1 .1 .1 .1 .1 .1 .1 .1 .1 .0, c .before .before .before .lead .ensures .1), omega (arith, c .before .before .before .before .before .before .before .before .before .before .before .before .before .before .before .before .before .before .before .before .before .before .before .before .pre .0 .3, c .before .before .before .lead .ensures .1))
 
 same-length : tie.Need-same-length
 same-length c = search needs
 
-same-length-2 : tie.Need-same-length-2
-same-length-2 c = search needs
-
 returns : tie.Need-returns
-returns c = ran-of (c .before .before .put-ends .ensures) (line-is _ _ _ _ _ _ _ _ _ _ _ _ _ _ _ _ _ _ _ _ _ (c .before .before .before .before .before .before .before .before .before .before .before .before .before .before .before .before .before .before .before .before .station-of .ensures .0) (c .before .before .before .before .before .before .before .before .before .before .before .before .before .before .before .before .before .before .before .station-of2 .ensures .0) (c .before .before .before .before .before .before .before .before .before .before .before .before .before .before .before .before .before .before .slot-of .ensures) (c .before .before .before .before .before .before .before .before .before .before .before .before .before .before .before .before .before .slot-of2 .ensures) (c .before .before .before .before .before .before .before .before .before .before .before .before .before .before .before .exit-of .ensures) (c .before .before .before .before .before .before .before .before .before .before .before .before .before .before .exit-of2 .ensures) (c .before .before .before .before .before .before .before .before .before .before .before .before .before .put-middle .ensures) (c .before .before .before .before .before .before .before .before .lead .ensures .0))
+returns c = ran-of (c .before .before .put-ends .ensures) (line-is _ _ _ _ _ _ _ _ _ _ _ _ _ _ _ _ _ _ _ _ _ (c .before .before .before .before .before .before .before .before .before .before .before .before .before .before .before .before .before .station-of .ensures .0) (c .before .before .before .before .before .before .before .before .before .before .before .before .before .before .before .before .station-of2 .ensures .0) (c .before .before .before .before .before .before .before .before .before .before .before .before .before .before .before .slot-of .ensures) (c .before .before .before .before .before .before .before .before .before .before .before .before .before .before .slot-of2 .ensures) (c .before .before .before .before .before .before .before .before .before .before .before .before .exit-of .ensures) (c .before .before .before .before .before .before .before .before .before .before .before .exit-of2 .ensures) (c .before .before .before .before .before .before .before .before .before .before .put-middle .ensures) (c .before .before .before .before .before .before .lead .ensures .0))
 
 pub run-line-spec : {M : Type 1} → statement M
 run-line-spec =
@@ -67,5 +64,4 @@ run-line-spec =
     lead-requires
     put-ends-requires
     same-length
-    same-length-2
     returns)
