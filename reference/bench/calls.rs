@@ -77,11 +77,11 @@ fn meshed(net: &Network, drawing: &TxLayout) -> Mesh {
 fn audit<'a>(net: &'a Network, d: &'a TxLayout, k: usize) -> impl FnMut() -> library::Audited + 'a {
     let (n, p) = (net.sub.len(), d.segment_edge.len());
     let (mut displacement, mut spacing, mut relative) = (vec![0.0; k], vec![0.0; k], vec![0.0; p]);
-    let (mut stations, mut hits, mut points, mut path) = (vec![0; 2 * n], vec![0; n], vec![0.0; 2 * n], vec![0.0; 2 * n]);
+    let (mut stations, mut index, mut points, mut path) = (vec![0; 2 * n], vec![0; 4 * n + 4097], vec![0.0; 2 * n], vec![0.0; 2 * n]);
     move || {
         library::audit(
             &net.sub, &net.kv, &net.from, &net.to, &net.xy, &d.boxes, &d.role, &d.segments, &d.segment_edge,
-            &mut displacement, &mut spacing, &mut relative, &mut stations, &mut hits, &mut points, &mut path,
+            &mut displacement, &mut spacing, &mut relative, &mut stations, &mut index, &mut points, &mut path,
         )
     }
 }

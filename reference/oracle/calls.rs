@@ -21,6 +21,11 @@ pub struct AuditCall {
     pub room: Room,
 }
 
+/// One in how many: for networks of more than 40 buses slips are five times rarer, so that most of them are drawn.
+fn rare(often: usize, most: usize) -> usize {
+    if most > 40 { 5 * often } else { often }
+}
+
 fn network(r: &mut Random, most: usize) -> Network {
     let n = if most > 40 && !r.one_in(4) { most - r.below(most / 4) } else { r.below(most + 1) };
     let m = r.below(2 * n + 3);
@@ -32,7 +37,7 @@ fn network(r: &mut Random, most: usize) -> Network {
     let coordinate = |r: &mut Random| match place {
         0 => r.within(-2, 2) as f64,
         1 | 2 => r.within(0, 3 * size as i64) as f64 * scale,
-        3 if r.one_in(30) => f64::from_bits(r.pick(&EDGES)),
+        3 if r.one_in(if most > 40 { 30 * most } else { 30 }) => f64::from_bits(r.pick(&EDGES)),
         _ => r.unit() * size * 10.0 * scale,
     };
     let station = |r: &mut Random, i: usize| match scheme {
@@ -51,7 +56,7 @@ fn network(r: &mut Random, most: usize) -> Network {
         xy: (0..2 * n).map(|_| coordinate(r)).collect(),
     };
     // lists that do not fit each other
-    match r.below(80) {
+    match r.below(rare(80, most)) {
         0 => drop(net.kv.pop()),
         1 => net.to.push(0),
         2 if n > 0 => net.sub[0] = r.pick(&[n as u32, u32::MAX]),
@@ -64,7 +69,7 @@ fn network(r: &mut Random, most: usize) -> Network {
     net
 }
 
-fn options(r: &mut Random) -> Options {
+fn options(r: &mut Random, most: usize) -> Options {
     let mut o = Options::defaults();
     o.iterations = r.pick(&[0, 1, 2, 10]);
     o.fill = r.pick(&[0.45, 0.5, 0.45, 1.0, 3.0, 16.0]);
@@ -73,20 +78,20 @@ fn options(r: &mut Random) -> Options {
         1 => o.radius = r.pick(&[0.0, 1.0, 1000.0]),
         2 => o.counts = [r.below(4) as u32, r.below(6) as u32],
         3 => o.scales = [r.pick(&[1.0, 1.0 / 64.0, 0.9]), r.pick(&[0.3, 1.0])],
-        4 if r.one_in(6) => o.search = r.pick(&[-1, 21]),
-        5 if r.one_in(6) => o.fill = r.pick(&[0.0, -0.0, 16.0f64.next_up(), f64::NAN, f64::INFINITY, 5e-324]),
-        6 if r.one_in(6) => o.radius = r.pick(&[-1.0, 1000.5, f64::NAN]),
-        7 if r.one_in(6) => o.scales[r.below(2)] = r.pick(&[0.0, 1.5, f64::NAN, (1.0f64 / 64.0).next_down()]),
+        4 if r.one_in(rare(6, most)) => o.search = r.pick(&[-1, 21]),
+        5 if r.one_in(rare(6, most)) => o.fill = r.pick(&[0.0, -0.0, 16.0f64.next_up(), f64::NAN, f64::INFINITY, 5e-324]),
+        6 if r.one_in(rare(6, most)) => o.radius = r.pick(&[-1.0, 1000.5, f64::NAN]),
+        7 if r.one_in(rare(6, most)) => o.scales[r.below(2)] = r.pick(&[0.0, 1.5, f64::NAN, (1.0f64 / 64.0).next_down()]),
         _ => {}
     }
-    if r.one_in(60) {
+    if r.one_in(rare(60, most)) {
         o.iterations = r.pick(&[100, 101, -1]);
     }
     o
 }
 
 /// A mesh of the places that layout gives; now and then an odd, an empty or an ill-formed one.
-fn meshed(r: &mut Random, net: &Network, options: &Options) -> Mesh {
+fn meshed(r: &mut Random, net: &Network, options: &Options, most: usize) -> Mesh {
     let straight = Options { iterations: 0, ..options.clone() };
     let Ok(drawing) = layout(net, &straight, &Mesh::default(), &Lent::ample()) else {
         return Mesh::default();
@@ -102,7 +107,7 @@ fn meshed(r: &mut Random, net: &Network, options: &Options) -> Mesh {
         1 | 2 => mesh::odd(r, occupied.len().min(40)),
         _ => mesh::delaunay(&points),
     };
-    if r.one_in(20) && !mesh.corners.is_empty() {
+    if r.one_in(rare(20, most)) && !mesh.corners.is_empty() {
         let h = r.below(mesh.corners.len());
         match r.below(5) {
             0 => mesh.corners[h] = r.below(occupied.len() + 1) as u32,
@@ -116,7 +121,7 @@ fn meshed(r: &mut Random, net: &Network, options: &Options) -> Mesh {
 }
 
 /// Lengths that just suffice, are ample, or of which one is one too short.
-fn lent(r: &mut Random, call: &Call) -> Lent {
+fn lent(r: &mut Random, call: &Call, most: usize) -> Lent {
     let (n, m, k) = (call.net.sub.len(), call.net.from.len(), call.net.stations());
     let pieces = layout(&call.net, &call.options, &call.mesh, &Lent::ample()).map_or(0, |d| d.segment_edge.len());
     let mut lent = Lent {
@@ -128,7 +133,7 @@ fn lent(r: &mut Random, call: &Call) -> Lent {
         pieces: 4 * pieces,
         branches: pieces,
         crossings: witness::seen().crossings,
-        work_short: r.one_in(100),
+        work_short: r.one_in(rare(100, most)),
     };
     let lists = [
         &mut lent.positions,
@@ -140,7 +145,7 @@ fn lent(r: &mut Random, call: &Call) -> Lent {
         &mut lent.branches,
         &mut lent.crossings,
     ];
-    let (less, ample) = (r.below(120), r.one_in(2));
+    let (less, ample) = (r.below(rare(120, most)), r.one_in(2));
     for (i, length) in lists.into_iter().enumerate() {
         if i == less || i == 7 && (8..12).contains(&less) || i == 5 && (12..16).contains(&less) {
             *length = length.saturating_sub(1);
@@ -159,13 +164,13 @@ pub fn layout_call(seed: u64, case: u64, most: usize) -> Call {
 pub fn layout_call_with(seed: u64, case: u64, most: usize, straight: bool) -> Call {
     let mut r = Random::new(seed, case);
     let net = network(&mut r, most);
-    let mut options = options(&mut r);
+    let mut options = options(&mut r, most);
     if straight && (0..=100).contains(&options.iterations) {
         options.iterations = 0;
     }
-    let mesh = meshed(&mut r, &net, &options);
+    let mesh = meshed(&mut r, &net, &options, most);
     let mut call = Call { net, options, mesh, lent: Lent::ample() };
-    call.lent = lent(&mut r, &call);
+    call.lent = lent(&mut r, &call, most);
     call
 }
 
@@ -176,9 +181,9 @@ pub fn audit_call(seed: u64, case: u64, most: usize) -> AuditCall {
     let drawn = layout(&net, &options, &mesh, &Lent::ample());
     let mut drawing = drawn.map_or(Drawing::default(), |d| Drawing::of(&d));
     for _ in 0..r.pick(&[0, 0, 1, 3, 10]) {
-        change(&mut r, &mut drawing);
+        change(&mut r, &mut drawing, most);
     }
-    let spare = |r: &mut Random, length: usize| (length + r.below(3)).saturating_sub(usize::from(r.one_in(60)));
+    let spare = |r: &mut Random, length: usize| (length + r.below(3)).saturating_sub(usize::from(r.one_in(rare(60, most))));
     let k = net.stations();
     let room = Room {
         displacement: spare(&mut r, k),
@@ -188,7 +193,7 @@ pub fn audit_call(seed: u64, case: u64, most: usize) -> AuditCall {
     AuditCall { net, drawing, room }
 }
 
-fn change(r: &mut Random, d: &mut Drawing) {
+fn change(r: &mut Random, d: &mut Drawing, most: usize) {
     let (boxes, pieces) = (d.boxes.len() / 4, d.branches.len());
     let (s, j) = (r.below(boxes), r.below(pieces));
     match r.below(12) {
@@ -203,9 +208,9 @@ fn change(r: &mut Random, d: &mut Drawing) {
             let e = r.below(d.roles.len());
             d.roles[e] = r.pick(&[0, 1, 2, 3, 255]);
         }
-        9 if r.one_in(6) && pieces > 0 => d.pieces[4 * j] = r.pick(&[1e40, f64::NAN, 1e300, 1e20]),
-        10 if r.one_in(6) && boxes > 0 => d.boxes[4 * s] = r.pick(&[1e40, f64::NAN, -1e300]),
-        11 if r.one_in(6) => drop((d.boxes.pop(), d.roles.pop())),
+        9 if r.one_in(rare(6, most)) && pieces > 0 => d.pieces[4 * j] = r.pick(&[1e40, f64::NAN, 1e300, 1e20]),
+        10 if r.one_in(rare(6, most)) && boxes > 0 => d.boxes[4 * s] = r.pick(&[1e40, f64::NAN, -1e300]),
+        11 if r.one_in(rare(6, most)) => drop((d.boxes.pop(), d.roles.pop())),
         _ => {}
     }
 }

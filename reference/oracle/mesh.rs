@@ -1,5 +1,5 @@
 //! Meshes for generated calls: Delaunay triangles of given points (in floats, so only nearly), and odd ones that 01's test passes.
-use std::collections::HashMap;
+use std::collections::{HashMap, HashSet};
 
 use crate::network::Mesh;
 use crate::random::Random;
@@ -35,8 +35,9 @@ fn triangles(points: &[P]) -> Vec<[usize; 3]> {
             list.into_iter().partition(|t| in_circle(all[t[0]], all[t[1]], all[t[2]], p));
         list = kept;
         let edges: Vec<[usize; 2]> = bad.iter().flat_map(|t| [[t[0], t[1]], [t[1], t[2]], [t[2], t[0]]]).collect();
+        let inside: HashSet<[usize; 2]> = edges.iter().copied().collect();
         for e in &edges {
-            if !edges.contains(&[e[1], e[0]]) {
+            if !inside.contains(&[e[1], e[0]]) {
                 list.push([e[0], e[1], v]);
             }
         }

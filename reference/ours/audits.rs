@@ -29,13 +29,17 @@ pub fn wrong(call: &AuditCall, want: &Result<Figures, u32>, salt: u64) -> Vec<St
     let n = net.sub.len();
     let mut r = Random::new(salt, 0x0DE);
     let mut lengths = [2 * n, n, 2 * n, 2 * n].map(|length| length + r.below(3));
+    // Half the calls lend an index with room for boxes by cell.
+    if r.below(2) == 0 {
+        lengths[1] = 4 * n + 4097;
+    }
     if let Some(i) = short(call, salt) {
         lengths[i] = [2 * n, n, 2 * n, 2 * n][i] - 1;
     }
     let mut displacement = Lent::<f64>::of(call.room.displacement.min(MANY));
     let mut spacing = Lent::<f64>::of(call.room.spacing.min(MANY));
     let mut relative = Lent::<f64>::of(call.room.lengths);
-    let (mut stations, mut hits) = (Lent::<u32>::of(lengths[0]), Lent::<u32>::of(lengths[1]));
+    let (mut stations, mut index) = (Lent::<u32>::of(lengths[0]), Lent::<u32>::of(lengths[1]));
     let (mut points, mut path) = (Lent::<f64>::of(lengths[2]), Lent::<f64>::of(lengths[3]));
     let got = library::audit(
         &net.sub,
@@ -51,7 +55,7 @@ pub fn wrong(call: &AuditCall, want: &Result<Figures, u32>, salt: u64) -> Vec<St
         &mut spacing.0,
         &mut relative.0,
         &mut stations.0,
-        &mut hits.0,
+        &mut index.0,
         &mut points.0,
         &mut path.0,
     );
@@ -77,7 +81,7 @@ pub fn wrong(call: &AuditCall, want: &Result<Figures, u32>, salt: u64) -> Vec<St
     relative.holds("relative", &f.lengths, &mut wrong);
     let cleared = !(1..=7).contains(&number);
     stations.work("stations", cleared, &mut wrong);
-    hits.work("hits", cleared, &mut wrong);
+    index.work("index", cleared, &mut wrong);
     points.work("points", cleared, &mut wrong);
     path.work("path", cleared, &mut wrong);
     wrong

@@ -56,12 +56,19 @@ trait Compared: Clone + Send + 'static {
     fn case(seed: u64, case: u64, most: usize, straight: bool) -> Self;
     fn want(&self, salt: u64) -> Self::Want;
     fn number(want: &Self::Want) -> u32;
+    /// Whether a line is led through a mesh or round a box.
+    fn routed(&self, want: &Self::Want) -> bool;
     fn wrong(&self, want: &Self::Want, salt: u64) -> Vec<String>;
     fn size(&self) -> usize;
     fn shown(&self) -> String;
     /// The call with its branch e left out, or with its last bus.
     fn without_branch(&self, e: usize) -> Option<Self>;
     fn without_bus(&self) -> Option<Self>;
+}
+
+/// Whether a branch has more pieces than a straight line: its two ends, and the piece between its exits.
+fn bent(branches: &[u32]) -> bool {
+    branches.windows(4).any(|w| w[0] == w[3])
 }
 
 fn network_without_branch(net: &network::Network, e: usize) -> Option<network::Network> {
@@ -98,6 +105,9 @@ impl Compared for Call {
     fn number(want: &Self::Want) -> u32 {
         want.as_ref().err().copied().unwrap_or(0)
     }
+    fn routed(&self, want: &Self::Want) -> bool {
+        self.options.iterations > 0 && want.as_ref().is_ok_and(|d| bent(&d.segment_edge))
+    }
     fn wrong(&self, want: &Self::Want, salt: u64) -> Vec<String> {
         layouts::wrong(self, want, salt)
     }
@@ -125,6 +135,9 @@ impl Compared for AuditCall {
     }
     fn number(want: &Self::Want) -> u32 {
         want.as_ref().err().copied().unwrap_or(0)
+    }
+    fn routed(&self, want: &Self::Want) -> bool {
+        want.is_ok() && bent(&self.drawing.branches)
     }
     fn wrong(&self, want: &Self::Want, salt: u64) -> Vec<String> {
         audits::wrong(self, want, salt)
@@ -187,7 +200,7 @@ fn shrunk<C: Compared>(call: &C, salt: u64) -> C {
 }
 
 fn compare<C: Compared>(seed: u64, count: u64, most: usize, straight: bool) -> bool {
-    let (mut compared, mut panicked, mut too_long) = (0, 0, 0);
+    let (mut compared, mut routed, mut panicked, mut too_long) = (0, 0, 0, 0);
     let mut answers: BTreeMap<u32, usize> = BTreeMap::new();
     let mut differing: Vec<(u64, C)> = Vec::new();
     for i in 0..count {
@@ -209,6 +222,7 @@ fn compare<C: Compared>(seed: u64, count: u64, most: usize, straight: bool) -> b
             }
         };
         compared += 1;
+        routed += usize::from(call.routed(&want));
         *answers.entry(C::number(&want)).or_default() += 1;
         if !call.wrong(&want, salt).is_empty() {
             differing.push((i, call));
@@ -218,6 +232,7 @@ fn compare<C: Compared>(seed: u64, count: u64, most: usize, straight: bool) -> b
     for (number, times) in answers {
         println!("  answer {number}: {times}");
     }
+    println!("  answer 0 with lines led through a mesh or round boxes: {routed}");
     differing.sort_by_key(|(_, call)| call.size());
     if let Some((i, call)) = differing.first() {
         let salt = seed ^ i << 20;

@@ -92,8 +92,18 @@ fn nearest_agrees(w: &[u64]) -> bool {
     let n = few(word_at(w, 0));
     let mut points = [0.0; 24];
     let mut out = [0.0; 12];
+    let mut keys = [0u64; 12];
+    let mut order = [0u32; 12];
+    let mut spare = [0u32; 12];
     fill(w, 1, &mut points);
-    neighbours::nearest_neighbour_distances(&points, n, &mut out);
+    neighbours::nearest_neighbour_distances(
+        &points,
+        n,
+        &mut out,
+        &mut keys,
+        &mut order,
+        &mut spare,
+    );
     all_same(&out, n, w, 1 + 2 * n)
 }
 
@@ -101,11 +111,14 @@ fn within_agrees(w: &[u64]) -> bool {
     let n = few(word_at(w, 0));
     let radius = float_at(w, 1);
     let mut points = [0.0; 24];
+    let mut counts = [0u32; 12];
+    let mut keys = [0u64; 12];
+    let mut order = [0u32; 12];
     fill(w, 2, &mut points);
+    neighbours::neighbour_counts(&points, n, radius, &mut counts, &mut keys, &mut order);
     let mut i = 0;
     while i < n {
-        let c = neighbours::count_within(&points, n, radius, i);
-        if c as u64 != word_at(w, 2 + 2 * n + i) {
+        if order::at(&counts, i) as u64 != word_at(w, 2 + 2 * n + i) {
             return false;
         }
         i += 1;

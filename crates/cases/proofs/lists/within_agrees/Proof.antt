@@ -1,23 +1,14 @@
 -- `cases::lists::within_agrees` meets its contract. Assumes nothing.
 use Prim.Native.Nat.{_≤_, _-_}
-use mathlib.Core.Path.{_≡_}
-use lib.ListN.{length}
 use borrow.Author.Needs.{needs}
 use Rattle.cases.proofs.lists.within_agrees.Statement.{statement}
 use Rattle.cases.proofs.lists.within_agrees.Tie as tie
-use Rattle.cases.proofs.lists.within_agrees.Reads as reads
-use Rattle.cases.proofs.lists.within_agrees.Lts as lts
-use Rattle.cases.proofs.lists.few.Reads as few-reads
-use Rattle.cases.proofs.words.fill.Reads as fill-reads
-use Rattle.cases.proofs.words.float_at.Reads as float-at-reads
-use Rattle.cases.proofs.words.word_at.Reads as word-at-reads
-use Rattle.neighbours.proofs.count_within.Reads as count-within-reads
 
 abbrev Inv-loop : tie.InvT-loop
-Inv-loop w n radius points i₀ i = (i ≤ n) × (n ≤ 12) × (length points ≡ 24)
+Inv-loop w n radius counts i₀ i = (i ≤ n) × (n ≤ 12)
 
 abbrev μ-loop : tie.MeasureT-loop
-μ-loop w n radius points i₀ i = n - i
+μ-loop w n radius counts i₀ i = n - i
 
 word-at-requires : tie.Need-word-at-requires Inv-loop μ-loop
 word-at-requires c κs = search needs
@@ -34,14 +25,32 @@ slice-aggregate-fill c = search needs
 fill-requires : tie.Need-fill-requires Inv-loop μ-loop
 fill-requires c κs = search needs
 
+slice-aggregate-neighbour-counts : tie.Need-slice-aggregate-neighbour-counts Inv-loop μ-loop
+slice-aggregate-neighbour-counts c = search needs
+
+slice-aggregate-neighbour-counts-2 : tie.Need-slice-aggregate-neighbour-counts-2 Inv-loop μ-loop
+slice-aggregate-neighbour-counts-2 c = search needs
+
+slice-aggregate-neighbour-counts-3 : tie.Need-slice-aggregate-neighbour-counts-3 Inv-loop μ-loop
+slice-aggregate-neighbour-counts-3 c = search needs
+
+slice-aggregate-neighbour-counts-4 : tie.Need-slice-aggregate-neighbour-counts-4 Inv-loop μ-loop
+slice-aggregate-neighbour-counts-4 c = search needs
+
+neighbour-counts-requires : tie.Need-neighbour-counts-requires Inv-loop μ-loop
+neighbour-counts-requires c κs = search needs
+
 loop-holds : tie.Need-loop-holds Inv-loop μ-loop
 loop-holds c = search needs
 
-slice-aggregate-count-within : tie.Need-slice-aggregate-count-within Inv-loop μ-loop
-slice-aggregate-count-within c = search needs
+slice-aggregate-at : tie.Need-slice-aggregate-at Inv-loop μ-loop
+slice-aggregate-at c = search needs
 
-count-within-requires : tie.Need-count-within-requires Inv-loop μ-loop
-count-within-requires c κs = search needs
+at-requires : tie.Need-at-requires Inv-loop μ-loop
+at-requires c κs = search needs
+
+cast-if1 : tie.Need-cast-if1 Inv-loop μ-loop
+cast-if1 c = search needs
 
 mul-word-at : tie.Need-mul-word-at Inv-loop μ-loop
 mul-word-at c = search needs
@@ -81,9 +90,15 @@ within-agrees-spec =
     float-at-requires
     slice-aggregate-fill
     fill-requires
+    slice-aggregate-neighbour-counts
+    slice-aggregate-neighbour-counts-2
+    slice-aggregate-neighbour-counts-3
+    slice-aggregate-neighbour-counts-4
+    neighbour-counts-requires
     loop-holds
-    slice-aggregate-count-within
-    count-within-requires
+    slice-aggregate-at
+    at-requires
+    cast-if1
     mul-word-at
     add-word-at
     add-word-at-2

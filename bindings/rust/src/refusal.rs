@@ -1,0 +1,106 @@
+//! Why a network isn't drawn, or a drawing isn't audited.
+use std::fmt;
+
+/// A refusal: the lowest that applies. Its number is the scope's.
+///
+/// [`tx_schematic_layout`](crate::tx_schematic_layout) gives 1 to 6, 8, 9 and 12,
+/// [`tx_layout_quality`](crate::tx_layout_quality) 1 to 4, 6, 8 and 13. Numbers 7, 10 and 11 are about lists that
+/// a caller lends; here the calls lend them, long enough.
+///
+/// ```
+/// use tansygate::Refusal;
+///
+/// assert_eq!(Refusal::Mesh.number(), 9);
+/// assert_eq!(Refusal::Mesh.to_string(), "refused 9: the mesh is ill-formed");
+/// ```
+#[derive(Clone, Copy, Debug, PartialEq, Eq, PartialOrd, Ord, Hash)]
+#[repr(u32)]
+pub enum Refusal {
+    /// More than 4,096 buses or 8,192 branches.
+    TooMany = 1,
+    /// `kv` isn't as long as `bus_substation`.
+    KvLength = 2,
+    /// `to` isn't as long as `from`.
+    ToLength = 3,
+    /// A substation number is not below the bus count.
+    StationNumber = 4,
+    /// An option is out of range.
+    Option = 5,
+    /// A bus with two finite coordinates has one above 10^12 in size.
+    TooFar = 6,
+    /// A result or work list of fixed length is too short.
+    ListTooShort = 7,
+    /// The largest side of an occupied substation's box is 0, or a corner (in the audit also a segment's end)
+    /// divided by it isn't at most 2^40 in size.
+    IllSized = 8,
+    /// The mesh is ill-formed.
+    Mesh = 9,
+    /// Crossings, those of cleared paths included, outnumber the lent crossing list.
+    Crossings = 10,
+    /// Segments outnumber the lent lists.
+    Pieces = 11,
+    /// A seed, the unit, a box corner, bar end, crossing place or route point isn't finite.
+    NotFinite = 12,
+    /// The audited drawing doesn't fit its network.
+    NoFit = 13,
+}
+
+impl Refusal {
+    /// All refusals, by number.
+    pub const ALL: [Refusal; 13] = [
+        Refusal::TooMany,
+        Refusal::KvLength,
+        Refusal::ToLength,
+        Refusal::StationNumber,
+        Refusal::Option,
+        Refusal::TooFar,
+        Refusal::ListTooShort,
+        Refusal::IllSized,
+        Refusal::Mesh,
+        Refusal::Crossings,
+        Refusal::Pieces,
+        Refusal::NotFinite,
+        Refusal::NoFit,
+    ];
+
+    /// Its number, 1 to 13.
+    pub fn number(self) -> u32 {
+        self as u32
+    }
+
+    /// Its meaning in words.
+    pub fn words(self) -> &'static str {
+        match self {
+            Refusal::TooMany => "more than 4,096 buses or 8,192 branches",
+            Refusal::KvLength => "kv isn't as long as the bus list",
+            Refusal::ToLength => "to isn't as long as from",
+            Refusal::StationNumber => "a substation number is not below the bus count",
+            Refusal::Option => "an option is out of range",
+            Refusal::TooFar => "a bus with two finite coordinates has one above 10^12 in size",
+            Refusal::ListTooShort => "a result or work list of fixed length is too short",
+            Refusal::IllSized => "the largest side of an occupied substation's box is 0, or a corner of these boxes (in the audit, also a segment's end) divided by it isn't at most 2^40 in size",
+            Refusal::Mesh => "the mesh is ill-formed",
+            Refusal::Crossings => "crossings, those of cleared paths included, outnumber the lent crossing list",
+            Refusal::Pieces => "segments outnumber the lent lists",
+            Refusal::NotFinite => "a seed, the unit, a box corner, bar end, crossing place or route point isn't finite",
+            Refusal::NoFit => "the audited drawing doesn't fit its network",
+        }
+    }
+
+    /// The answer with this number: 0 is no refusal.
+    pub(crate) fn check(number: u32) -> Result<(), Refusal> {
+        match number {
+            0 => Ok(()),
+            1..=13 => Err(Refusal::ALL[number as usize - 1]),
+            _ => unreachable!("the library answers 0 to 13"),
+        }
+    }
+}
+
+impl fmt::Display for Refusal {
+    fn fmt(&self, f: &mut fmt::Formatter<'_>) -> fmt::Result {
+        write!(f, "refused {}: {}", self.number(), self.words())
+    }
+}
+
+impl std::error::Error for Refusal {}
