@@ -1,0 +1,64 @@
+//! What goes wrong, in the words that are shown.
+use std::fmt;
+
+/// A place in a file, counted from 1.
+#[derive(Clone, Copy, Debug, PartialEq, Eq)]
+pub struct Place {
+    pub line: usize,
+    pub column: usize,
+}
+
+/// Why nothing is drawn, audited or listed.
+#[derive(Debug)]
+pub enum Fault {
+    /// The command line isn't one that the program knows.
+    Usage(String),
+    /// A file can't be opened or written.
+    File { file: String, problem: String },
+    /// A file's content isn't what it has to be.
+    Content { file: String, place: Place, expected: String },
+    /// The library refuses the network.
+    Refused { number: u32, words: String },
+}
+
+impl Fault {
+    pub fn content(file: &str, place: Place, expected: impl Into<String>) -> Self {
+        Fault::Content { file: file.to_string(), place, expected: expected.into() }
+    }
+
+    pub fn file(file: impl Into<String>, problem: impl fmt::Display) -> Self {
+        Fault::File { file: file.into(), problem: problem.to_string() }
+    }
+
+    /// The number that `drawlist` would print, if it is one that it prints.
+    pub fn number(&self) -> Option<u32> {
+        match self {
+            Fault::Content { .. } => Some(14),
+            Fault::Refused { number, .. } => Some(*number),
+            Fault::Usage(_) | Fault::File { .. } => None,
+        }
+    }
+}
+
+impl fmt::Display for Fault {
+    fn fmt(&self, f: &mut fmt::Formatter<'_>) -> fmt::Result {
+        match self {
+            Fault::Usage(text) => write!(f, "{text}\nTry 'wall --help'."),
+            Fault::File { file, problem } => write!(f, "{file}: {problem}"),
+            Fault::Content { file, place, expected } => {
+                write!(f, "{file}:{}:{}: {expected}", place.line, place.column)
+            }
+            Fault::Refused { number, words } => write!(f, "refused {number}: {words}"),
+        }
+    }
+}
+
+/// A text as a message shows it: in quotes, on one line, at most forty characters.
+pub fn shown(text: &str) -> String {
+    let plain = |c: char| if c.is_control() { '\u{FFFD}' } else { c };
+    let mut short: String = text.chars().take(40).map(plain).collect();
+    if text.chars().nth(40).is_some() {
+        short.push('…');
+    }
+    format!("'{short}'")
+}

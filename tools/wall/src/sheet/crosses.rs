@@ -1,0 +1,81 @@
+//! Where the red cross of an open branch stands: on its run, clear of other things where it can.
+use super::index::Index;
+use super::scene::Scene;
+use super::shape::{between, distance, Point, Rect};
+
+/// Parts of the way that are tried: the middle first, then ever farther from it.
+fn parts() -> impl Iterator<Item = f64> {
+    (0..35).map(|i| 0.5 + 0.02 * f64::from((i + 1) / 2) * if i % 2 == 0 { 1.0 } else { -1.0 })
+}
+
+pub struct Cross {
+    pub run: usize,
+    pub at: Point,
+    pub arm: f64,
+}
+
+impl Cross {
+    pub fn rect(&self) -> Rect {
+        Rect::around(self.at, self.at).grown(self.arm)
+    }
+}
+
+/// What a cross keeps clear of, by where it is.
+struct Around<'a> {
+    scene: &'a Scene,
+    pieces: &'a Index,
+    bars: Index,
+    boxes: Index,
+}
+
+/// One for each open run.
+pub fn placed(scene: &Scene, pieces: &Index, page: &Rect) -> Vec<Cross> {
+    let mut around = Around { scene, pieces, bars: Index::new(page), boxes: Index::new(page) };
+    scene
+        .bars
+        .iter()
+        .enumerate()
+        .for_each(|(i, bar)| around.bars.insert_piece(i, [bar.x, bar.top], [bar.x, bar.bottom]));
+    scene.stations.iter().enumerate().for_each(|(i, s)| around.boxes.insert(i, &s.rect));
+    let mut earlier = Index::new(page);
+    let mut list: Vec<Cross> = Vec::new();
+    for (i, run) in scene.runs.iter().enumerate().filter(|(_, run)| run.is_open()) {
+        let arm = (0.45 * run.block).clamp(0.8, 2.2).min(0.4 * run.length().max(1.0));
+        let [p, q] = run.ends();
+        let tries = parts().map(|part| Cross { run: i, at: between(p, q, part), arm });
+        let clash = |cross: &Cross| {
+            earlier
+                .near(&cross.rect().grown(2.0 * arm))
+                .into_iter()
+                .filter(|&j| distance(list[j].at, cross.at) < 3.0 * arm)
+                .count()
+        };
+        if let Some(best) = tries.min_by_key(|cross| 20 * clash(cross) + around.trouble(cross)) {
+            earlier.insert(list.len(), &best.rect());
+            list.push(best);
+        }
+    }
+    list
+}
+
+impl Around<'_> {
+    /// How much stands in the way of a cross.
+    fn trouble(&self, cross: &Cross) -> usize {
+        let rect = cross.rect().grown(0.3 * cross.arm);
+        let bar = |&i: &usize| {
+            rect.meets(
+                [self.scene.bars[i].x, self.scene.bars[i].top],
+                [self.scene.bars[i].x, self.scene.bars[i].bottom],
+            )
+        };
+        let bars = self.bars.near(&rect).iter().filter(|i| bar(i)).count();
+        let [p, q] = self.scene.runs[cross.run].ends();
+        let whole = |s: &Rect| s.grown(0.01).holds(&Rect::around(p, q));
+        let on = |&i: &usize| self.scene.stations[i].rect.overlaps(&rect) && !whole(&self.scene.stations[i].rect);
+        let boxes = self.boxes.near(&rect).iter().filter(|i| on(i)).count();
+        let met =
+            |&i: &usize| i != cross.run && self.scene.runs[i].points.windows(2).any(|two| rect.meets(two[0], two[1]));
+        let runs = self.pieces.near(&rect).iter().filter(|i| met(i)).count();
+        10 * bars + 6 * boxes + 2 * runs
+    }
+}

@@ -1,0 +1,34 @@
+//! Ids of elements: names without the characters that an id can't have, each given once.
+use std::collections::HashSet;
+
+#[derive(Default)]
+pub struct Ids {
+    taken: HashSet<String>,
+}
+
+impl Ids {
+    /// An id for a name, with a number behind it where an earlier one is the same.
+    pub fn take(&mut self, kind: &str, name: &str) -> String {
+        let plain = |c: char| if c.is_ascii_alphanumeric() || matches!(c, '-' | '.' | '_') { c } else { '_' };
+        let first: String = format!("{kind}-{}", name.chars().map(plain).collect::<String>());
+        let mut id = first.clone();
+        let mut count = 1;
+        while !self.taken.insert(id.clone()) {
+            count += 1;
+            id = format!("{first}.{count}");
+        }
+        id
+    }
+}
+
+#[cfg(test)]
+mod tests {
+    use super::Ids;
+
+    #[test]
+    fn ids_differ() {
+        let mut ids = Ids::default();
+        let taken = ["A 1", "A_1", "A_1.2", "A/1"].map(|name| ids.take("bus", name));
+        assert_eq!(taken, ["bus-A_1", "bus-A_1.2", "bus-A_1.2.2", "bus-A_1.3"]);
+    }
+}

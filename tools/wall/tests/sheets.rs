@@ -1,0 +1,211 @@
+//! Golden sheets, and what a sheet says beside its network.
+mod help;
+use help::{root, status, text, wall, wall_in, Folder, HERE};
+use std::collections::HashMap;
+use std::fs;
+use std::path::Path;
+
+const FORTY: [&str; 3] = ["examples/forty", "--title", "Kestrel and Saltmarsh, 66 and 11 kV"];
+
+/// The sheet of a network, drawn twice, once from another folder.
+fn drawn(network: &Path, options: &[&str]) -> String {
+    let folder = Folder::new(&network.file_name().unwrap().to_string_lossy());
+    let full = network.canonicalize().unwrap();
+    let words = |out: &'static str| [&["draw", full.to_str().unwrap(), "-o", out], options].concat();
+    for out in ["one.svg", "two.svg"] {
+        assert_eq!(status(&wall_in(&folder.0, &words(out))), 0);
+    }
+    let read = |name: &str| fs::read_to_string(folder.0.join(name)).unwrap();
+    assert_eq!(read("one.svg"), read("two.svg"));
+    assert_eq!(folder.files(), ["one.svg", "two.svg"]);
+    read("one.svg")
+}
+
+fn same(sheet: &str, golden: &Path) {
+    let want = fs::read_to_string(golden).unwrap();
+    let differs = sheet.lines().zip(want.lines()).find(|(a, b)| a != b);
+    assert!(sheet == want, "{} differs: {differs:?}", golden.display());
+}
+
+#[test]
+fn forty() {
+    same(&drawn(&root().join(FORTY[0]), &FORTY[1..]), &root().join("examples/forty/sheet.svg"));
+}
+
+#[test]
+fn small() {
+    let network = Path::new(HERE).join("tests/networks/small");
+    same(
+        &drawn(&network, &["--paper", "a4", "--title", "Small & \"odd\""]),
+        &Path::new(HERE).join("tests/golden/small.svg"),
+    );
+}
+
+/// The value of an attribute in an element's text.
+fn attribute<'a>(element: &'a str, name: &str) -> Option<&'a str> {
+    let from = element.find(&format!(" {name}=\""))? + name.len() + 3;
+    element[from..].split('"').next()
+}
+
+fn title(element: &str) -> String {
+    let inside = element.split("<title>").nth(1).unwrap().split("</title>").next().unwrap();
+    inside.replace("&lt;", "<").replace("&gt;", ">").replace("&quot;", "\"").replace("&amp;", "&")
+}
+
+/// The points of a path.
+fn points(d: &str) -> Vec<[f64; 2]> {
+    let one = |p: &str| {
+        let (x, y) = p.split_once(' ').unwrap();
+        [x.parse().unwrap(), y.parse().unwrap()]
+    };
+    d.trim_start_matches('M').split('L').map(one).collect()
+}
+
+/// Each row's cells by the header's names; the example has no quotes.
+fn rows(file: &str) -> Vec<HashMap<String, String>> {
+    let text = fs::read_to_string(root().join(file)).unwrap();
+    let mut lines = text.lines();
+    let header: Vec<&str> = lines.next().unwrap().split(',').collect();
+    lines.map(|line| header.iter().map(|h| h.to_string()).zip(line.split(',').map(str::to_string)).collect()).collect()
+}
+
+/// On the sheet itself, every branch ends at the bars of its two buses, and only open ones are dashed.
+#[test]
+fn every_branch_ends_at_its_bars() {
+    let sheet = fs::read_to_string(root().join("examples/forty/sheet.svg")).unwrap();
+    let elements = |mark: &str| sheet.lines().filter(|line| line.contains(mark)).collect::<Vec<_>>();
+    let bars: HashMap<String, Vec<[f64; 2]>> =
+        elements(" data-bus=").into_iter().map(|e| (title(e), points(attribute(e, "d").unwrap()))).collect();
+    let runs: HashMap<String, &str> = elements(" data-branch=").into_iter().map(|e| (title(e), e)).collect();
+    let branches = rows("examples/forty/branches.csv");
+    assert_eq!((bars.len(), runs.len()), (rows("examples/forty/buses.csv").len(), branches.len()));
+    for branch in &branches {
+        let run = runs[&branch["name"]];
+        let path = points(attribute(run, "d").unwrap());
+        for (end, bus) in [(path[0], &branch["from"]), (path[path.len() - 1], &branch["to"])] {
+            let bar = &bars[bus];
+            assert!((end[0] - bar[0][0]).abs() < 0.011 && bar[0][1] <= end[1] && end[1] <= bar[1][1], "{run}");
+        }
+        assert_eq!(attribute(run, "stroke-dasharray").is_some(), branch["in_service"] == "0");
+    }
+    let crosses = elements(" data-cross=").into_iter().map(title).collect::<Vec<_>>();
+    let open: Vec<String> = branches.iter().filter(|b| b["in_service"] == "0").map(|b| b["name"].clone()).collect();
+    assert_eq!((crosses.clone(), crosses.len()), (open, 9));
+}
+
+#[test]
+fn the_example_has_forty_substations_and_three_hundred_branches() {
+    let (buses, branches) = (rows("examples/forty/buses.csv"), rows("examples/forty/branches.csv"));
+    let stations: std::collections::HashSet<&String> = buses.iter().map(|b| &b["substation"]).collect();
+    assert_eq!((stations.len(), branches.len()), (40, 300));
+    assert!(buses.iter().all(|b| b["kv"] == "66" || b["kv"] == "11"));
+}
+
+#[test]
+fn papers_have_their_sizes() {
+    for (paper, size) in [
+        ("A0", ["1189mm", "841mm"]),
+        ("A1", ["841mm", "594mm"]),
+        ("A2", ["594mm", "420mm"]),
+        ("A3", ["420mm", "297mm"]),
+        ("A4", ["297mm", "210mm"]),
+    ] {
+        let output = wall(&["draw", FORTY[0], "-o", "-", "--paper", paper]);
+        let sheet = text(&output.stdout);
+        let svg = sheet.lines().nth(1).unwrap();
+        assert_eq!([attribute(svg, "width").unwrap(), attribute(svg, "height").unwrap()], size);
+    }
+}
+
+#[test]
+fn the_sheet_says_which_export_it_shows() {
+    let sheet = fs::read_to_string(root().join("examples/forty/sheet.svg")).unwrap();
+    let audit = text(&wall(&["audit", FORTY[0]]).stdout);
+    for file in ["buses.csv", "branches.csv"] {
+        let line = audit.lines().find(|line| line.starts_with(&format!("SHA-256 of {file}"))).unwrap();
+        let sum = line.split_whitespace().last().unwrap();
+        assert!(sheet.contains(&format!(">{file}: SHA-256 {sum}…</text>")));
+        assert!(sheet.contains(&format!("<desc>{file} SHA-256 {sum}")));
+    }
+}
+
+/// No lettering is smaller than 2.5 mm, on any paper.
+#[test]
+fn text_can_be_read() {
+    for paper in ["A0", "A2", "A4"] {
+        let sheet = text(&wall(&["draw", FORTY[0], "-o", "-", "--paper", paper]).stdout);
+        let sizes =
+            sheet.lines().filter_map(|line| attribute(line, "font-size")).map(|size| size.parse::<f64>().unwrap());
+        assert!(sizes.fold(f64::INFINITY, f64::min) >= 2.5);
+    }
+}
+
+#[test]
+fn names_left_out_are_counted() {
+    let output = wall(&["draw", FORTY[0], "-o", "-", "--paper", "A4"]);
+    assert_eq!(text(&output.stderr), "wall: note: names left out for want of room: 131; a larger paper has more\n");
+    assert!(text(&output.stdout).contains("Names shortened: 0, left out: 131;"));
+    assert_eq!(text(&wall(&["draw", FORTY[0], "-o", "-"]).stderr), "");
+}
+
+/// The distance from a point to a straight piece.
+fn away(p: [f64; 2], a: [f64; 2], b: [f64; 2]) -> f64 {
+    let (dx, dy) = (b[0] - a[0], b[1] - a[1]);
+    let part = (((p[0] - a[0]) * dx + (p[1] - a[1]) * dy) / (dx * dx + dy * dy).max(1e-12)).clamp(0.0, 1.0);
+    ((a[0] + part * dx - p[0]).powi(2) + (a[1] + part * dy - p[1]).powi(2)).sqrt()
+}
+
+/// The end of an open branch isn't where a live one runs or is joined.
+#[test]
+fn open_branches_lie_on_no_live_one() {
+    for network in [FORTY[0], "examples/works.txt"] {
+        let sheet = text(&wall(&["draw", network, "-o", "-"]).stdout);
+        let runs = sheet.lines().filter(|line| line.contains(" data-branch="));
+        let (open, live): (Vec<&str>, Vec<&str>) = runs.partition(|run| run.contains(" stroke-dasharray="));
+        let path = |run: &&str| points(attribute(run, "d").unwrap());
+        let live: Vec<Vec<[f64; 2]>> = live.iter().map(path).collect();
+        for end in open.iter().map(path).flat_map(|path| [path[0], path[1]]) {
+            // Rows only: a routed line may come near a bar on its way.
+            let rows = live.iter().flat_map(|path| path.windows(2)).filter(|two| two[0][1] == two[1][1]);
+            assert!(rows.map(|two| away(end, two[0], two[1])).fold(f64::INFINITY, f64::min) > 1.0, "{network} {end:?}");
+        }
+    }
+}
+
+/// The pieces that `wall list` gives, by branch: role and points.
+fn listed(words: &[&str]) -> HashMap<String, (String, Vec<[f64; 2]>)> {
+    let float = |digits: &str| f64::from_bits(u64::from_str_radix(digits, 16).unwrap());
+    let mut runs: HashMap<String, (String, Vec<[f64; 2]>)> = HashMap::new();
+    for line in text(&wall(words).stdout).lines().skip(1) {
+        let fields: Vec<&str> = line.split(' ').collect();
+        let run = runs.entry(fields[0].to_string()).or_insert((fields[1].to_string(), Vec::new()));
+        let ends = [[float(fields[2]), float(fields[3])], [float(fields[4]), float(fields[5])]];
+        run.1.extend(&ends[usize::from(!run.1.is_empty())..]);
+    }
+    runs
+}
+
+/// The sheet shows the library's pieces, moved and scaled as a whole and not otherwise.
+#[test]
+fn the_sheet_shows_the_pieces_that_list_gives() {
+    let runs = listed(&["list", FORTY[0], "--fill", "0.8", "--iterations", "10", "--tier-radius", "0"]);
+    let sheet = fs::read_to_string(root().join("examples/forty/sheet.svg")).unwrap();
+    let mut pairs = Vec::new();
+    for run in sheet.lines().filter(|line| line.contains(" data-branch=")) {
+        let (role, given) = &runs[attribute(run, "data-branch").unwrap()];
+        let shown = points(attribute(run, "d").unwrap());
+        assert_eq!(given.len(), shown.len(), "{run}");
+        pairs.extend(given.iter().copied().zip(shown).filter(|_| role != "2"));
+    }
+    let (first, last) = pairs.iter().fold((pairs[0], pairs[0]), |(low, high), &pair| {
+        (if pair.0[0] < low.0[0] { pair } else { low }, if pair.0[0] > high.0[0] { pair } else { high })
+    });
+    let scale = (last.1[0] - first.1[0]) / (last.0[0] - first.0[0]);
+    for (given, shown) in &pairs {
+        for axis in [0, 1] {
+            let expected = first.1[axis] + (given[axis] - first.0[axis]) * scale;
+            assert!((expected - shown[axis]).abs() < 0.03, "{given:?} {shown:?}");
+        }
+    }
+    assert!(pairs.len() > 900);
+}
