@@ -11,6 +11,7 @@ pub mod Floors
 pub mod Keys
 pub mod TotalOrder
 pub mod Extremes
+pub mod Bounds
 pub mod Whole
 pub mod Lengths
 pub mod Digit

@@ -1,2 +1,3 @@
--- Laws that the functions above this crate use.
+-- Laws that the functions above this crate use, and those of the test that answers for parallel directions without their lengths.
 pub mod Clips
+pub mod Parallels

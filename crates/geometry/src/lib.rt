@@ -1,10 +1,10 @@
 // Points, boxes and pieces: the clip test, the crossing test and the place on a segment.
 ghost use mathlib.Core.Path.{_≡_};
-ghost use mathlib.Core.Bool.{_&&_};
+ghost use mathlib.Core.Bool.{true, false, _&&_};
 ghost use Prim.Native.Nat.{_+_, _*_, _<_};
 ghost use lib.ListN.{length, getD};
 ghost use lib.Ieee.{nan};
-ghost use Rattle.geometry.specs.Plane.{pointAt, boxAt};
+ghost use Rattle.geometry.specs.Plane.{point, pointAt, boxAt};
 ghost use Rattle.geometry.specs.Clip.{part, clipBy, met, hits};
 ghost use Rattle.geometry.specs.Cross.{orient, crosses, parallel, param, placeOr};
 use float::hypot::hypot;
@@ -37,6 +37,19 @@ pub enum Clip {
 pub enum Param {
     At(f64),
     Parallel,
+}
+
+// The box s of a list that holds four numbers for each.
+pub fn box_at(frames: &[f64], s: usize) -> Box
+    requires { ⌜ 4 * s + 3 < length (now frames) ⌝ }
+    ensures { λ r. ⌜ r ≡ boxAt (now (frames .entry)) s ⌝ }
+{
+    Box {
+        left: frames[4 * s],
+        top: frames[4 * s + 1],
+        right: frames[4 * s + 2],
+        bottom: frames[4 * s + 3],
+    }
 }
 
 // The part from t0 to t1, unless it is turned round.
@@ -126,10 +139,22 @@ pub fn segments_cross(p: Point, q: Point, a: Point, b: Point) -> bool
     false
 }
 
+// Whether two directions are so far from parallel that their lengths need not be found: each is at most the sum of its sides' sizes.
+fn far_from_parallel(denom: f64, rx: f64, ry: f64, sx: f64, sy: f64) -> bool
+    ensures { λ b. ⌜ (b ≡ true → parallel denom (point rx ry) (point sx sy) ≡ false) ⌝ }
+{
+    let a = abs(rx) + abs(ry);
+    let b = abs(sx) + abs(sy);
+    1e-12 * max(a * b, 2.2250738585072014e-308) <= abs(denom)
+}
+
 // Whether the directions r and s are parallel, where denom is their cross product.
 fn parallel(denom: f64, r: Point, s: Point) -> bool
     ensures { λ b. ⌜ b ≡ parallel denom r s ⌝ }
 {
+    if far_from_parallel(denom, r.x, r.y, s.x, s.y) {
+        return false;
+    }
     abs(denom) < 1e-12 * max(hypot(r.x, r.y) * hypot(s.x, s.y), 2.2250738585072014e-308)
 }
 

@@ -12,11 +12,11 @@ use borrow.Author.Tests.{lt-ltb, ltb-true}
 use lib.Ieee.Fits.{down-pos, and-l, and-r}
 use lib.Ieee.Positive.{through}
 use Rattle.float.specs.Small.{absOf, maxOf, minOf, isFinite}
-use Rattle.float.specs.Hypot.{grains, hypotOf, nearestRoot}
+use Rattle.float.specs.Hypot.{hypotOf}
 use Rattle.float.proofs.Keys.{plus, le-of-lt-float}
-use Rattle.float.proofs.Sums.{plus-round, le-number}
-use Rattle.float.proofs.Hypots.{quarters, nearest-round, hypot-above, hypot-comm}
-use Rattle.float.proofs.Whole.{both-finite}
+use Rattle.float.proofs.Sums.{le-number}
+use Rattle.float.proofs.Hypots.{hypot-above, hypot-comm}
+use Rattle.float.proofs.Bounds.{hypot-plus}
 use Rattle.float.proofs.Extremes.{max-first, max-second, min-first}
 use Rattle.order.specs.Order.{pick}
 use Rattle.float.specs.Ops.{f0}
@@ -86,9 +86,6 @@ untrue : (b : Bool) → (T b → ⊥) → b ≡ false
 untrue true h = absurd (h tt)
 untrue false h = refl
 
-root-plus : (n : ℕ) → T (plus (nearestRoot n))
-root-plus n = subst (λ (v : Float). T (plus v)) (sym (nearest-round n)) (plus-round (quarters n) (2 ^ 1076))
-
 below-nan : (b : Float) → lt b nan ≡ false
 unfolding lt
 below-nan nan = refl
@@ -108,7 +105,7 @@ below-inf (fin s m e) a h = refl
 finite : (b x y : Float) → T (isFinite x) → T (isFinite y) → T (isFinite (absOf x)) → T (plus (absOf x)) → T (fits binary64 x) → lt b (absOf x) ≡ true → le (hypotOf x y) b ≡ false
 finite b x y X Y A P f h =
     untrue (le (hypotOf x y) b)
-    (past b (absOf x) (hypotOf x y) A P (subst (λ (v : Float). T (plus v)) (both-finite x y X Y) (root-plus (grains x * grains x + grains y * grains y)))
+    (past b (absOf x) (hypotOf x y) A P (hypot-plus x y X Y)
     (truth (lt b (absOf x)) h) (hypot-above x y f X Y))
 
 -- where a side exceeds b, the hypotenuse is not at most b

@@ -1,7 +1,14 @@
+use mathlib.Core.Path.{sym}
 use Rattle.geometry.specs.Cross.{parallel}
 use borrow.Author.Needs.{needs}
 use Rattle.geometry.proofs.parallel.Statement.{statement}
 use Rattle.geometry.proofs.parallel.Tie as tie
+
+far-from-parallel-requires : tie.Need-far-from-parallel-requires
+far-from-parallel-requires c κs = search needs
+
+returns : tie.Need-returns
+returns c = sym (c .before .far-from-parallel .ensures (c .if1 .taken))
 
 abs-requires : tie.Need-abs-requires
 abs-requires c κs = search needs
@@ -15,10 +22,18 @@ hypot-requires-2 c κs = search needs
 max-requires : tie.Need-max-requires
 max-requires c κs = search needs
 
-returns : tie.Need-returns
+returns-2 : tie.Need-returns-2
 unfolding parallel
-returns c = cc
+returns-2 c = cc
 
 pub parallel-spec : {M : Type 1} → statement M
 parallel-spec =
-    tie.close (tie.spec abs-requires hypot-requires hypot-requires-2 max-requires returns)
+    tie.close
+    (tie.spec
+    far-from-parallel-requires
+    returns
+    abs-requires
+    hypot-requires
+    hypot-requires-2
+    max-requires
+    returns-2)
