@@ -60,7 +60,7 @@ int main(void) {
     tansygate_audited audit = tansygate_audit(
         LEN(sub), LEN(kv), LEN(from), LEN(to), LEN(xy), LEN(boxes), LEN(roles), pieces, 4 * plot.pieces,
         branches, plot.pieces, LEN(displacement), LEN(spacing), LEN(relative),
-        LEN(stations), LEN(index), LEN(points), path, 2 * N);
+        LEN(stations), LEN(index), LEN(spare), LEN(keys), LEN(points), path, 2 * N);
     if (audit.number != TANSYGATE_DONE) {
         printf("audit refused %u\n", (unsigned)audit.number);
         return 1;

@@ -141,6 +141,8 @@ tansygate_audited tansygate_audit(
     /* work lists */
     uint32_t *stations, size_t stations_len,                /* 2n */
     uint32_t *index, size_t index_len,                      /* n */
+    uint32_t *spare, size_t spare_len,                      /* n */
+    uint64_t *keys, size_t keys_len,                        /* n */
     double *points, size_t points_len,                      /* 2n */
     double *path, size_t path_len);                         /* 2n */
 

@@ -2,7 +2,7 @@
 use std::hint::black_box;
 
 use crate::keep;
-use crate::library;
+use crate::library::{self, options_of};
 use crate::mesh;
 use crate::network::{Mesh, Network, Options};
 use crate::networks::network;
@@ -45,19 +45,6 @@ impl Lists {
     }
 }
 
-fn ours(o: &Options) -> library::Options {
-    library::Options {
-        fill: o.fill,
-        tier_radius: o.radius,
-        tier_count_1: o.counts[0],
-        tier_count_2: o.counts[1],
-        tier_scale_1: o.scales[0],
-        tier_scale_2: o.scales[1],
-        search: o.search as i32,
-        route_iterations: o.iterations as u32,
-    }
-}
-
 /// The mesh of the boxes' middles, handed in to the original too.
 fn meshed(net: &Network, drawing: &TxLayout) -> Mesh {
     let middle = |s: usize| {
@@ -77,11 +64,12 @@ fn meshed(net: &Network, drawing: &TxLayout) -> Mesh {
 fn audit<'a>(net: &'a Network, d: &'a TxLayout, k: usize) -> impl FnMut() -> library::Audited + 'a {
     let (n, p) = (net.sub.len(), d.segment_edge.len());
     let (mut displacement, mut spacing, mut relative) = (vec![0.0; k], vec![0.0; k], vec![0.0; p]);
-    let (mut stations, mut index, mut points, mut path) = (vec![0; 2 * n], vec![0; 4 * n + 4097], vec![0.0; 2 * n], vec![0.0; 2 * n]);
+    let (mut stations, mut index, mut spare, mut keys) = (vec![0; 2 * n], vec![0; 4 * n + 4097], vec![0; n], vec![0; n]);
+    let (mut points, mut path) = (vec![0.0; 2 * n], vec![0.0; 2 * n]);
     move || {
         library::audit(
             &net.sub, &net.kv, &net.from, &net.to, &net.xy, &d.boxes, &d.role, &d.segments, &d.segment_edge,
-            &mut displacement, &mut spacing, &mut relative, &mut stations, &mut index, &mut points, &mut path,
+            &mut displacement, &mut spacing, &mut relative, &mut stations, &mut index, &mut spare, &mut keys, &mut points, &mut path,
         )
     }
 }
@@ -98,11 +86,11 @@ pub fn measure(stations: usize, branches: usize, iterations: i64) {
     let pieces = drawing.segment_edge.len();
     let mut crossings = if iterations == 0 { 0 } else { pieces };
     let mut lists = Lists::new(&net, &mesh, pieces, crossings);
-    let mut first = lists.layout(ours(&options), &net, &mesh);
+    let mut first = lists.layout(options_of(&options), &net, &mesh);
     while first.number == 10 {
         crossings *= 2;
         lists = Lists::new(&net, &mesh, pieces, crossings);
-        first = lists.layout(ours(&options), &net, &mesh);
+        first = lists.layout(options_of(&options), &net, &mesh);
     }
     let what = format!("{stations} stations, {branches} branches, {iterations} iterations");
     if first.number != 0 || first.pieces != pieces {
@@ -111,7 +99,7 @@ pub fn measure(stations: usize, branches: usize, iterations: i64) {
         return;
     }
     let both = crate::by_turns(
-        &mut || keep(lists.layout(ours(&options), black_box(&net), &mesh)),
+        &mut || keep(lists.layout(options_of(&options), black_box(&net), &mesh)),
         &mut || keep(tx_schematic_layout(black_box(&input), &original)),
     );
     crate::shown(&format!("layout, {what}"), both);
@@ -137,7 +125,7 @@ pub fn repeat(judging: bool, stations: usize, branches: usize, iterations: i64, 
         if judging {
             keep(judge());
         } else {
-            keep(lists.layout(ours(&options), &net, &mesh));
+            keep(lists.layout(options_of(&options), &net, &mesh));
         }
     }
 }

@@ -9,7 +9,7 @@ use crate::random::Random;
 /// Which work list is one too short, if any.
 fn short(call: &AuditCall, salt: u64) -> Option<usize> {
     let mut r = Random::new(salt, 0x0DD);
-    let i = r.below(4);
+    let i = r.below(6);
     (!call.net.sub.is_empty() && r.one_in(50)).then_some(i)
 }
 
@@ -28,19 +28,21 @@ pub fn wrong(call: &AuditCall, want: &Result<Figures, u32>, salt: u64) -> Vec<St
     let (net, d) = (&call.net, &call.drawing);
     let n = net.sub.len();
     let mut r = Random::new(salt, 0x0DE);
-    let mut lengths = [2 * n, n, 2 * n, 2 * n].map(|length| length + r.below(3));
+    let needed = [2 * n, n, n, n, 2 * n, 2 * n];
+    let mut lengths = needed.map(|length| length + r.below(3));
     // Half the calls lend an index with room for boxes by cell.
     if r.below(2) == 0 {
         lengths[1] = 4 * n + 4097;
     }
     if let Some(i) = short(call, salt) {
-        lengths[i] = [2 * n, n, 2 * n, 2 * n][i] - 1;
+        lengths[i] = needed[i] - 1;
     }
     let mut displacement = Lent::<f64>::of(call.room.displacement.min(MANY));
     let mut spacing = Lent::<f64>::of(call.room.spacing.min(MANY));
     let mut relative = Lent::<f64>::of(call.room.lengths);
     let (mut stations, mut index) = (Lent::<u32>::of(lengths[0]), Lent::<u32>::of(lengths[1]));
-    let (mut points, mut path) = (Lent::<f64>::of(lengths[2]), Lent::<f64>::of(lengths[3]));
+    let (mut spare, mut keys) = (Lent::<u32>::of(lengths[2]), Lent::<u64>::of(lengths[3]));
+    let (mut points, mut path) = (Lent::<f64>::of(lengths[4]), Lent::<f64>::of(lengths[5]));
     let got = library::audit(
         &net.sub,
         &net.kv,
@@ -56,6 +58,8 @@ pub fn wrong(call: &AuditCall, want: &Result<Figures, u32>, salt: u64) -> Vec<St
         &mut relative.0,
         &mut stations.0,
         &mut index.0,
+        &mut spare.0,
+        &mut keys.0,
         &mut points.0,
         &mut path.0,
     );
@@ -82,6 +86,8 @@ pub fn wrong(call: &AuditCall, want: &Result<Figures, u32>, salt: u64) -> Vec<St
     let cleared = !(1..=7).contains(&number);
     stations.work("stations", cleared, &mut wrong);
     index.work("index", cleared, &mut wrong);
+    spare.work("spare", cleared, &mut wrong);
+    keys.work("keys", cleared, &mut wrong);
     points.work("points", cleared, &mut wrong);
     path.work("path", cleared, &mut wrong);
     wrong

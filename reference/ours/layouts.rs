@@ -63,18 +63,8 @@ pub fn wrong(call: &Call, want: &Result<TxLayout, u32>, salt: u64) -> Vec<String
     let (mut frames, mut path) = (Lent::<f64>::of(w[8]), Lent::<f64>::of(w[9]));
     let mut numbers = Lent::<u32>::of(c[0]);
     let (mut crossing_places, mut ways) = (Lent::<f64>::of(c[1]), Lent::<f64>::of(c[2]));
-    let options = library::Options {
-        fill: o.fill,
-        tier_radius: o.radius,
-        tier_count_1: o.counts[0],
-        tier_count_2: o.counts[1],
-        tier_scale_1: o.scales[0],
-        tier_scale_2: o.scales[1],
-        search: o.search as i32,
-        route_iterations: o.iterations as u32,
-    };
     let got = library::layout(
-        options,
+        library::options_of(o),
         &net.sub,
         &net.kv,
         &net.from,

@@ -1,62 +1,27 @@
-//! The static library's calls, each list lent with its own length (include/tansygate.h).
+//! The static library's calls: those of bindings/rust, and two that only measurements make.
+#[macro_use]
+#[path = "../../bindings/rust/src/ffi.rs"]
+mod ffi;
 
-#[repr(C)]
-#[derive(Clone, Copy)]
-pub struct Options {
-    pub fill: f64,
-    pub tier_radius: f64,
-    pub tier_count_1: u32,
-    pub tier_count_2: u32,
-    pub tier_scale_1: f64,
-    pub tier_scale_2: f64,
-    pub search: i32,
-    pub route_iterations: u32,
-}
+use crate::network;
+pub use ffi::*;
 
-#[repr(C)]
-#[derive(Clone, Copy)]
-pub struct Plotted {
-    pub number: u32,
-    pub pieces: usize,
-    pub unit: f64,
-    pub bounds: [f64; 4],
-}
-
-#[repr(C)]
-#[derive(Clone, Copy)]
-pub struct Audited {
-    pub number: u32,
-    pub stations: usize,
-    pub overlaps: usize,
-    pub through: usize,
-    pub relative: usize,
-}
-
-macro_rules! call {
-    ($name:ident = $symbol:ident($($value:ident: $v:ty),*; $($list:ident: $i:ty),*; $($lent:ident: $o:ty),*) -> $answer:ty) => {
-        pub fn $name($($value: $v,)* $($list: &[$i],)* $($lent: &mut [$o],)*) -> $answer {
-            #[link(name = "exports", kind = "static")]
-            extern "C" {
-                fn $symbol($(_: $v,)* $(_: *const $i, _: usize,)* $(_: *mut $o, _: usize,)*) -> $answer;
-            }
-            // SAFETY: each list is lent with its own length, those written by `&mut`, so no two overlap.
-            unsafe { $symbol($($value,)* $($list.as_ptr(), $list.len(),)* $($lent.as_mut_ptr(), $lent.len(),)*) }
-        }
-    };
-}
-
-call!(layout = tansygate_layout(
-    options: Options;
-    sub: u32, kv: u64, from: i64, to: i64, service: u8, xy: f64, corners: u32, twins: u32;
-    positions: f64, bars: f64, boxes: f64, scales: f64, roles: u8, pieces: f64, branches: u32,
-    stations: u32, buses: u32, ends: u32, sorted: u32, spare: u32, keys: u64, places: f64, blocks: f64, frames: f64, path: f64,
-    crossing_numbers: u32, crossing_places: f64, crossing_ways: f64
-) -> Plotted);
-
-call!(audit = tansygate_audit(;
-    sub: u32, kv: u64, from: i64, to: i64, xy: f64, boxes: f64, roles: u8, pieces: f64, branches: u32;
-    displacement: f64, spacing: f64, relative: f64, stations: u32, index: u32, points: f64, path: f64
-) -> Audited);
+#[link(name = "exports", kind = "static")]
+extern "C" {}
 
 call!(hypot = tansygate_hypot(x: f64, y: f64;;) -> f64);
 call!(nearest = tansygate_nearest(; points: f64; out: f64) -> usize);
+
+/// The oracle's options as the library takes them.
+pub fn options_of(o: &network::Options) -> Options {
+    Options {
+        fill: o.fill,
+        tier_radius: o.radius,
+        tier_count_1: o.counts[0],
+        tier_count_2: o.counts[1],
+        tier_scale_1: o.scales[0],
+        tier_scale_2: o.scales[1],
+        search: o.search as i32,
+        route_iterations: o.iterations as u32,
+    }
+}

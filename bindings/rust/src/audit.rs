@@ -61,6 +61,8 @@ pub fn tx_layout_quality(input: &TxLayoutInput, layout: &TxLayout) -> Result<TxL
         &mut relative_length,
         &mut vec![0; 2 * n],
         &mut vec![0; 4 * n + 4_097],
+        &mut vec![0; n],
+        &mut vec![0; n],
         &mut vec![0.0; 2 * n],
         &mut vec![0.0; 2 * n],
     );

@@ -58,5 +58,6 @@ call!(layout = tansygate_layout(
 
 call!(audit = tansygate_audit(;
     sub: u32, kv: u64, from: i64, to: i64, xy: f64, boxes: f64, roles: u8, pieces: f64, branches: u32;
-    displacement: f64, spacing: f64, relative: f64, stations: u32, index: u32, points: f64, path: f64
+    displacement: f64, spacing: f64, relative: f64,
+    stations: u32, index: u32, spare: u32, keys: u64, points: f64, path: f64
 ) -> Audited);

@@ -64,6 +64,8 @@ impl TxLayoutInput {
             &mut [],
             &mut [],
             &mut [],
+            &mut [],
+            &mut [],
         );
         match a.number {
             1..=4 => Refusal::check(a.number),

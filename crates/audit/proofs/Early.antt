@@ -56,6 +56,8 @@ pub record Passed (D : Drawn) (R : Room) : Type 0 where
   pub relative : length (D .branches) ≤ R .relative
   pub stations : 2 * length (D .station) ≤ R .stations
   pub index : length (D .station) ≤ R .index
+  pub spare : length (D .station) ≤ R .spare
+  pub keys : length (D .station) ≤ R .keys
   pub points : 2 * length (D .station) ≤ R .points
   pub path : 2 * length (D .station) ≤ R .path
 
@@ -70,6 +72,8 @@ passed-of D R h =
     let d = neither _ _ (c .1) in
     let e = neither _ _ (d .1) in
     let f = neither _ _ (e .1) in
+    let g = neither _ _ (f .1) in
+    let i = neither _ _ (g .1) in
     record {
       few = s .few;
       below = s .below;
@@ -78,6 +82,8 @@ passed-of D R h =
       relative = ltb-false _ _ (c .0);
       stations = ltb-false _ _ (d .0);
       index = ltb-false _ _ (e .0);
-      points = ltb-false _ _ (f .0);
-      path = ltb-false _ _ (f .1);
+      spare = ltb-false _ _ (f .0);
+      keys = ltb-false _ _ (g .0);
+      points = ltb-false _ _ (i .0);
+      path = ltb-false _ _ (i .1);
     }

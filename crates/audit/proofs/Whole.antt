@@ -94,16 +94,16 @@ module _ (D : Drawn) (L : Lists) (W : Work) where
   judged a L' W' i z = rw (i .answer, i .lists, z)
 
   -- clearing goes by the lengths
-  zeroed : (U : Work) → length (U .stations) ≡ length (W .stations) → length (U .index) ≡ length (W .index) → length (U .points) ≡ length (W .points) → length (U .path) ≡ length (W .path)
+  zeroed : (U : Work) → length (U .stations) ≡ length (W .stations) → length (U .index) ≡ length (W .index) → length (U .spare) ≡ length (W .spare) → length (U .keys) ≡ length (W .keys) → length (U .points) ≡ length (W .points) → length (U .path) ≡ length (W .path)
       → cleared U ≡ cleared W
   unfolding cleared
-  zeroed U p q r s = rw (p, q, r, s)
+  zeroed U p q t u r s = rw (p, q, t, u, r, s)
 
   pub call-judged : (a : Audit) (L' : Lists) (U W' : Work) (x : ℕ) → x ≡ early D (roomOf L W) → x ≡ 0 → Inner D L a L' → W' ≡ cleared U
-      → length (U .stations) ≡ length (W .stations) → length (U .index) ≡ length (W .index) → length (U .points) ≡ length (W .points) → length (U .path) ≡ length (W .path)
+      → length (U .stations) ≡ length (W .stations) → length (U .index) ≡ length (W .index) → length (U .spare) ≡ length (W .spare) → length (U .keys) ≡ length (W .keys) → length (U .points) ≡ length (W .points) → length (U .path) ≡ length (W .path)
       → call a L' W' ≡ auditOf D L W
   unfolding auditOf
-  call-judged a L' U W' x e z i c p q r s = judged a L' W' i (c ∙ zeroed U p q r s) ∙ ap (λ (y : ℕ). callEarly y D L W) (sym z ∙ e)
+  call-judged a L' U W' x e z i c p q t u r s = judged a L' W' i (c ∙ zeroed U p q t u r s) ∙ ap (λ (y : ℕ). callEarly y D L W) (sym z ∙ e)
 
-pub work-eq : {a a' b b' : List ℕ} {c c' d d' : List Float} → a ≡ a' → b ≡ b' → c ≡ c' → d ≡ d' → work a b c d ≡ work a' b' c' d'
-work-eq p q r s = rw (p, q, r, s)
+pub work-eq : {a a' b b' c c' d d' : List ℕ} {e e' f f' : List Float} → a ≡ a' → b ≡ b' → c ≡ c' → d ≡ d' → e ≡ e' → f ≡ f' → work a b c d e f ≡ work a' b' c' d' e' f'
+work-eq p q r s t u = rw (p, q, r, s, t, u)

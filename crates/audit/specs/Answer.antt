@@ -35,7 +35,7 @@ numberOf (Refused r) = r
 unfoldable pub tooShort : ℕ → ℕ → ℕ → Room → Bool
 tooShort n k p R =
     ltb (R .displacement) k || (ltb (R .spacing) k || (ltb (R .relative) p
-    || (ltb (R .stations) (2 * n) || (ltb (R .index) n || (ltb (R .points) (2 * n) || ltb (R .path) (2 * n))))))
+    || (ltb (R .stations) (2 * n) || (ltb (R .index) n || (ltb (R .spare) n || (ltb (R .keys) n || (ltb (R .points) (2 * n) || ltb (R .path) (2 * n))))))))
 
 -- 1 to 4, 6 and 7, 0 where none applies
 unfoldable pub early : Drawn → Room → ℕ
@@ -98,6 +98,8 @@ cleared W =
     work
     (replicate (length (W .stations)) 0)
     (replicate (length (W .index)) 0)
+    (replicate (length (W .spare)) 0)
+    (replicate (length (W .keys)) 0)
     (replicate (length (W .points)) f0)
     (replicate (length (W .path)) f0)
 

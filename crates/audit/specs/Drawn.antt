@@ -34,11 +34,13 @@ lists a b c = record { displacement = a; spacing = b; relative = c }
 pub record Work : Type 0 where
   pub stations : List ℕ
   pub index : List ℕ
+  pub spare : List ℕ
+  pub keys : List ℕ
   pub points : List Float
   pub path : List Float
 
-abbrev pub work : List ℕ → List ℕ → List Float → List Float → Work
-work a b c d = record { stations = a; index = b; points = c; path = d }
+abbrev pub work : List ℕ → List ℕ → List ℕ → List ℕ → List Float → List Float → Work
+work a b c d e f = record { stations = a; index = b; spare = c; keys = d; points = e; path = f }
 
 -- the lengths of the lent lists
 abbrev pub roomOf : Lists → Work → Room
@@ -49,6 +51,8 @@ roomOf L W =
       relative = length (L .relative);
       stations = length (W .stations);
       index = length (W .index);
+      spare = length (W .spare);
+      keys = length (W .keys);
       points = length (W .points);
       path = length (W .path);
     }

@@ -38,12 +38,15 @@ fn figures_of(
     spacing: &mut [f64],
     relative: &mut [f64],
     index: &mut [u32],
+    spare: &mut [u32],
+    keys: &mut [u64],
     points: &mut [f64],
     path: &mut [f64],
 ) -> Figures
     requires { ⌜ (k ≡ stationCount (now sub)) × (length (now sub) ≤ 4096) × (k ≤ length (now sub)) × (countsIn k (now stations) ≡ busCounts (now sub)) ⌝ }
     requires { ⌜ (4 * k ≤ length (now boxes)) × (length (now pieces) ≡ 4 * length (now branches)) × (2 * length (now sub) ≤ length (now stations)) ⌝ }
     requires { ⌜ (k ≤ length (now displacement)) × (k ≤ length (now spacing)) × (length (now branches) ≤ length (now relative)) × (2 * length (now sub) ≤ length (now points)) × (2 * length (now sub) ≤ length (now path)) ⌝ }
+    requires { ⌜ (length (now sub) ≤ length (now index)) × (length (now sub) ≤ length (now spare)) × (length (now sub) ≤ length (now keys)) ⌝ }
     ensures { λ r. ⌜ Figured (drawn (now (sub .entry)) (now (kv .entry)) (now (from .entry)) (now (to .entry)) (now (xy .entry)) (now (boxes .entry)) (now (roles .entry)) (now (pieces .entry)) (now (branches .entry)))
         (lists (now (displacement .entry)) (now (spacing .entry)) (now (relative .entry))) r (lists (now (displacement .exit)) (now (spacing .exit)) (now (relative .exit))) ⌝ }
 {
@@ -51,7 +54,7 @@ fn figures_of(
     displacements(k, stations, points, boxes, displacement);
     middles(k, boxes, points);
     let n = coordinates(k, stations, points, path);
-    spacings(k, n, stations, boxes, path, spacing);
+    spacings(k, n, stations, boxes, path, spacing, keys, index, spare);
     let overlaps = count_overlaps(k, stations, boxes);
     let through = count_through(
         k,
@@ -75,7 +78,7 @@ fn figures_of(
 }
 
 // 13 or 8, or the figures.
-pub fn audited(
+pub(crate) fn audited(
     sub: &[u32],
     kv: &[u64],
     from: &[i64],
@@ -90,11 +93,14 @@ pub fn audited(
     relative: &mut [f64],
     stations: &mut [u32],
     index: &mut [u32],
+    spare: &mut [u32],
+    keys: &mut [u64],
     points: &mut [f64],
     path: &mut [f64],
 ) -> Audit
     requires { ⌜ (length (now sub) ≤ 4096) × (stationCount (now sub) ≤ length (now sub)) × (2 * length (now sub) ≤ length (now stations)) ⌝ }
     requires { ⌜ (stationCount (now sub) ≤ length (now displacement)) × (stationCount (now sub) ≤ length (now spacing)) × (length (now branches) ≤ length (now relative)) × (2 * length (now sub) ≤ length (now points)) × (2 * length (now sub) ≤ length (now path)) ⌝ }
+    requires { ⌜ (length (now sub) ≤ length (now index)) × (length (now sub) ≤ length (now spare)) × (length (now sub) ≤ length (now keys)) ⌝ }
     ensures { λ r. ⌜ Inner (drawn (now (sub .entry)) (now (kv .entry)) (now (from .entry)) (now (to .entry)) (now (xy .entry)) (now (boxes .entry)) (now (roles .entry)) (now (pieces .entry)) (now (branches .entry)))
         (lists (now (displacement .entry)) (now (spacing .entry)) (now (relative .entry))) r (lists (now (displacement .exit)) (now (spacing .exit)) (now (relative .exit))) ⌝ }
 {
@@ -122,6 +128,8 @@ pub fn audited(
         spacing,
         relative,
         index,
+        spare,
+        keys,
         points,
         path,
     );

@@ -24,12 +24,14 @@ pub fn tx_layout_quality(
     relative: &mut [f64],
     stations: &mut [u32],
     index: &mut [u32],
+    spare: &mut [u32],
+    keys: &mut [u64],
     points: &mut [f64],
     path: &mut [f64],
 ) -> Audit
-    ensures { λ r. ⌜ call r (lists (now (displacement .exit)) (now (spacing .exit)) (now (relative .exit))) (work (now (stations .exit)) (now (index .exit)) (now (points .exit)) (now (path .exit)))
+    ensures { λ r. ⌜ call r (lists (now (displacement .exit)) (now (spacing .exit)) (now (relative .exit))) (work (now (stations .exit)) (now (index .exit)) (now (spare .exit)) (now (keys .exit)) (now (points .exit)) (now (path .exit)))
         ≡ auditOf (drawn (now (sub .entry)) (now (kv .entry)) (now (from .entry)) (now (to .entry)) (now (xy .entry)) (now (boxes .entry)) (now (roles .entry)) (now (pieces .entry)) (now (branches .entry)))
-        (lists (now (displacement .entry)) (now (spacing .entry)) (now (relative .entry))) (work (now (stations .entry)) (now (index .entry)) (now (points .entry)) (now (path .entry))) ⌝ }
+        (lists (now (displacement .entry)) (now (spacing .entry)) (now (relative .entry))) (work (now (stations .entry)) (now (index .entry)) (now (spare .entry)) (now (keys .entry)) (now (points .entry)) (now (path .entry))) ⌝ }
 {
     let room = Room {
         displacement: displacement.len(),
@@ -37,6 +39,8 @@ pub fn tx_layout_quality(
         relative: relative.len(),
         stations: stations.len(),
         index: index.len(),
+        spare: spare.len(),
+        keys: keys.len(),
         points: points.len(),
         path: path.len(),
     };
@@ -59,9 +63,11 @@ pub fn tx_layout_quality(
         relative,
         stations,
         index,
+        spare,
+        keys,
         points,
         path,
     );
-    clear_work(stations, index, points, path);
+    clear_work(stations, index, spare, keys, points, path);
     a
 }

@@ -28,6 +28,12 @@ fn too_short(n: usize, k: usize, p: usize, room: Room) -> bool
     if room.index < n {
         return true;
     }
+    if room.spare < n {
+        return true;
+    }
+    if room.keys < n {
+        return true;
+    }
     if room.points < 2 * n {
         return true;
     }
@@ -35,7 +41,7 @@ fn too_short(n: usize, k: usize, p: usize, room: Room) -> bool
 }
 
 // 1 to 4, 6 or 7, 0 where none applies.
-pub fn refusal_of_input(
+pub(crate) fn refusal_of_input(
     sub: &[u32],
     kv: &[u64],
     from: &[i64],

@@ -5,6 +5,8 @@ pub struct Room {
     pub relative: usize,
     pub stations: usize,
     pub index: usize,
+    pub spare: usize,
+    pub keys: usize,
     pub points: usize,
     pub path: usize,
 }

@@ -64,7 +64,7 @@ fn crosses(
 }
 
 // How many pieces of lines hit a box that isn't one of their own stations'.
-pub fn count_through(
+pub(crate) fn count_through(
     k: usize,
     stations: &[u32],
     boxes: &[f64],

@@ -24,16 +24,18 @@ pub extern "C" fn tansygate_audit(
     relative: &mut [f64],
     stations: &mut [u32],
     index: &mut [u32],
+    spare: &mut [u32],
+    keys: &mut [u64],
     points: &mut [f64],
     path: &mut [f64],
 ) -> Audited
     ensures { λ r. ⌜ judged r
         (lists (now (displacement .exit)) (now (spacing .exit)) (now (relative .exit)))
-        (work (now (stations .exit)) (now (index .exit)) (now (points .exit)) (now (path .exit)))
+        (work (now (stations .exit)) (now (index .exit)) (now (spare .exit)) (now (keys .exit)) (now (points .exit)) (now (path .exit)))
         ≡ plainAudit (auditOf
         (drawn (now (sub .entry)) (now (kv .entry)) (now (from .entry)) (now (to .entry)) (now (xy .entry)) (now (boxes .entry)) (now (roles .entry)) (now (pieces .entry)) (now (branches .entry)))
         (lists (now (displacement .entry)) (now (spacing .entry)) (now (relative .entry)))
-        (work (now (stations .entry)) (now (index .entry)) (now (points .entry)) (now (path .entry)))) ⌝ }
+        (work (now (stations .entry)) (now (index .entry)) (now (spare .entry)) (now (keys .entry)) (now (points .entry)) (now (path .entry)))) ⌝ }
 {
     let a = tx_layout_quality(
         sub,
@@ -50,6 +52,8 @@ pub extern "C" fn tansygate_audit(
         relative,
         stations,
         index,
+        spare,
+        keys,
         points,
         path,
     );

@@ -41,7 +41,7 @@ pub struct Audited {
 }
 
 // Settings as options.
-pub fn options_of(s: Settings) -> Options
+pub(crate) fn options_of(s: Settings) -> Options
     ensures { λ r. ⌜ r ≡ optionsOf s ⌝ }
 {
     Options {
@@ -57,7 +57,7 @@ pub fn options_of(s: Settings) -> Options
 }
 
 // A drawing's answer as numbers.
-pub fn plot_numbers(a: Answer) -> Plotted
+pub(crate) fn plot_numbers(a: Answer) -> Plotted
     ensures { λ r. ⌜ r ≡ plotted a ⌝ }
 {
     match a {
@@ -83,7 +83,7 @@ pub fn plot_numbers(a: Answer) -> Plotted
 }
 
 // An audit's answer as numbers.
-pub fn audit_numbers(a: Audit) -> Audited
+pub(crate) fn audit_numbers(a: Audit) -> Audited
     ensures { λ r. ⌜ r ≡ audited a ⌝ }
 {
     match a {

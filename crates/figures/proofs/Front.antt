@@ -3,8 +3,9 @@ use mathlib.Core.Path.{_≡_, refl, sym, ap, _∙_}
 use mathlib.Core.List.{List, [], _∷_, _++_, append-nil, append-assoc}
 use Prim.Native.Nat.{ℕ, _+_, _≤_, _<_}
 use native.Mathlib.Omega.{arith}
-use lib.ListN.{length, set, length-append}
-use lib.Seq.{sets}
+use native.Mathlib.Nat.{add-zero}
+use lib.ListN.{length, getD, set, drop}
+use lib.Seq.{sets, getD-append-add, getD-drop}
 use Rattle.results.proofs.Writes.{Written, written-none, written-more, written-all}
 use Rattle.runs.specs.Lists.{over}
 
@@ -47,5 +48,10 @@ module _ {A : Type 0} where
   pub front-room : (whole left old l : List A) (c : ℕ) → Front whole left old l c → length l ≡ length old
   front-room whole left old l c f = f .written .room
 
-  pub front-count : (whole left old l : List A) (c : ℕ) → Front whole left old l c → c + length left ≡ length whole
-  front-count whole left old l c f = ap (λ (n : ℕ). n + length left) (sym (f .written .size)) ∙ sym (length-append (f .done) left) ∙ ap length (f .joined)
+  -- what is read next is as it was before
+  pub front-next : (whole left old l : List A) (c : ℕ) (d : A) → Front whole left old l c → getD l c d ≡ getD old c d
+  front-next whole left old l c d f =
+      let e : c ≡ length (f .done) + 0 = omega (arith, f .written .size) in
+      ap (λ (x : List A). getD x c d) (f .written .is)
+      ∙ ap (λ (i : ℕ). getD (f .done ++ drop c old) i d) e
+      ∙ getD-append-add (f .done) (drop c old) 0 d ∙ getD-drop c old 0 d ∙ ap (λ (i : ℕ). getD old i d) (add-zero c)

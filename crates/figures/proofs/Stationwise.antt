@@ -1,26 +1,31 @@
 -- Displacement and spacing station by station, and the middles of all boxes. Assumes nothing.
 use mathlib.Core.Path.{_≡_, refl, sym, ap, _∙_}
+use mathlib.Core.Bool.{Bool}
 use mathlib.Core.List.{List, [], _∷_, _++_}
 use Prim.Native.Nat.{ℕ, suc, _+_, _*_, _≤_, _<_}
 use native.Mathlib.Omega.{arith}
 use native.Mathlib.Numerals.{add-one}
-use lib.ListN.{length, getD, take}
-use lib.Ieee.{Float}
+use lib.ListN.{length, getD, take, drop, List·getD-append}
+use lib.Seq.{drop-at}
+use lib.Ieee.{Float, nan}
 use Rattle.float.specs.Ops.{_⊘_}
+use Rattle.order.specs.Table.{table}
+use Rattle.order.proofs.Tables.{length-table, getD-table, howMany-le, length-which}
+use Rattle.order.proofs.Strides.{length-strided}
 use Rattle.geometry.specs.declared.Point.{Point}
 use Rattle.geometry.specs.declared.Box.{Box}
 use Rattle.geometry.specs.Plane.{pointAt, boxAt, origin}
 use Rattle.neighbours.specs.Near.{distance, nearest}
-use Rattle.network.specs.Words.{occupied}
+use Rattle.network.specs.Words.{isOccupied, occupied}
 use Rattle.network.specs.Seed.{placeAt}
 use Rattle.network.specs.Views.{countsIn, pointsIn, boxesIn}
 use Rattle.network.proofs.Views.{putPoint, points-zero, points-push, getD-points, getD-boxes, boxes-suc, boxes-zero}
 use Rattle.units.specs.Unit.{coordinates}
 use Rattle.units.proofs.Near.{nearest-take}
+use Rattle.runs.specs.Lists.{over}
 use Rattle.placement.specs.Place.{noBox, boxIn}
 use Rattle.placement.proofs.Rest.{onward, onward-yes, onward-end}
-use Rattle.figures.specs.Figure.{middle, middles, displacements, shorter, spacingsFrom, spacings}
-use Rattle.figures.proofs.Front.{Front, front-count}
+use Rattle.figures.specs.Figure.{middle, middles, displacements, shorter, bySides, spacingsFrom, spacings}
 
 -- ---- what is left of a list over the occupied stations
 module _ (k : ℕ) (st : List ℕ) (boxes seeds : List Float) where
@@ -40,34 +45,63 @@ module _ (k : ℕ) (st : List ℕ) (boxes seeds : List Float) where
   unfolding displacements
   displaced-end s h = ap displaced (onward-end k st s h)
 
-module _ (k : ℕ) (st : List ℕ) (boxes path : List Float) (n : ℕ) where
-  abbrev pub spaced : ℕ → List ℕ → List Float
-  spaced c ss = spacingsFrom path n (boxesIn k boxes) c ss
+module _ (k : ℕ) (st : List ℕ) (boxes ds : List Float) where
+  abbrev pub sided : ℕ → List ℕ → List Float
+  sided c ss = bySides ds (boxesIn k boxes) c ss
 
-  pub spaced-yes : (s c : ℕ) (b : Box) (d w : Float) → s < k → 0 < getD st (2 * s) 0 → d ≡ nearest path n c → b ≡ boxAt boxes s → w ≡ shorter b
-      → spaced c (onward k st s) ≡ (d ⊘ w) ∷ spaced (c + 1) (onward k st (s + 1))
-  unfolding spacingsFrom
-  spaced-yes s c b d w h o e f g =
+  pub sided-yes : (s c : ℕ) (b : Box) (d w : Float) → s < k → 0 < getD st (2 * s) 0 → d ≡ getD ds c nan → b ≡ boxAt boxes s → w ≡ shorter b
+      → sided c (onward k st s) ≡ (d ⊘ w) ∷ sided (c + 1) (onward k st (s + 1))
+  unfolding bySides
+  sided-yes s c b d w h o e f g =
       let x : w ≡ shorter (boxIn (boxesIn k boxes) s) = g ∙ ap shorter (f ∙ sym (getD-boxes k s boxes noBox h)) in
-      ap (spaced c) (onward-yes k st s h o)
-      ∙ ap (λ (y : Float). y ⊘ shorter (boxIn (boxesIn k boxes) s) ∷ spaced (suc c) (onward k st (s + 1))) (sym e)
-      ∙ ap (λ (y : Float). d ⊘ y ∷ spaced (suc c) (onward k st (s + 1))) (sym x)
-      ∙ ap (λ (i : ℕ). d ⊘ w ∷ spaced i (onward k st (s + 1))) (sym (add-one c))
+      ap (sided c) (onward-yes k st s h o)
+      ∙ ap (λ (y : Float). y ⊘ shorter (boxIn (boxesIn k boxes) s) ∷ sided (suc c) (onward k st (s + 1))) (sym e)
+      ∙ ap (λ (y : Float). d ⊘ y ∷ sided (suc c) (onward k st (s + 1))) (sym x)
+      ∙ ap (λ (i : ℕ). d ⊘ w ∷ sided i (onward k st (s + 1))) (sym (add-one c))
 
-  pub spaced-end : (s c : ℕ) → k ≤ s → spaced c (onward k st s) ≡ []
+  pub sided-end : (s c : ℕ) → k ≤ s → sided c (onward k st s) ≡ []
+  unfolding bySides
+  sided-end s c h = ap (sided c) (onward-end k st s h)
+
+-- no more stations are occupied than there are
+pub occupied-few : (k : ℕ) (st : List ℕ) → length (occupied (countsIn k st)) ≤ k
+unfolding occupied
+occupied-few k st =
+    let p : ℕ → Bool = isOccupied (countsIn k st) in
+    let n : ℕ = length (countsIn k st) in
+    omega (arith, length-which p n, howMany-le p n, length-strided 2 0 0 k st)
+
+-- ---- a list that leads with the nearest distances of n points
+module _ (path : List Float) (n : ℕ) (bs : List Box) (old ds : List Float) (e : ds ≡ table (nearest path n) n ++ drop n old) where
+  nearest-here : (i : ℕ) → i < n → getD ds i nan ≡ nearest path n i
+  nearest-here i h =
+      let z : i < length (table (nearest path n) n) = omega (arith, length-table (nearest path n) n) in
+      ap (λ (l : List Float). getD l i nan) e ∙ List·getD-append (table (nearest path n) n) (drop n old) nan i z ∙ getD-table (nearest path n) n i nan h
+
+  from-nearest : (i : ℕ) (ss : List ℕ) → i + length ss ≤ n → bySides ds bs i ss ≡ spacingsFrom path n bs i ss
+  unfolding bySides spacingsFrom
+  from-nearest i [] h = refl
+  from-nearest i (s ∷ ss) h =
+      let g : i < n = omega arith in
+      let j : suc i + length ss ≤ n = omega arith in
+      ap (λ (d : Float). d ⊘ shorter (boxIn bs s) ∷ bySides ds bs (suc i) ss) (nearest-here i g)
+      ∙ ap (λ (l : List Float). nearest path n i ⊘ shorter (boxIn bs s) ∷ l) (from-nearest (suc i) ss j)
+
+  length-spaced : (i : ℕ) (ss : List ℕ) → length (spacingsFrom path n bs i ss) ≡ length ss
   unfolding spacingsFrom
-  spaced-end s c h = ap (spaced c) (onward-end k st s h)
+  length-spaced i [] = refl
+  length-spaced i (s ∷ ss) = ap suc (length-spaced (suc i) ss)
 
-length-spaced : (ps : List Float) (n : ℕ) (bs : List Box) (i : ℕ) (ss : List ℕ) → length (spacingsFrom ps n bs i ss) ≡ length ss
-unfolding spacingsFrom
-length-spaced ps n bs i [] = refl
-length-spaced ps n bs i (s ∷ ss) = ap suc (length-spaced ps n bs (suc i) ss)
-
-pub spaced-below : (k : ℕ) (st : List ℕ) (boxes path : List Float) (n s c : ℕ) (old l : List Float) → n ≡ length (occupied (countsIn k st)) → s < k → 0 < getD st (2 * s) 0
-    → Front (spaced k st boxes path n 0 (occupied (countsIn k st))) (spaced k st boxes path n c (onward k st s)) old l c → c < n
-spaced-below k st boxes path n s c old l e h o f =
-    let a : length (onward k st s) ≡ suc (length (onward k st (s + 1))) = ap length (onward-yes k st s h o) in
-    omega (arith, a, e, front-count _ _ _ _ _ f, length-spaced path n (boxesIn k boxes) c (onward k st s), length-spaced path n (boxesIn k boxes) 0 (occupied (countsIn k st)))
+  -- divided by the sides it leads with the spacings, and past them it is as it was before the distances
+  pub spaced-over : (ss : List ℕ) (l : List Float) → n ≡ length ss → l ≡ over (bySides ds bs 0 ss) ds → l ≡ over (spacingsFrom path n bs 0 ss) old
+  unfolding over
+  spaced-over ss l q r =
+      let new : List Float = spacingsFrom path n bs 0 ss in
+      let w : length new ≡ n = length-spaced 0 ss ∙ sym q in
+      let t : drop (length new) ds ≡ drop (length new) old =
+      ap (drop (length new)) e ∙ drop-at (table (nearest path n) n) (drop n old) (length new) (length-table (nearest path n) n ∙ sym w)
+      ∙ ap (λ (i : ℕ). drop i old) (sym w) in
+      r ∙ ap (λ (x : List Float). over x ds) (from-nearest 0 ss (omega (arith, q))) ∙ ap (λ (x : List Float). new ++ x) t
 
 -- only the first n points count
 from-front : (path : List Float) (n : ℕ) (bs : List Box) (i : ℕ) (ss : List ℕ) → i + length ss ≤ n → spacingsFrom path n bs i ss ≡ spacingsFrom (take (2 * n) path) n bs i ss

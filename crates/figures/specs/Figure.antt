@@ -1,8 +1,8 @@
 -- The audit's displacement and spacing: a number for each of a list of stations, in its order. Definitions only.
 use Prim.Native.Nat.{ℕ, suc}
 use mathlib.Core.List.{List, [], _∷_, map}
-use lib.ListN.{length}
-use lib.Ieee.{Float}
+use lib.ListN.{length, getD}
+use lib.Ieee.{Float, nan}
 use Rattle.float.specs.Small.{maxOf, minOf}
 use Rattle.float.specs.Ops.{f2, leastNormal, _⊕_, _⊖_, _⊘_}
 use Rattle.geometry.specs.declared.Point.{Point}
@@ -28,6 +28,11 @@ displacements seeds bs (s ∷ ss) = distance (placeAt seeds s) (middle (boxIn bs
 -- a box's shorter side, at least f64::MIN_POSITIVE
 unfoldable pub shorter : Box → Float
 shorter b = maxOf (minOf (b .right ⊖ b .left) (b .bottom ⊖ b .top)) leastNormal
+
+-- a list's i-th number by the shorter side of a station's box, and so on
+unfoldable pub bySides : List Float → List Box → ℕ → List ℕ → List Float
+bySides ds bs i [] = []
+bySides ds bs i (s ∷ ss) = getD ds i nan ⊘ shorter (boxIn bs s) ∷ bySides ds bs (suc i) ss
 
 -- the least positive distance of the i-th of n points to another by the shorter side of a station's box, and so on
 unfoldable pub spacingsFrom : List Float → ℕ → List Box → ℕ → List ℕ → List Float

@@ -6,16 +6,16 @@ ghost use Rattle.network.specs.Words.{occupied};
 ghost use Rattle.network.specs.Views.{countsIn, pointsIn, boxesIn};
 ghost use Rattle.neighbours.specs.Near.{distance};
 ghost use Rattle.runs.specs.Lists.{over};
-ghost use Rattle.figures.specs.Figure.{middle, middles, displacements, shorter, spacingsFrom};
+ghost use Rattle.figures.specs.Figure.{middle, middles, displacements, shorter, bySides, spacingsFrom};
 use float::hypot::hypot;
 use float::small::max;
 use float::small::min;
 use geometry::Box;
 use geometry::Point;
+use geometry::box_at;
 use geometry::point_at;
-use neighbours::nearest_distance;
+use neighbours::nearest_neighbour_distances;
 use network::seed::put_point;
-use results::lists::box_in;
 
 // The middle of a box.
 fn middle(b: Box) -> Point
@@ -28,7 +28,7 @@ fn middle(b: Box) -> Point
 }
 
 // The distance from p to q.
-pub fn distance(p: Point, q: Point) -> f64
+pub(crate) fn distance(p: Point, q: Point) -> f64
     ensures { λ r. ⌜ r ≡ distance p q ⌝ }
 {
     hypot(q.x - p.x, q.y - p.y)
@@ -41,7 +41,7 @@ pub fn middles(k: usize, boxes: &[f64], points: &mut [f64])
 {
     let mut s = 0;
     while s < k {
-        let c = middle(box_in(boxes, s));
+        let c = middle(box_at(boxes, s));
         put_point(points, s, c);
         s += 1;
     }
@@ -62,7 +62,7 @@ pub fn displacements(
     let mut s = 0;
     while s < k {
         if 0 < stations[2 * s] {
-            displacement[c] = distance(point_at(seeds, s), middle(box_in(boxes, s)));
+            displacement[c] = distance(point_at(seeds, s), middle(box_at(boxes, s)));
             c += 1;
             s += 1;
         } else {
@@ -81,7 +81,25 @@ fn shorter(b: Box) -> f64
     )
 }
 
-// The least positive distance of each of n points to another by the shorter side of its station's box: the points are the occupied stations' in order.
+// A number for each occupied station, in order at the front of `spacing`, by the shorter side of its box.
+fn by_sides(k: usize, stations: &[u32], boxes: &[f64], spacing: &mut [f64])
+    requires { ⌜ (k ≤ 4096) × (2 * k ≤ length (now stations)) × (4 * k ≤ length (now boxes)) × (k ≤ length (now spacing)) ⌝ }
+    ensures { λ _. ⌜ now (spacing .exit) ≡ over (bySides (now (spacing .entry)) (boxesIn k (now (boxes .entry))) 0 (occupied (countsIn k (now (stations .entry))))) (now (spacing .entry)) ⌝ }
+{
+    let mut c = 0;
+    let mut s = 0;
+    while s < k {
+        if 0 < stations[2 * s] {
+            spacing[c] = spacing[c] / shorter(box_at(boxes, s));
+            c += 1;
+            s += 1;
+        } else {
+            s += 1;
+        }
+    }
+}
+
+// The least positive distance of each of n points to another by the shorter side of its station's box: the points are the occupied stations' in order. `keys`, `order` and `spare` are work lists.
 pub fn spacings(
     k: usize,
     n: usize,
@@ -89,19 +107,14 @@ pub fn spacings(
     boxes: &[f64],
     path: &[f64],
     spacing: &mut [f64],
+    keys: &mut [u64],
+    order: &mut [u32],
+    spare: &mut [u32],
 )
     requires { ⌜ (k ≤ 4096) × (n ≡ length (occupied (countsIn k (now stations)))) × (2 * n ≤ length (now path)) × (2 * k ≤ length (now stations)) × (4 * k ≤ length (now boxes)) × (k ≤ length (now spacing)) ⌝ }
+    requires { ⌜ (k ≤ length (now keys)) × (k ≤ length (now order)) × (k ≤ length (now spare)) ⌝ }
     ensures { λ _. ⌜ now (spacing .exit) ≡ over (spacingsFrom (now (path .entry)) n (boxesIn k (now (boxes .entry))) 0 (occupied (countsIn k (now (stations .entry))))) (now (spacing .entry)) ⌝ }
 {
-    let mut c = 0;
-    let mut s = 0;
-    while s < k {
-        if 0 < stations[2 * s] {
-            spacing[c] = nearest_distance(path, n, c) / shorter(box_in(boxes, s));
-            c += 1;
-            s += 1;
-        } else {
-            s += 1;
-        }
-    }
+    nearest_neighbour_distances(path, n, spacing, keys, order, spare);
+    by_sides(k, stations, boxes, spacing);
 }

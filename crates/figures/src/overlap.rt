@@ -8,8 +8,8 @@ ghost use Rattle.network.specs.Words.{occupied};
 ghost use Rattle.network.specs.Views.{countsIn, boxesIn};
 ghost use Rattle.figures.specs.Overlaps.{clash, overlaps};
 use geometry::Box;
+use geometry::box_at;
 use neighbours::overlaps;
-use results::lists::box_in;
 
 // A box with its sides moved in by 1e-9.
 fn shrunk(b: Box) -> Box
@@ -29,12 +29,12 @@ fn clashes(k: usize, stations: &[u32], boxes: &[f64], s: usize) -> usize
     ensures { λ r. ⌜ r ≡ count (clash (boxesIn k (now (boxes .entry))) s) (occupied (countsIn k (now (stations .entry)))) ⌝ }
     ensures { λ r. ⌜ r ≤ s ⌝ }
 {
-    let p = shrunk(box_in(boxes, s));
+    let p = shrunk(box_at(boxes, s));
     let mut c = 0;
     let mut t = 0;
     while t < s {
         if 0 < stations[2 * t] {
-            if overlaps(p, box_in(boxes, t)) {
+            if overlaps(p, box_at(boxes, t)) {
                 c += 1;
                 t += 1;
             } else {

@@ -67,6 +67,8 @@ fn audit_agrees(
     let mut relative = [0f64; 256];
     let mut stations = [0u32; 32];
     let mut index = [0u32; 32];
+    let mut spare = [0u32; 32];
+    let mut keys = [0u64; 32];
     let mut points = [0f64; 32];
     let mut path = [0f64; 32];
     match tx_layout_quality(
@@ -84,6 +86,8 @@ fn audit_agrees(
         &mut relative[0..relative_end],
         &mut stations[0..stations_end],
         &mut index,
+        &mut spare,
+        &mut keys,
         &mut points,
         &mut path,
     ) {
@@ -131,7 +135,7 @@ fn lent_agrees(
     )
 }
 
-pub fn agrees(w: &[u64]) -> bool {
+pub(crate) fn agrees(w: &[u64]) -> bool {
     let mut sub = [0u32; 4097];
     let mut kv = [0u64; 32];
     let mut from = [0i64; 8193];

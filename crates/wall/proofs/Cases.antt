@@ -176,7 +176,7 @@ counted (Audits.Refused r) = 100 ∷ r ∷ []
 abbrev overlapsBy : Network → Answer → Net.Lists → List ℕ
 overlapsBy N (Drawn p) L =
     counted
-    (AuditAnswer.auditOf (audited N L (p .pieces)) (AuditLists.lists (zeros 2) (zeros 2) (zeros 1)) (AuditLists.work (noughts 4) (noughts 2) (zeros 4) (zeros 4)) .answer)
+    (AuditAnswer.auditOf (audited N L (p .pieces)) (AuditLists.lists (zeros 2) (zeros 2) (zeros 1)) (AuditLists.work (noughts 4) (noughts 2) (noughts 2) (noughts 2) (zeros 4) (zeros 4)) .answer)
 overlapsBy N (Refused r) L = r ∷ []
 
 -- two stations on one seed: the overlaps, and the places of both

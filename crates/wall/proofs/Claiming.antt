@@ -80,10 +80,10 @@ module _ (o : Options) (N : Network) (L : Lists) (W : Work) (X : Crossings) wher
   pub claim-both : (a : Answer) (l : Lists) (w : Work) (x : Crossings) → call a l w x ≡ layoutOf o N L W X → (p : Plot) → a ≡ Drawn p
       → (A : Audited.Call)
       → A ≡ Audited.auditOf (auditParts (N .station) (N .kv) (N .from) (N .to) (N .xy) (l .boxes) (l .roles) (l .pieces) (l .branches) (p .pieces))
-      (Lent.lists (w .blocks) (w .frames) (x .ways)) (Lent.work (w .stations) (w .sorted) (w .places) (w .path))
+      (Lent.lists (w .blocks) (w .frames) (x .ways)) (Lent.work (w .stations) (w .sorted) (w .spare) (w .keys) (w .places) (w .path))
       → Claim o N L W X
       (both (A .answer) l
-      (work (A .work .stations) (w .buses) (w .ends) (A .work .index) (w .spare) (w .keys) (A .work .points) (A .lists .displacement) (A .lists .spacing) (A .work .path))
+      (work (A .work .stations) (w .buses) (w .ends) (A .work .index) (A .work .spare) (A .work .keys) (A .work .points) (A .lists .displacement) (A .lists .spacing) (A .work .path))
       (crossings (x .numbers) (x .places) (A .lists .relative)))
   unfolding bothAfter auditAfter audited
   claim-both a l w x e p d A f = claim-drawn p l w x (subst (λ (b : Answer). call b l w x ≡ layoutOf o N L W X) d e) A f

@@ -33,13 +33,13 @@ auditAfter N count C =
     auditOf
     (audited N (C .lists) count)
     (Lent.lists (C .work .blocks) (C .work .frames) (C .crossings .ways))
-    (Lent.work (C .work .stations) (C .work .sorted) (C .work .places) (C .work .path))
+    (Lent.work (C .work .stations) (C .work .sorted) (C .work .spare) (C .work .keys) (C .work .places) (C .work .path))
 
 -- the lists after it
 unfoldable pub bothAfter : Call → Audited.Call → Both
 bothAfter C A =
     both (A .answer) (C .lists)
-    (work (A .work .stations) (C .work .buses) (C .work .ends) (A .work .index) (C .work .spare) (C .work .keys) (A .work .points) (A .lists .displacement) (A .lists .spacing) (A .work .path))
+    (work (A .work .stations) (C .work .buses) (C .work .ends) (A .work .index) (A .work .spare) (A .work .keys) (A .work .points) (A .lists .displacement) (A .lists .spacing) (A .work .path))
     (crossings (C .crossings .numbers) (C .crossings .places) (A .lists .relative))
 
 -- by layout's answer: what it refuses is not audited

@@ -22,7 +22,7 @@ fn shorter(n: usize, len: usize) -> usize
 }
 
 // Audits the parts of the lists that a drawing of `count` pieces fills.
-pub fn audit_drawing(
+fn audit_drawing(
     sub: &[u32],
     kv: &[u64],
     from: &[i64],
@@ -38,13 +38,15 @@ pub fn audit_drawing(
     relative: &mut [f64],
     stations: &mut [u32],
     index: &mut [u32],
+    spare: &mut [u32],
+    keys: &mut [u64],
     points: &mut [f64],
     path: &mut [f64],
 ) -> Audit
     requires { ⌜ (4 * count ≤ length (now pieces)) × (count ≤ length (now branches)) ⌝ }
-    ensures { λ r. ⌜ Audited.call r (Lent.lists (now (displacement .exit)) (now (spacing .exit)) (now (relative .exit))) (Lent.work (now (stations .exit)) (now (index .exit)) (now (points .exit)) (now (path .exit)))
+    ensures { λ r. ⌜ Audited.call r (Lent.lists (now (displacement .exit)) (now (spacing .exit)) (now (relative .exit))) (Lent.work (now (stations .exit)) (now (index .exit)) (now (spare .exit)) (now (keys .exit)) (now (points .exit)) (now (path .exit)))
         ≡ Audited.auditOf (auditParts (now (sub .entry)) (now (kv .entry)) (now (from .entry)) (now (to .entry)) (now (xy .entry)) (now (boxes .entry)) (now (roles .entry)) (now (pieces .entry)) (now (branches .entry)) count)
-        (Lent.lists (now (displacement .entry)) (now (spacing .entry)) (now (relative .entry))) (Lent.work (now (stations .entry)) (now (index .entry)) (now (points .entry)) (now (path .entry))) ⌝ }
+        (Lent.lists (now (displacement .entry)) (now (spacing .entry)) (now (relative .entry))) (Lent.work (now (stations .entry)) (now (index .entry)) (now (spare .entry)) (now (keys .entry)) (now (points .entry)) (now (path .entry))) ⌝ }
 {
     let k = station_count(sub);
     let b = shorter(4 * k, boxes.len());
@@ -64,6 +66,8 @@ pub fn audit_drawing(
         relative,
         stations,
         index,
+        spare,
+        keys,
         points,
         path,
     )
@@ -160,6 +164,8 @@ pub fn draw_and_audit(
             crossing_ways,
             stations,
             sorted,
+            spare,
+            keys,
             places,
             path,
         ),

@@ -28,19 +28,27 @@ returns-5 : tie.Need-returns-5
 unfolding tooShort
 returns-5 c = rw (le-ltb _ _ (c .before .before .before .before .before .before .before .before .if1 .left), le-ltb _ _ (c .before .before .before .before .before .before .if2 .left), le-ltb _ _ (c .before .before .before .before .if3 .left), le-ltb _ _ (c .before .before .if4 .left), lt-ltb _ _ (c .if5 .taken))
 
-mul-if6 : tie.Need-mul-if6
-mul-if6 c = search needs
-
 returns-6 : tie.Need-returns-6
 unfolding tooShort
 returns-6 c = rw (le-ltb _ _ (c .before .before .before .before .before .before .before .before .before .before .if1 .left), le-ltb _ _ (c .before .before .before .before .before .before .before .before .if2 .left), le-ltb _ _ (c .before .before .before .before .before .before .if3 .left), le-ltb _ _ (c .before .before .before .before .if4 .left), le-ltb _ _ (c .before .before .if5 .left), lt-ltb _ _ (c .if6 .taken))
 
+returns-7 : tie.Need-returns-7
+unfolding tooShort
+returns-7 c = rw (le-ltb _ _ (c .before .before .before .before .before .before .before .before .before .before .before .before .if1 .left), le-ltb _ _ (c .before .before .before .before .before .before .before .before .before .before .if2 .left), le-ltb _ _ (c .before .before .before .before .before .before .before .before .if3 .left), le-ltb _ _ (c .before .before .before .before .before .before .if4 .left), le-ltb _ _ (c .before .before .before .before .if5 .left), le-ltb _ _ (c .before .before .if6 .left), lt-ltb _ _ (c .if7 .taken))
+
+mul-if8 : tie.Need-mul-if8
+mul-if8 c = search needs
+
+returns-8 : tie.Need-returns-8
+unfolding tooShort
+returns-8 c = rw (le-ltb _ _ (c .before .before .before .before .before .before .before .before .before .before .before .before .before .before .if1 .left), le-ltb _ _ (c .before .before .before .before .before .before .before .before .before .before .before .before .if2 .left), le-ltb _ _ (c .before .before .before .before .before .before .before .before .before .before .if3 .left), le-ltb _ _ (c .before .before .before .before .before .before .before .before .if4 .left), le-ltb _ _ (c .before .before .before .before .before .before .if5 .left), le-ltb _ _ (c .before .before .before .before .if6 .left), le-ltb _ _ (c .before .before .if7 .left), lt-ltb _ _ (c .if8 .taken))
+
 mul-result : tie.Need-mul-result
 mul-result c = search needs
 
-returns-7 : tie.Need-returns-7
+returns-9 : tie.Need-returns-9
 unfolding tooShort
-returns-7 c = rw (le-ltb _ _ (c .before .before .before .before .before .before .before .before .before .before .before .if1 .left), le-ltb _ _ (c .before .before .before .before .before .before .before .before .before .if2 .left), le-ltb _ _ (c .before .before .before .before .before .before .before .if3 .left), le-ltb _ _ (c .before .before .before .before .before .if4 .left), le-ltb _ _ (c .before .before .before .if5 .left), le-ltb _ _ (c .before .if6 .left))
+returns-9 c = rw (le-ltb _ _ (c .before .before .before .before .before .before .before .before .before .before .before .before .before .before .before .if1 .left), le-ltb _ _ (c .before .before .before .before .before .before .before .before .before .before .before .before .before .if2 .left), le-ltb _ _ (c .before .before .before .before .before .before .before .before .before .before .before .if3 .left), le-ltb _ _ (c .before .before .before .before .before .before .before .before .before .if4 .left), le-ltb _ _ (c .before .before .before .before .before .before .before .if5 .left), le-ltb _ _ (c .before .before .before .before .before .if6 .left), le-ltb _ _ (c .before .before .before .if7 .left), le-ltb _ _ (c .before .if8 .left))
 
 pub too-short-spec : {M : Type 1} → statement M
 too-short-spec =
@@ -52,7 +60,9 @@ too-short-spec =
     mul-if4
     returns-4
     returns-5
-    mul-if6
     returns-6
+    returns-7
+    mul-if8
+    returns-8
     mul-result
-    returns-7)
+    returns-9)

@@ -32,8 +32,8 @@ shared-slice-read-if1 c = search needs
 point-at-requires : tie.Need-point-at-requires Inv-loop μ-loop
 point-at-requires c κs = search needs
 
-box-in-requires : tie.Need-box-in-requires Inv-loop μ-loop
-box-in-requires c κs = search needs
+box-at-requires : tie.Need-box-at-requires Inv-loop μ-loop
+box-at-requires c κs = search needs
 
 middle-requires : tie.Need-middle-requires Inv-loop μ-loop
 middle-requires c κs = search needs
@@ -57,7 +57,7 @@ loop-less : tie.Need-loop-less Inv-loop μ-loop
 loop-less c = search needs
 
 loop-again : tie.Need-loop-again Inv-loop μ-loop
-loop-again c = (omega arith, omega arith, front-put _ _ _ _ _ _ _ (displaced-yes _ _ _ _ _ _ _ _ _ (c .before .before .before .before .before .before .loop-test .taken) (c .before .before .before .before .if1 .taken) (c .before .before .before .point-at .ensures) (c .before .before .box-in .ensures) (c .before .middle .ensures) (c .distance .ensures)) (omega arith) (c .before .before .before .before .before .before .before .loop .inv .2))
+loop-again c = (omega arith, omega arith, front-put _ _ _ _ _ _ _ (displaced-yes _ _ _ _ _ _ _ _ _ (c .before .before .before .before .before .before .loop-test .taken) (c .before .before .before .before .if1 .taken) (c .before .before .before .point-at .ensures) (c .before .before .box-at .ensures) (c .before .middle .ensures) (c .distance .ensures)) (omega arith) (c .before .before .before .before .before .before .before .loop .inv .2))
 
 add-s-2 : tie.Need-add-s-2 Inv-loop μ-loop
 add-s-2 c = search needs
@@ -85,7 +85,7 @@ displacements-spec =
     mul-if1-2
     shared-slice-read-if1
     point-at-requires
-    box-in-requires
+    box-at-requires
     middle-requires
     distance-requires
     mul-displacement

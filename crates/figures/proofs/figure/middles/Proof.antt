@@ -19,8 +19,8 @@ abbrev μ-loop : tie.MeasureT-loop
 loop-holds : tie.Need-loop-holds Inv-loop μ-loop
 loop-holds c = (omega arith, refl, middles-none _ _)
 
-box-in-requires : tie.Need-box-in-requires Inv-loop μ-loop
-box-in-requires c κs = search needs
+box-at-requires : tie.Need-box-at-requires Inv-loop μ-loop
+box-at-requires c κs = search needs
 
 middle-requires : tie.Need-middle-requires Inv-loop μ-loop
 middle-requires c κs = search needs
@@ -35,7 +35,7 @@ loop-less : tie.Need-loop-less Inv-loop μ-loop
 loop-less c = search needs
 
 loop-again : tie.Need-loop-again Inv-loop μ-loop
-loop-again c = (omega arith, c .before .before .put-point .kept .0 ∙ c .before .before .before .before .before .before .before .loop .inv .1, middles-more _ _ _ _ _ _ (omega arith) (c .before .before .before .before .before .box-in .ensures) (c .before .before .before .before .middle .ensures) (c .before .before .put-point .ensures) (c .before .before .before .before .before .before .before .loop .inv .2))
+loop-again c = (omega arith, c .before .before .put-point .kept .0 ∙ c .before .before .before .before .before .before .before .loop .inv .1, middles-more _ _ _ _ _ _ (omega arith) (c .before .before .before .before .before .box-at .ensures) (c .before .before .before .before .middle .ensures) (c .before .before .put-point .ensures) (c .before .before .before .before .before .before .before .loop .inv .2))
 
 same-length : tie.Need-same-length Inv-loop μ-loop
 same-length c = c .before .loop .inv .1
@@ -50,7 +50,7 @@ middles-spec =
     Inv-loop
     μ-loop
     loop-holds
-    box-in-requires
+    box-at-requires
     middle-requires
     put-point-requires
     add-s

@@ -14,8 +14,8 @@ Inv-loop k stations boxes s p c₀ t₀ c t = (t ≤ s) × (c ≤ t) × (c ≡ h
 abbrev μ-loop : tie.MeasureT-loop
 μ-loop k stations boxes s p c₀ t₀ c t = s - t
 
-box-in-requires : tie.Need-box-in-requires Inv-loop μ-loop
-box-in-requires c κs = search needs
+box-at-requires : tie.Need-box-at-requires Inv-loop μ-loop
+box-at-requires c κs = search needs
 
 shrunk-requires : tie.Need-shrunk-requires Inv-loop μ-loop
 shrunk-requires c κs = search needs
@@ -32,8 +32,8 @@ mul-if1-2 c = search needs
 shared-slice-read-if1 : tie.Need-shared-slice-read-if1 Inv-loop μ-loop
 shared-slice-read-if1 c = search needs
 
-box-in-requires-2 : tie.Need-box-in-requires-2 Inv-loop μ-loop
-box-in-requires-2 c κs = search needs
+box-at-requires-2 : tie.Need-box-at-requires-2 Inv-loop μ-loop
+box-at-requires-2 c κs = search needs
 
 overlaps-requires : tie.Need-overlaps-requires Inv-loop μ-loop
 overlaps-requires c κs = search needs
@@ -48,7 +48,7 @@ loop-less : tie.Need-loop-less Inv-loop μ-loop
 loop-less c = search needs
 
 loop-again : tie.Need-loop-again Inv-loop μ-loop
-loop-again c = (omega arith, omega arith, clash-yes _ _ _ _ _ _ _ _ _ _ (c .before .before .before .before .before .loop-test .taken) (c .before .before .before .before .before .before .before .before .before .before .before .pre .0) (c .before .before .before .if1 .taken) (c .before .before .before .before .before .before .before .before .box-in .ensures) (c .before .before .before .before .before .before .before .shrunk .ensures) (c .before .before .box-in2 .ensures) (c .before .overlaps .ensures) (c .if2 .taken) (c .before .before .before .before .before .before .loop .inv .2))
+loop-again c = (omega arith, omega arith, clash-yes _ _ _ _ _ _ _ _ _ _ (c .before .before .before .before .before .loop-test .taken) (c .before .before .before .before .before .before .before .before .before .before .before .pre .0) (c .before .before .before .if1 .taken) (c .before .before .before .before .before .before .before .before .box-at .ensures) (c .before .before .before .before .before .before .before .shrunk .ensures) (c .before .before .box-at2 .ensures) (c .before .overlaps .ensures) (c .if2 .taken) (c .before .before .before .before .before .before .loop .inv .2))
 
 add-t-2 : tie.Need-add-t-2 Inv-loop μ-loop
 add-t-2 c = search needs
@@ -57,7 +57,7 @@ loop-less-2 : tie.Need-loop-less-2 Inv-loop μ-loop
 loop-less-2 c = search needs
 
 loop-again-2 : tie.Need-loop-again-2 Inv-loop μ-loop
-loop-again-2 c = (omega arith, omega arith, clash-no _ _ _ _ _ _ _ _ _ _ (c .before .before .before .before .before .loop-test .taken) (c .before .before .before .before .before .before .before .before .before .before .before .pre .0) (c .before .before .before .if1 .taken) (c .before .before .before .before .before .before .before .before .box-in .ensures) (c .before .before .before .before .before .before .before .shrunk .ensures) (c .before .before .box-in2 .ensures) (c .before .overlaps .ensures) (c .if2 .left) (c .before .before .before .before .before .before .loop .inv .2))
+loop-again-2 c = (omega arith, omega arith, clash-no _ _ _ _ _ _ _ _ _ _ (c .before .before .before .before .before .loop-test .taken) (c .before .before .before .before .before .before .before .before .before .before .before .pre .0) (c .before .before .before .if1 .taken) (c .before .before .before .before .before .before .before .before .box-at .ensures) (c .before .before .before .before .before .before .before .shrunk .ensures) (c .before .before .box-at2 .ensures) (c .before .overlaps .ensures) (c .if2 .left) (c .before .before .before .before .before .before .loop .inv .2))
 
 add-t-3 : tie.Need-add-t-3 Inv-loop μ-loop
 add-t-3 c = search needs
@@ -77,13 +77,13 @@ clashes-spec =
     (tie.spec
     Inv-loop
     μ-loop
-    box-in-requires
+    box-at-requires
     shrunk-requires
     loop-holds
     mul-if1
     mul-if1-2
     shared-slice-read-if1
-    box-in-requires-2
+    box-at-requires-2
     overlaps-requires
     add-c
     add-t
