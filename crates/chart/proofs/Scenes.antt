@@ -43,7 +43,7 @@ use Rattle.runs.specs.Run as Run
 use Rattle.runs.specs.Run.{Scene, slot, between, linePoints, runFor, runOf}
 use Rattle.detour.specs.Cells.{cellSize}
 use Rattle.detour.specs.Paths.{pathIn}
-use Rattle.runs.specs.Views.{Held, held, lead, blockOf, barOf, slotOf, exitOf, openFrom, internalFrom, ledIn, lineFrom, runFrom, wayOf, waysOf, runIn}
+use Rattle.runs.specs.Views.{Held, held, lead, blockOf, barOf, slotOf, exitOf, openFrom, internalFrom, ledIn, ledRun, lineFrom, runFrom, wayOf, waysOf, runIn}
 use Rattle.routing.specs.Views as Routing
 use Rattle.routing.specs.Views.{grid, exitAt, lineBetween, lineIn, linesIn}
 use Rattle.pieces.specs.Pieces.{runsIn}
@@ -174,7 +174,7 @@ module _ (sub : List ℕ) (unit : Float) (buses : List ℕ) (blocks frames : Lis
         led-held s t path = cc
 
         run-held : (ra rb w n : ℕ) (K : Kind) → Safe sub K → runFrom heldBy ra rb w n K ≡ runFor ledBy ra rb (pathIn w n ways) K
-        unfolding Safe runFrom runFor slot linePoints openFrom internalFrom lineFrom ledScene straightScene
+        unfolding Safe runFrom runFor slot linePoints openFrom internalFrom lineFrom ledRun ledScene straightScene
         run-held ra rb w n Undrawn h = refl
         run-held ra rb w n (Open a b) h = cc (bar-at a (h .0), bar-at b (h .1))
         run-held ra rb w n (Internal a b) h = cc (slot-held a ra (h .0), slot-held b rb (h .1))

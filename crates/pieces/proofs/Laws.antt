@@ -51,7 +51,7 @@ pieces-one : (e : ℕ) (p : Point) → pieces e (p ∷ []) ≡ []
 unfolding pieces
 pieces-one e p = refl
 
-pieces-none : (e : ℕ) → pieces e [] ≡ []
+pub pieces-none : (e : ℕ) → pieces e [] ≡ []
 unfolding pieces
 pieces-none e = refl
 
@@ -146,14 +146,6 @@ module _ {A : Type 0} (f : ℕ → List A) where
       let g : length (joined f n) ≤ c * n = joined-at-most c n (λ i k. h i (omega arith)) in
       let k : length (f n) ≤ c = h n (omega arith) in
       omega (arith, joined-length-suc n)
-
-pub between-at-most : (e : ℕ) (p q : Point) → length (between e p q) ≤ 1
-unfolding between
-between-at-most e p q = go (apart p q)
-  where
-    go : (b : Bool) → length (pick b (piece e p q ∷ []) []) ≤ 1
-    go true = omega arith
-    go false = omega arith
 
 -- ---- a test of all elements
 allOf-snoc : {A : Type 0} (p : A → Bool) (l : List A) (x : A) → allOf p (l ++ (x ∷ [])) ≡ allOf p l && p x

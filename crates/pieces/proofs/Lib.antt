@@ -1,4 +1,8 @@
 -- Laws that the functions' proofs use.
 pub mod Laws
 pub mod Puts
+pub mod Adding
+pub mod Leading
 pub mod Passes
+pub mod ArrayLent
+pub mod Again

@@ -1,70 +1,123 @@
--- All pieces as the two passes write them, how many they are, and the loops over all branches.
+-- All pieces as the two passes take them, how many they are, and the loops over all branches.
 -- Assumes nothing.
-use mathlib.Core.Path.{_≡_, refl, sym, ap, _∙_}
+use mathlib.Core.Path.{_≡_, refl, sym, ap, _∙_, subst}
 use mathlib.Core.Logic.{_≢_}
 use mathlib.Core.Bool.{Bool, true, false, not, _&&_}
-use mathlib.Core.List.{List, [], _++_, map}
+use mathlib.Core.List.{List, [], _∷_, _++_, map, append-nil, append-assoc}
 use Prim.Native.Nat.{ℕ, zero, suc, _+_, _*_, _^_, _-_, _≤_, _<_}
 use native.Mathlib.Omega.{arith}
-use native.Mathlib.Numerals.{add-one}
-use lib.IntN.{ℤ}
-use lib.ListN.{length, drop, getD, length-append, length-map}
+use borrow.Author.Tests.{ltb-true, ltb-false, ne-eqb}
+use lib.Dec.{ltb}
+use lib.IntN.{ℤ, negsuc}
+use lib.ListN.{length, drop, getD, length-append, length-map, List·getD-eq-default}
 use lib.Ieee.{Float}
 use Rattle.order.specs.Order.{pick}
 use Rattle.order.specs.Table.{table, joined}
-use Rattle.order.proofs.Tables.{length-table, getD-table, joined-zero, joined-ext}
+use Rattle.order.proofs.Tables.{length-table, getD-table, table-ext, joined-zero, joined-suc, joined-ext}
 use Rattle.geometry.specs.declared.Point.{Point}
 use Rattle.network.specs.declared.words.Kind.{Kind}
 use Rattle.network.specs.declared.words.Kind.the-variants.{Undrawn, Open, Internal, Line}
-use Rattle.network.specs.Words.{kindOf, kindAt, kinds}
+use Rattle.network.specs.Words.{stationOf, known, kindFor, kindOf, kindAt, kinds, Safe}
+use Rattle.network.proofs.Branches.{kind-safe}
 use Rattle.network.specs.Views.{pointsIn}
-use Rattle.runs.specs.Run.{Piece, pieces, isLine, allPieces}
+use Rattle.runs.specs.Run.{Piece, apart, pieces, isLine, allPieces}
 use Rattle.runs.specs.Finite.{allOf, finitePoint}
 use Rattle.runs.specs.Lists.{flat, pieceNumbers, over, after}
-use Rattle.runs.specs.Views.{Held, waysOf, Ran}
-use Rattle.runs.proofs.Paths.{run-few}
-use Rattle.pieces.specs.Pieces.{branchOf, Counted, runAt, runsIn, passAt, passIn, Room, RoomIf, Put}
-use Rattle.pieces.proofs.Laws.{pieces-in, pieceAt, between-at-most, joined-at-most, joined-length-suc, all-zero, all-suc}
-use Rattle.pieces.proofs.Puts.{Filling, fill-none, fill-room, fill-more, fill-skip, fill-end, put-of, put-more, put-length-four, put-length-one, length-flat}
+use Rattle.runs.specs.Views.{Held, openFrom, internalFrom, lineFrom, runFrom, runIn, otherRun, waysOf, wayOf, Fits, Ran}
+use Rattle.runs.proofs.Paths.{run-few, other-is}
+use Rattle.pieces.specs.declared.Totals.{Totals}
+use Rattle.pieces.specs.declared.request.LineRequest.{LineRequest}
+use Rattle.pieces.specs.Pieces.{piece, branchOf, runAt, runsIn, passRun, passAt, passIn, passFinite, othersIn, othersFinite, blockIn, blockFinite, FitAll, RoomIf, Put}
+use Rattle.pieces.specs.Requests.{Lists, lists, nothingAt, lineRequest, requestOf, FilledTo, requestRun, requestPieces, listPieces, listFinite, Asks, AskAll, RoomFor, Passed}
+use Rattle.pieces.proofs.Laws.{pieces-none, joined-mono, joined-at-most, all-zero, all-suc}
+use Rattle.pieces.proofs.Puts.{put-of, length-flat}
+use Rattle.pieces.proofs.Adding.{Going, go-none, go-room, go-more, go-end, passed-of, passed-none, passed-more, ran-room, ran-passed}
 
-joined-two : {A : Type 0} (f g h : ℕ → List A) (n : ℕ) → ((i : ℕ) → length (f i) + length (g i) ≡ length (h i))
-    → length (joined f n) + length (joined g n) ≡ length (joined h n)
-joined-two f g h zero k = rw (joined-zero f, joined-zero g, joined-zero h)
-joined-two f g h (suc n) k =
-    omega (arith, joined-two f g h n k, k n, joined-length-suc f n, joined-length-suc g n, joined-length-suc h n)
+-- ---- more of a table or of joined lists, and none past an end
+module _ {A : Type 0} (f : ℕ → List A) where
+  pub joined-plus : (a k : ℕ) → joined f (a + k) ≡ joined f a ++ joined (λ (i : ℕ). f (a + i)) k
+  joined-plus a zero =
+      let e : a + 0 ≡ a = omega arith in
+      ap (joined f) e ∙ sym (append-nil (joined f a)) ∙ ap (λ (z : List A). joined f a ++ z) (sym (joined-zero (λ (i : ℕ). f (a + i))))
+  joined-plus a (suc k) =
+      let e : a + suc k ≡ suc (a + k) = omega arith in
+      ap (joined f) e ∙ joined-suc f (a + k) ∙ ap (λ (z : List A). z ++ f (a + k)) (joined-plus a k)
+      ∙ append-assoc (joined f a) (joined (λ (i : ℕ). f (a + i)) k) (f (a + k)) ∙ ap (λ (z : List A). joined f a ++ z) (sym (joined-suc (λ (i : ℕ). f (a + i)) k))
 
+  module _ (m : ℕ) (past : (i : ℕ) → m ≤ i → f i ≡ []) where
+    past-by : (k : ℕ) → joined f (m + k) ≡ joined f m
+    past-by zero = let e : m + 0 ≡ m = omega arith in ap (joined f) e
+    past-by (suc k) =
+        let e : m + suc k ≡ suc (m + k) = omega arith in
+        ap (joined f) e ∙ joined-suc f (m + k) ∙ ap (λ (z : List A). joined f (m + k) ++ z) (past (m + k) (omega arith)) ∙ append-nil (joined f (m + k)) ∙ past-by k
+
+    pub joined-past : (a : ℕ) → m ≤ a → joined f a ≡ joined f m
+    joined-past a h = let e : a ≡ m + (a - m) = omega arith in ap (joined f) e ∙ past-by (a - m)
+
+    pub joined-most : (a : ℕ) → length (joined f a) ≤ length (joined f m)
+    joined-most a = go (ltb a m) refl
+      where
+        go : (b : Bool) → ltb a m ≡ b → length (joined f a) ≤ length (joined f m)
+        go true q =
+            let l : a < m = ltb-true a m q in
+            let e : a + (m - a) ≡ m = omega arith in
+            omega (arith, joined-mono f a (m - a), ap (λ (k : ℕ). length (joined f k)) e)
+        go false q = let l : m ≤ a = ltb-false a m q in omega (arith, ap length (joined-past a l))
+
+module _ {A : Type 0} (p : A → Bool) (f : ℕ → A) where
+  and-true : (b : Bool) → (b && true) ≡ b
+  and-true true = refl
+  and-true false = refl
+
+  and-and : (x y z : Bool) → ((x && y) && z) ≡ (x && (y && z))
+  and-and true y z = refl
+  and-and false y z = refl
+
+  pub all-plus : (a k : ℕ) → allOf p (table f (a + k)) ≡ (allOf p (table f a) && allOf p (table (λ (i : ℕ). f (a + i)) k))
+  all-plus a zero =
+      let e : a + 0 ≡ a = omega arith in
+      ap (λ (n : ℕ). allOf p (table f n)) e ∙ sym (and-true (allOf p (table f a))) ∙ ap (λ (z : Bool). allOf p (table f a) && z) (sym (all-zero p (λ (i : ℕ). f (a + i))))
+  all-plus a (suc k) =
+      let e : a + suc k ≡ suc (a + k) = omega arith in
+      ap (λ (n : ℕ). allOf p (table f n)) e ∙ all-suc p f (a + k) ∙ ap (λ (z : Bool). z && p (f (a + k))) (all-plus a k)
+      ∙ and-and (allOf p (table f a)) (allOf p (table (λ (i : ℕ). f (a + i)) k)) (p (f (a + k)))
+      ∙ ap (λ (z : Bool). allOf p (table f a) && z) (sym (all-suc p (λ (i : ℕ). f (a + i)) k))
+
+  module _ (m : ℕ) (past : (i : ℕ) → m ≤ i → p (f i) ≡ true) where
+    all-past-by : (k : ℕ) → allOf p (table f (m + k)) ≡ allOf p (table f m)
+    all-past-by zero = let e : m + 0 ≡ m = omega arith in ap (λ (n : ℕ). allOf p (table f n)) e
+    all-past-by (suc k) =
+        let e : m + suc k ≡ suc (m + k) = omega arith in
+        ap (λ (n : ℕ). allOf p (table f n)) e ∙ all-suc p f (m + k) ∙ ap (λ (z : Bool). allOf p (table f (m + k)) && z) (past (m + k) (omega arith))
+        ∙ and-true (allOf p (table f (m + k))) ∙ all-past-by k
+
+    pub all-past : (a : ℕ) → m ≤ a → allOf p (table f a) ≡ allOf p (table f m)
+    all-past a h = let e : a ≡ m + (a - m) = omega arith in ap (λ (n : ℕ). allOf p (table f n)) e ∙ all-past-by (a - m)
+
+-- ---- what the passes take together
 module _ (H : Held) (from to : List ℤ) (service : List ℕ) where
-  abbrev pub drawn : ℕ → List Piece
-  drawn e = pieces e (runAt H from to service e)
-
-  -- ---- what the passes take together
-  both-passes : (e : ℕ) → length (passAt false H from to service e) + length (passAt true H from to service e) ≡ length (drawn e)
-  unfolding passAt
-  both-passes e = go (isLine (kindOf (H .sub) from to service e)) (drawn e)
-    where
-      go : (b : Bool) (ps : List Piece) → length (pick (pick b false (not false)) ps []) + length (pick (pick b true (not true)) ps []) ≡ length ps
-      go true ps = omega arith
-      go false ps = omega arith
+  abbrev kind : ℕ → Kind
+  kind e = kindOf (H .sub) from to service e
 
   others-pass : (e : ℕ) → e < length from
       → pick (isLine (kindAt (kinds (H .sub) from to service) e)) [] (pieces e (getD (runsIn H from to service) e [])) ≡ passAt false H from to service e
-  unfolding passAt kinds runsIn
+  unfolding passRun kinds runsIn pieces
   others-pass e h =
       rw (getD-table (kindOf (H .sub) from to service) (length from) e Undrawn h, getD-table (runAt H from to service) (length from) e [] h)
-      (go (isLine (kindOf (H .sub) from to service e)) (drawn e))
+      (go (isLine (kind e)) (runAt H from to service e))
     where
-      go : (b : Bool) (ps : List Piece) → pick b [] ps ≡ pick (pick b false (not false)) ps []
+      go : (b : Bool) (ps : List Point) → pick b [] (pieces e ps) ≡ pieces e (pick (pick b false (not false)) ps [])
       go true ps = refl
       go false ps = refl
 
   lines-pass : (e : ℕ) → e < length from
       → pick (isLine (kindAt (kinds (H .sub) from to service) e)) (pieces e (getD (runsIn H from to service) e [])) [] ≡ passAt true H from to service e
-  unfolding passAt kinds runsIn
+  unfolding passRun kinds runsIn pieces
   lines-pass e h =
       rw (getD-table (kindOf (H .sub) from to service) (length from) e Undrawn h, getD-table (runAt H from to service) (length from) e [] h)
-      (go (isLine (kindOf (H .sub) from to service e)) (drawn e))
+      (go (isLine (kind e)) (runAt H from to service e))
     where
-      go : (b : Bool) (ps : List Piece) → pick b ps [] ≡ pick (pick b true (not true)) ps []
+      go : (b : Bool) (ps : List Point) → pick b (pieces e ps) [] ≡ pieces e (pick (pick b true (not true)) ps [])
       go true ps = refl
       go false ps = refl
 
@@ -83,118 +136,284 @@ module _ (H : Held) (from to : List ℤ) (service : List ℕ) where
       ∙ ap (λ (l : List Piece). l ++ joined g (length from)) (joined-ext f (passAt false H from to service) (length from) others-pass)
       ∙ ap (λ (l : List Piece). joined (passAt false H from to service) (length from) ++ l) (joined-ext g (passAt true H from to service) (length from) lines-pass)
 
-  pub all-length : length (allPieces (kinds (H .sub) from to service) (runsIn H from to service)) ≡ length (joined drawn (length from))
+  -- whether all points are finite
+  both-finite : (n : ℕ)
+      → (allOf (allOf finitePoint) (table (passRun false H from to service) n) && allOf (allOf finitePoint) (table (passRun true H from to service) n))
+      ≡ allOf (allOf finitePoint) (table (runAt H from to service) n)
+  unfolding passRun allOf
+  both-finite zero = rw (all-zero (allOf finitePoint) (passRun false H from to service), all-zero (allOf finitePoint) (passRun true H from to service), all-zero (allOf finitePoint) (runAt H from to service))
+  both-finite (suc n) =
+      rw (all-suc (allOf finitePoint) (passRun false H from to service) n, all-suc (allOf finitePoint) (passRun true H from to service) n, all-suc (allOf finitePoint) (runAt H from to service) n, ← both-finite n)
+      (go (isLine (kind n)) (allOf (allOf finitePoint) (table (passRun false H from to service) n)) (allOf (allOf finitePoint) (table (passRun true H from to service) n)) (runAt H from to service n))
+    where
+      go : (b x y : Bool) (ps : List Point)
+          → ((x && allOf finitePoint (pick (pick b false (not false)) ps [])) && (y && allOf finitePoint (pick (pick b true (not true)) ps [])))
+          ≡ ((x && y) && allOf finitePoint ps)
+      go true true true ps = refl
+      go true true false ps = refl
+      go true false y ps = refl
+      go false true true ps = at (allOf finitePoint ps)
+        where
+          at : (z : Bool) → (z && (true && true)) ≡ z
+          at true = refl
+          at false = refl
+      go false true false ps = at (allOf finitePoint ps)
+        where
+          at : (z : Bool) → (z && (false && true)) ≡ false
+          at true = refl
+          at false = refl
+      go false false y ps = refl
+
+  pub all-finite : (passFinite false H from to service && passFinite true H from to service) ≡ allOf (allOf finitePoint) (runsIn H from to service)
+  unfolding passFinite runsIn
+  all-finite = both-finite (length from)
+
+  -- how many pieces there are
+  few-points : (e : ℕ) (ps : List Point) (n : ℕ) → length ps ≤ n → length (pieces e ps) ≤ n
+  unfolding pieces
+  few-points e [] n h = omega arith
+  few-points e (p ∷ []) n h = omega arith
+  few-points e (p ∷ (q ∷ ps)) n h = go (apart p q) (piece e p q) (few-points e (q ∷ ps) (n - 1) (omega arith))
+    where
+      go : (b : Bool) (x : Piece) → length (pieces e (q ∷ ps)) ≤ n - 1 → length (pick b (x ∷ pieces e (q ∷ ps)) (pieces e (q ∷ ps))) ≤ n
+      go true x k = omega arith
+      go false x k = omega arith
+
+  pass-few : (e : ℕ) → waysOf (H .ends) e < 2 ^ 31 → length (passAt true H from to service e) ≤ 2147483656
+  unfolding passRun
+  pass-few e h =
+      few-points e (passRun true H from to service e) 2147483656 (go (pick (isLine (kind e)) true (not true)))
+    where
+      go : (b : Bool) → length (pick b (runAt H from to service e) []) ≤ 2147483656
+      go true = omega (arith, run-few H e (kind e))
+      go false = omega arith
+
+  module _ (path : List Float) (fit : FitAll from (H .ends) path) (small : length from ≤ 8192) where
+    pub pass-small : length (passIn true H from to service) ≤ 2147483656 * 8192
+    unfolding passIn
+    pass-small =
+        let z : length (joined (passAt true H from to service) (length from)) ≤ 2147483656 * length from =
+        joined-at-most (passAt true H from to service) 2147483656 (length from) (λ i h. pass-few i (omega (arith, fit i h .1))) in
+        omega arith
+
+  -- ---- the branches that are no lines, by the lists that they are drawn from
+  abbrev other : ℕ → List Point
+  other e = otherRun (H .sub) (H .unit) (H .buses) (H .ends) (H .blocks) (H .frames) e (kind e)
+
+  other-pass : (e : ℕ) → other e ≡ passRun false H from to service e
+  unfolding passRun
+  other-pass e = other-is H e (kind e) ∙ go (isLine (kind e)) (runAt H from to service e)
+    where
+      go : (b : Bool) (ps : List Point) → pick b [] ps ≡ pick (pick b false (not false)) ps []
+      go true ps = refl
+      go false ps = refl
+
+  pub others-are : othersIn (H .sub) (H .unit) (H .buses) (H .ends) (H .blocks) (H .frames) from to service ≡ passIn false H from to service
+  unfolding othersIn passIn
+  others-are = joined-ext (λ (e : ℕ). pieces e (other e)) (passAt false H from to service) (length from) (λ e h. ap (pieces e) (other-pass e))
+
+  pub others-finite : othersFinite (H .sub) (H .unit) (H .buses) (H .ends) (H .blocks) (H .frames) from to service ≡ passFinite false H from to service
+  unfolding othersFinite passFinite
+  others-finite = ap (allOf (allOf finitePoint)) (table-ext other (passRun false H from to service) (length from) (λ e h. other-pass e))
+
+-- ---- no branch past the last
+no-line : true ≡ isLine Undrawn → ⊥
+unfolding isLine
+no-line y = let z : _≡_ {A = ℕ} 0 1 = ap (λ (b : Bool). pick b 0 1) y in omega arith
+
+module _ (sub : List ℕ) (from to : List ℤ) (service : List ℕ) (e : ℕ) where
+  pub past-kind : length from ≤ e → kindOf sub from to service e ≡ Undrawn
+  unfolding kindOf kindFor known
+  past-kind h = rw (List·getD-eq-default from (negsuc 0) h)
+
+  pub line-below : isLine (kindOf sub from to service e) ≡ true → e < length from
+  line-below q = go (ltb e (length from)) refl
+    where
+      go : (b : Bool) → ltb e (length from) ≡ b → e < length from
+      go true z = ltb-true e (length from) z
+      go false z = absurd (no-line (sym q ∙ ap isLine (past-kind (ltb-false e (length from) z))))
+
+-- ---- requests as branches' runs
+module _ (H : Held) where
+  abbrev held-lists : Lists
+  held-lists = lists (H .sub) (H .unit) (H .buses) (H .ends) (H .blocks) (H .places) (H .frames)
+
+  request-branch : (e : ℕ) (K : Kind) → requestOf held-lists e K .e ≡ e
+  unfolding requestOf nothingAt lineRequest
+  request-branch e Undrawn = refl
+  request-branch e (Open a b) = refl
+  request-branch e (Internal a b) = refl
+  request-branch e (Line a b) = refl
+
+  request-pass : (e : ℕ) (K : Kind) → Safe (H .sub) K → requestRun (H .lead) (H .frames) (H .ends) (requestOf held-lists e K) ≡ pick (pick (isLine K) true (not true)) (runIn H e K) []
+  unfolding requestRun requestOf nothingAt lineRequest isLine runIn runFrom lineFrom Safe
+  request-pass e Undrawn s = refl
+  request-pass e (Open a b) s = refl
+  request-pass e (Internal a b) s = refl
+  request-pass e (Line a b) s =
+      ap (λ (z : Bool). pick z [] (lineFrom (H .sub) (H .unit) (H .buses) (H .blocks) (H .places) (H .frames) (H .lead) a b (getD (H .ends) (4 * e) 0) (getD (H .ends) (4 * e + 1) 0) (wayOf (H .ends) e) (waysOf (H .ends) e)))
+      (ne-eqb (stationOf (H .sub) a) (stationOf (H .sub) b) (s .2))
+
+  request-asks : (path : List Float) (e : ℕ) (K : Kind) → (isLine K ≡ true → Fits (H .ends) path e × (e < 2 ^ 31)) → Asks (H .ends) path (requestOf held-lists e K)
+  unfolding requestOf nothingAt lineRequest isLine
+  request-asks path e Undrawn h d = absurd (d refl)
+  request-asks path e (Open a b) h d = absurd (d refl)
+  request-asks path e (Internal a b) h d = absurd (d refl)
+  request-asks path e (Line a b) h d = h refl
+
+  module _ (from to : List ℤ) (service : List ℕ) (start : ℕ) (list : List LineRequest) (F : FilledTo held-lists from to service start 16 list) (count : length list ≡ 16) where
+    pub block-asks : (path : List Float) → FitAll from (H .ends) path → length from ≤ 8192 → AskAll (H .ends) path list
+    block-asks path fit small i h =
+        subst (Asks (H .ends) path) (sym (F i (omega arith)))
+        (request-asks path (start + i) (kindOf (H .sub) from to service (start + i))
+        (λ q. let l : start + i < length from = line-below (H .sub) from to service (start + i) q in (fit (start + i) l, omega arith)))
+
+    run-in : (i : ℕ) → i < 16 → requestRun (H .lead) (H .frames) (H .ends) (getD list i (nothingAt 0)) ≡ passRun true H from to service (start + i)
+    unfolding passRun
+    run-in i h =
+        ap (requestRun (H .lead) (H .frames) (H .ends)) (F i h)
+        ∙ request-pass (start + i) (kindOf (H .sub) from to service (start + i)) (kind-safe (H .sub) from to service (start + i))
+
+    branch-in : (i : ℕ) → i < 16 → getD list i (nothingAt 0) .e ≡ start + i
+    branch-in i h = ap (λ (r : LineRequest). r .e) (F i h) ∙ request-branch (start + i) (kindOf (H .sub) from to service (start + i))
+
+    pieces-in-block : (i : ℕ) → i < 16 → requestPieces (H .lead) (H .frames) (H .ends) (getD list i (nothingAt 0)) ≡ passAt true H from to service (start + i)
+    unfolding requestPieces
+    pieces-in-block i h =
+        ap (λ (e : ℕ). pieces e (requestRun (H .lead) (H .frames) (H .ends) (getD list i (nothingAt 0)))) (branch-in i h) ∙ ap (pieces (start + i)) (run-in i h)
+
+    pub block-pieces : listPieces (H .lead) (H .frames) (H .ends) list ≡ blockIn H from to service start
+    unfolding listPieces blockIn
+    block-pieces =
+        ap (joined (λ (i : ℕ). requestPieces (H .lead) (H .frames) (H .ends) (getD list i (nothingAt 0)))) count
+        ∙ joined-ext (λ (i : ℕ). requestPieces (H .lead) (H .frames) (H .ends) (getD list i (nothingAt 0))) (λ (i : ℕ). passAt true H from to service (start + i)) 16 pieces-in-block
+
+    pub block-finite : listFinite (H .lead) (H .frames) (H .ends) list ≡ blockFinite H from to service start
+    unfolding listFinite blockFinite
+    block-finite =
+        ap (λ (n : ℕ). allOf (allOf finitePoint) (table (λ (i : ℕ). requestRun (H .lead) (H .frames) (H .ends) (getD list i (nothingAt 0))) n)) count
+        ∙ ap (allOf (allOf finitePoint)) (table-ext (λ (i : ℕ). requestRun (H .lead) (H .frames) (H .ends) (getD list i (nothingAt 0))) (λ (i : ℕ). passRun true H from to service (start + i)) 16 run-in)
+
+    pub block-room : (w : Bool) (at : ℕ) (n : List Float) (b : List ℕ) → RoomFor w at (blockIn H from to service start) n b → RoomFor w at (listPieces (H .lead) (H .frames) (H .ends) list) n b
+    block-room w at n b h = subst (λ (z : List Piece). RoomFor w at z n b) (sym block-pieces) h
+
+-- ---- the loop over the branches that are no lines: after e branches
+module _ (sub : List ℕ) (unit : Float) (buses ends : List ℕ) (blocks frames : List Float) (e : ℕ) (K : Kind) where
+  other-short : length (otherRun sub unit buses ends blocks frames e K) ≤ 2
+  unfolding otherRun openFrom internalFrom
+  other-short = go K
+    where
+      go : (K : Kind) → length (otherRun sub unit buses ends blocks frames e K) ≤ 2
+      go Undrawn = omega arith
+      go (Open a b) = omega arith
+      go (Internal a b) = omega arith
+      go (Line a b) = omega arith
+
+  pub other-few : (c : ℕ) (path : List Float) → Ran c path (otherRun sub unit buses ends blocks frames e K) → c < 2 ^ 32
+  other-few c path R = omega (arith, R .count, other-short)
+
+module _ (sub : List ℕ) (unit : Float) (buses ends : List ℕ) (blocks frames : List Float) (from to : List ℤ) (service : List ℕ) (w : Bool) (t : Totals) (path n : List Float) (b : List ℕ) where
+  abbrev otherAt : ℕ → List Point
+  otherAt e = otherRun sub unit buses ends blocks frames e (kindOf sub from to service e)
+
+  pub record Others (e : ℕ) (s : Totals) (path' n' : List Float) (b' : List ℕ) : Type 0 where
+    pub going : Going w (λ (i : ℕ). pieces i (otherAt i)) otherAt (length from) t n b e s n' b'
+    pub sized : length path' ≡ length path
+
+  pub others-none : RoomFor w (t .pieces) (othersIn sub unit buses ends blocks frames from to service) n b → Others 0 t path n b
+  unfolding othersIn
+  others-none h = record { going = go-none w _ _ (length from) t n b h; sized = refl }
+
+  module _ {e : ℕ} {s : Totals} {path' n' : List Float} {b' : List ℕ} (I : Others e s path' n' b') where
+    module _ {c : ℕ} {path'' : List Float} (R : Ran c path'' (otherAt e)) (l : e < length from) where
+      pub others-room : RoomFor w (s .pieces) (pieces e (pointsIn c path'')) n' b'
+      others-room = ran-room R w e (s .pieces) n' b' (go-room w _ _ (length from) t n b (I .going) l)
+
+      pub others-more : {r : Totals} {n'' : List Float} {b'' : List ℕ} → Passed w s r (pieces e (pointsIn c path'')) (allOf finitePoint (pointsIn c path'')) n' n'' b' b''
+          → length path'' ≡ length path' → length n'' ≡ length n' → length b'' ≡ length b' → Others (e + 1) r path'' n'' b''
+      others-more P d f g = record { going = go-more w _ _ (length from) t n b (I .going) l (ran-passed R w e P) f g; sized = d ∙ I .sized }
+
+    pub others-end : length from ≤ e → Passed w t s (othersIn sub unit buses ends blocks frames from to service) (othersFinite sub unit buses ends blocks frames from to service) n n' b b'
+    unfolding othersIn othersFinite
+    others-end l = go-end w _ _ (length from) t n b (I .going) l
+
+-- ---- the loop over blocks of lines: after the branches below `start`
+module _ (H : Held) (from to : List ℤ) (service : List ℕ) (w : Bool) (t : Totals) (path n : List Float) (b : List ℕ) where
+  abbrev F : ℕ → List Piece
+  F = passAt true H from to service
+
+  abbrev R : ℕ → List Point
+  R = passRun true H from to service
+
+  past-run : (e : ℕ) → length from ≤ e → R e ≡ []
+  unfolding passRun isLine
+  past-run e h = ap (λ (K : Kind). pick (pick (isLine K) true (not true)) (runAt H from to service e) []) (past-kind (H .sub) from to service e h)
+
+  past-pieces : (e : ℕ) → length from ≤ e → F e ≡ []
+  past-pieces e h = ap (pieces e) (past-run e h) ∙ pieces-none e
+
+  past-finite : (e : ℕ) → length from ≤ e → allOf finitePoint (R e) ≡ true
+  unfolding allOf
+  past-finite e h = ap (allOf finitePoint) (past-run e h)
+
+  pub record Blocks (start : ℕ) (s : Totals) (path' n' : List Float) (b' : List ℕ) : Type 0 where
+    pub near : start < length from + 16
+    pub passed : Passed w t s (joined F start) (allOf (allOf finitePoint) (table R start)) n n' b b'
+    pub room : RoomFor w (t .pieces) (joined F (length from)) n b
+    pub sized4 : length n' ≡ length n
+    pub sized1 : length b' ≡ length b
+    pub sized : length path' ≡ length path
+
+  pub blocks-none : RoomFor w (t .pieces) (passIn true H from to service) n b → Blocks 0 t path n b
   unfolding passIn
-  all-length =
-      ap length all-passes ∙ length-append (passIn false H from to service) (passIn true H from to service)
-      ∙ joined-two (passAt false H from to service) (passAt true H from to service) drawn (length from) both-passes
-
-  -- ---- the survey, after e branches
-  pub record Surveying (n : ℕ) (finite : Bool) (e : ℕ) (path₀ path : List Float) : Type 0 where
-    pub within : e ≤ length from
-    pub counted : n ≡ length (joined drawn e)
-    pub few : n ≤ 4294967296 * e
-    pub tested : finite ≡ allOf (allOf finitePoint) (table (runAt H from to service) e)
-    pub sized : length path ≡ length path₀
-
-  pub survey-none : (path : List Float) → Surveying 0 true 0 path path
-  survey-none path =
+  blocks-none h =
       record {
-        within = omega arith;
-        counted = ap length (sym (joined-zero drawn));
-        few = omega arith;
-        tested = sym (all-zero (allOf finitePoint) (runAt H from to service));
+        near = omega arith;
+        passed = passed-of (passed-none w t n b) (sym (joined-zero F)) (sym (all-zero (allOf finitePoint) R));
+        room = h;
+        sized4 = refl;
+        sized1 = refl;
         sized = refl;
       }
 
-  module _ (e c : ℕ) (path : List Float) (R : Ran c path (runAt H from to service e)) where
-    pub run-pieces : pieces e (pointsIn c path) ≡ drawn e
-    run-pieces = ap (pieces e) (R .holds)
+  module _ {start : ℕ} {s : Totals} {path' n' : List Float} {b' : List ℕ} (I : Blocks start s path' n' b') where
+    block-most : length (joined F start) + length (blockIn H from to service start) ≤ length (joined F (length from))
+    unfolding blockIn
+    block-most =
+        let z : length (joined F (start + 16)) ≤ length (joined F (length from)) = joined-most F (length from) past-pieces (start + 16) in
+        omega (arith, ap length (joined-plus F start 16), length-append (joined F start) (joined (λ (i : ℕ). F (start + i)) 16))
 
-    pub run-short : waysOf (H .ends) e < 2 ^ 31 → c < 2 ^ 32
-    run-short h = omega (arith, R .count, run-few H e (kindOf (H .sub) from to service e))
+    pub blocks-room : RoomFor w (s .pieces) (blockIn H from to service start) n' b'
+    blocks-room =
+        let e : s .pieces ≡ t .pieces + length (joined F start) = I .passed .count in
+        let z = block-most in
+        (omega (arith, I .room .0), λ k. (omega (arith, I .room .1 k .0, I .sized4), omega (arith, I .room .1 k .1, I .sized1)))
 
-    pub count-short : (x : ℕ) → waysOf (H .ends) e < 2 ^ 31 → Counted x (pointsIn c path) → x < 2 ^ 32
-    count-short x h k =
-        let s : length (pieces e (pointsIn c path)) ≡ length (joined (pieceAt e path) (c - 1)) = ap length (pieces-in e path c) in
-        let t : length (joined (pieceAt e path) (c - 1)) ≤ 1 * (c - 1) = joined-at-most (pieceAt e path) 1 (c - 1) (λ i h. between-at-most e _ _) in
-        let u : c < 2 ^ 32 = run-short h in
-        omega (arith, k e)
-
-    pub survey-more : (n x : ℕ) (f a b : Bool) (path₀ old : List Float) → e < length from → waysOf (H .ends) e < 2 ^ 31 → Surveying n f e path₀ old
-        → length path ≡ length old → Counted x (pointsIn c path) → a ≡ allOf finitePoint (pointsIn c path) → b ≡ f && a
-        → Surveying (n + x) b (e + 1) path₀ path
-    survey-more n x f a b path₀ old h w I s k t u =
+    pub blocks-more : {r : Totals} {path'' n'' : List Float} {b'' : List ℕ} → start < length from → Passed w s r (blockIn H from to service start) (blockFinite H from to service start) n' n'' b' b''
+        → length path'' ≡ length path' → length n'' ≡ length n' → length b'' ≡ length b' → Blocks (start + 16) r path'' n'' b''
+    unfolding blockIn blockFinite
+    blocks-more l P d f g =
+        let z = block-most in
+        let y = length-append (joined F start) (joined (λ (i : ℕ). F (start + i)) 16) in
         record {
-          within = omega arith;
-          counted =
-              rw add-one
-              (omega (arith, I .counted, joined-length-suc drawn e, k e, ap length run-pieces));
-          few = omega (arith, I .few, count-short x w k);
-          tested =
-              rw add-one
-              (cc (u, t, I .tested, ap (allOf finitePoint) (R .holds), all-suc (allOf finitePoint) (runAt H from to service) e));
-          sized = s ∙ I .sized;
+          near = omega arith;
+          passed =
+              passed-of (passed-more (I .passed) P (omega (arith, I .room .0), λ k. (omega (arith, I .room .1 k .0), omega (arith, I .room .1 k .1))))
+              (sym (joined-plus F start 16)) (sym (all-plus (allOf finitePoint) R start 16));
+          room = I .room;
+          sized4 = f ∙ I .sized4;
+          sized1 = g ∙ I .sized1;
+          sized = d ∙ I .sized;
         }
 
-  pub survey-count : (n : ℕ) (f : Bool) (e : ℕ) (path₀ path : List Float) → Surveying n f e path₀ path → length from ≤ e
-      → n ≡ length (allPieces (kinds (H .sub) from to service) (runsIn H from to service))
-  survey-count n f e path₀ path I h =
-      let z : e ≡ length from = omega (arith, I .within) in
-      I .counted ∙ ap (λ (k : ℕ). length (joined drawn k)) z ∙ sym all-length
-
-  pub survey-test : (n : ℕ) (f : Bool) (e : ℕ) (path₀ path : List Float) → Surveying n f e path₀ path → length from ≤ e
-      → f ≡ allOf (allOf finitePoint) (runsIn H from to service)
-  unfolding runsIn
-  survey-test n f e path₀ path I h =
-      let z : e ≡ length from = omega (arith, I .within) in
-      I .tested ∙ ap (λ (k : ℕ). allOf (allOf finitePoint) (table (runAt H from to service) k)) z
-
-  -- ---- a pass, after e branches
-  pub record Passing (lines : Bool) (at : ℕ) (n n' : List Float) (b b' : List ℕ) (k e : ℕ) (path₀ path : List Float) : Type 0 where
-    pub filling : Filling (passAt lines H from to service) (length from) at n n' b b' k e
-    pub sized : length path ≡ length path₀
-
-  module _ (lines : Bool) (at : ℕ) where
-    pub pass-none : (n : List Float) (b : List ℕ) (path : List Float) → Room at (passIn lines H from to service) n b
-        → Passing lines at n n b b at 0 path path
-    unfolding passIn
-    pass-none n b path h = record { filling = fill-none (passAt lines H from to service) (length from) at n b (h .0) (h .1); sized = refl }
-
-    taken : (e : ℕ) → pick (isLine (kindOf (H .sub) from to service e)) lines (not lines) ≡ true → passAt lines H from to service e ≡ drawn e
-    unfolding passAt
-    taken e t = ap (λ (z : Bool). pick z (drawn e) []) t
-
-    left : (e : ℕ) → pick (isLine (kindOf (H .sub) from to service e)) lines (not lines) ≡ false → passAt lines H from to service e ≡ []
-    unfolding passAt
-    left e t = ap (λ (z : Bool). pick z (drawn e) []) t
-
-    module _ {n n' : List Float} {b b' : List ℕ} {k e : ℕ} {path₀ old : List Float} (I : Passing lines at n n' b b' k e path₀ old) where
-      pub pass-room : {c : ℕ} {path : List Float} → e < length from → Ran c path (runAt H from to service e)
-          → pick (isLine (kindOf (H .sub) from to service e)) lines (not lines) ≡ true
-          → (4 * (k + length (pieces e (pointsIn c path))) ≤ length n') × (k + length (pieces e (pointsIn c path)) ≤ length b')
-      pass-room {c} {path} h R t =
-          let q = fill-room (passAt lines H from to service) (length from) at (I .filling) h in
-          let z : length (pieces e (pointsIn c path)) ≡ length (passAt lines H from to service e) = ap length (run-pieces e c path R ∙ sym (taken e t)) in
-          (omega (arith, q .0), omega (arith, q .1))
-
-      pub pass-more : {c r : ℕ} {path : List Float} {n'' : List Float} {b'' : List ℕ} → e < length from → Ran c path (runAt H from to service e)
-          → pick (isLine (kindOf (H .sub) from to service e)) lines (not lines) ≡ true → length path ≡ length old
-          → Put k r (pieces e (pointsIn c path)) n' n'' b' b'' → Passing lines at n n'' b b'' r (e + 1) path₀ path
-      pass-more {c} {r} {path} h R t s w =
-          record {
-            filling = fill-more (passAt lines H from to service) (length from) at (I .filling) h (put-of w (run-pieces e c path R ∙ sym (taken e t)));
-            sized = s ∙ I .sized;
-          }
-
-      pub pass-skip : e < length from → pick (isLine (kindOf (H .sub) from to service e)) lines (not lines) ≡ false → Passing lines at n n' b b' k (e + 1) path₀ old
-      pass-skip h t = record { filling = fill-skip (passAt lines H from to service) (length from) at (I .filling) h (left e t); sized = I .sized }
-
-      pub pass-end : length from ≤ e → Put at k (passIn lines H from to service) n n' b b'
-      unfolding passIn
-      pass-end h = fill-end (passAt lines H from to service) (length from) at (I .filling) h
+    pub blocks-end : length from ≤ start → Passed w t s (passIn true H from to service) (passFinite true H from to service) n n' b b'
+    unfolding passIn passFinite
+    blocks-end l = passed-of (I .passed) (joined-past F (length from) past-pieces start l) (all-past (allOf finitePoint) R (length from) past-finite start l)
 
 -- ---- both passes
+pub unwritten : {X : Type 0} → false ≡ true → X
+unwritten k = absurd (let z : _≡_ {A = ℕ} 0 1 = ap (λ (x : Bool). pick x 1 0) k in omega arith)
+
 pub kept : {A : Type 0} (l : ℕ) (new old : List A) → l ≢ 0 → old ≡ after l new old
 unfolding after
 kept zero new old h = absurd (h refl)
@@ -213,26 +432,63 @@ module _ {r : ℕ} {ps : List Piece} {n n' : List Float} {b b' : List ℕ} (w : 
       let e : r ≡ length (map branchOf ps) = omega (arith, w .count, length-map ps branchOf) in
       w .one ∙ ap (λ (k : ℕ). map branchOf ps ++ drop k b) e ∙ ap (λ (k : ℕ). after k (map branchOf ps) b) (sym z)
 
-module _ (H : Held) (from to : List ℤ) (service : List ℕ) where
+module _ (H : Held) (from to : List ℤ) (service : List ℕ) (path : List Float) (fit : FitAll from (H .ends) path) (small : length from ≤ 8192) where
   abbrev all : List Piece
   all = allPieces (kinds (H .sub) from to service) (runsIn H from to service)
 
-  sum : length all ≡ length (passIn false H from to service) + length (passIn true H from to service)
+  abbrev others : List Piece
+  others = othersIn (H .sub) (H .unit) (H .buses) (H .ends) (H .blocks) (H .frames) from to service
+
+  abbrev others-ok : Bool
+  others-ok = othersFinite (H .sub) (H .unit) (H .buses) (H .ends) (H .blocks) (H .frames) from to service
+
+  sum : length all ≡ length others + length (passIn true H from to service)
   sum = ap length (all-passes H from to service) ∙ length-append (passIn false H from to service) (passIn true H from to service)
+      ∙ ap (λ (z : List Piece). length z + length (passIn true H from to service)) (sym (others-are H from to service))
+
+  few-others : length others ≤ 2 * 8192
+  unfolding othersIn
+  few-others =
+      let f : ℕ → List Piece = λ e. pieces e (other H from to service e) in
+      let z : length (joined f (length from)) ≤ 2 * length from =
+      joined-at-most f 2 (length from) (λ e h. few-points H from to service e (other H from to service e) 2 (other-short _ _ _ _ _ _ e (kindOf (H .sub) from to service e))) in
+      omega arith
+
+  -- room for both passes
+  pub others-below : 0 + length others < 2 ^ 64
+  others-below = omega (arith, few-others)
+
+  pub lines-below : (s : Totals) → s .pieces ≡ 0 + length others → s .pieces + length (passIn true H from to service) < 2 ^ 64
+  lines-below s c = omega (arith, c, few-others, pass-small H from to service path fit small)
 
   module _ (l : ℕ) (n : List Float) (b : List ℕ) (room : RoomIf l all n b) (z : l ≡ 0) where
-    pub first-room : Room 0 (passIn false H from to service) n b
-    first-room = (omega (arith, room z .0, sum), omega (arith, room z .1, sum))
+    pub others-room-at : RoomFor true 0 others n b
+    others-room-at = (omega (arith, few-others), λ k. (omega (arith, room z .0, sum), omega (arith, room z .1, sum)))
 
-    module _ {k : ℕ} {n' : List Float} {b' : List ℕ} (v : Put 0 k (passIn false H from to service) n n' b b') where
-      pub second-room : Room k (passIn true H from to service) n' b'
-      second-room =
-          let q4 : 4 * k ≤ length n = omega (arith, room z .0, sum, v .count) in
-          let q1 : k ≤ length b = omega (arith, room z .1, sum, v .count) in
-          (omega (arith, room z .0, sum, v .count, put-length-four v q4), omega (arith, room z .1, sum, v .count, put-length-one v q1))
+    pub lines-room-at : (s : Totals) (n' : List Float) (b' : List ℕ) → s .pieces ≡ 0 + length others → length n' ≡ length n → length b' ≡ length b
+        → RoomFor true (s .pieces) (passIn true H from to service) n' b'
+    lines-room-at s n' b' c d f =
+        (omega (arith, c, few-others, pass-small H from to service path fit small), λ k. (omega (arith, room z .0, sum, c), omega (arith, room z .1, sum, c)))
 
-      pub both-written : {r : ℕ} {n'' : List Float} {b'' : List ℕ} → Put k r (passIn true H from to service) n' n'' b' b'' → Put 0 r all n n'' b b''
-      both-written w =
-          put-of
-          (put-more v w (omega (arith, room z .0, sum, v .count, w .count)) (omega (arith, room z .1, sum, v .count, w .count)))
-          (sym (all-passes H from to service))
+    pub both-written : {t s r : Totals} {n' n'' : List Float} {b' b'' : List ℕ} {f g : Bool} → t .pieces ≡ 0 → Passed true t s others f n n' b b'
+        → Passed true s r (passIn true H from to service) g n' n'' b' b'' → Put 0 (r .pieces) all n n'' b b''
+    both-written {t} {s} {r} {n'} {n''} {b'} {b''} {f} {g} e P Q =
+        let k : length (others ++ passIn true H from to service) ≡ length all = length-append others (passIn true H from to service) ∙ sym sum in
+        let X : Passed true t r (others ++ passIn true H from to service) (f && g) n n'' b b'' =
+        passed-more P Q (omega (arith, e, few-others, length-append others (passIn true H from to service), pass-small H from to service path fit small), λ h. (omega (arith, room z .0), omega (arith, room z .1))) in
+        subst (λ (i : ℕ). Put i (r .pieces) all n n'' b b'') e
+        (put-of (X .written refl) (ap (λ (y : List Piece). y ++ passIn true H from to service) (others-are H from to service) ∙ sym (all-passes H from to service)))
+
+  -- the survey's totals
+  module _ {t s r : Totals} {n n' n'' : List Float} {b b' b'' : List ℕ} {w : Bool} (e : t .pieces ≡ 0) (f : t .finite ≡ true) (P : Passed w t s others others-ok n n' b b')
+      (Q : Passed w s r (passIn true H from to service) (passFinite true H from to service) n' n'' b' b'') where
+    pub survey-count : r .pieces ≡ length all
+    survey-count = omega (arith, P .count, Q .count, e, sum)
+
+    pub survey-finite : r .finite ≡ allOf (allOf finitePoint) (runsIn H from to service)
+    survey-finite =
+        Q .tested ∙ ap (λ (x : Bool). x && passFinite true H from to service) (P .tested ∙ ap (λ (x : Bool). x && others-ok) f ∙ others-finite H from to service)
+        ∙ all-finite H from to service
+
+    pub survey-few : r .pieces ≤ 2 ^ 45
+    survey-few = omega (arith, survey-count, sum, few-others, pass-small H from to service path fit small)

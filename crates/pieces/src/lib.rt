@@ -1,23 +1,25 @@
 // Pieces of all runs: counted, then written.
+pub mod lines;
+pub mod request;
+
 ghost use mathlib.Core.Path.{_≡_};
-ghost use mathlib.Core.Bool.{_&&_, not};
+ghost use mathlib.Core.Bool.{_&&_};
 ghost use mathlib.Core.List.{[], _∷_, map};
 ghost use Prim.Native.Nat.{_+_, _*_, _<_, _≤_, _^_};
 ghost use lib.ListN.{length};
-ghost use Rattle.order.specs.Order.{pick};
-ghost use Rattle.network.specs.Words.{kindOf, kinds};
+ghost use Rattle.network.specs.Words.{kinds};
 ghost use Rattle.network.specs.Views.{pointsIn};
 ghost use Rattle.runs.specs.Finite.{allOf, finitePoint};
-ghost use Rattle.runs.specs.Run.{apart, pieces, isLine, allPieces};
+ghost use Rattle.runs.specs.Run.{apart, pieces, allPieces};
 ghost use Rattle.runs.specs.Lists.{flat, pieceNumbers, after};
 ghost use Rattle.runs.specs.Views.{held, lead, Stands};
-ghost use Rattle.pieces.specs.Pieces.{piece, branchOf, Counted, runsIn, passIn, FitAll, Room, RoomIf, Put};
+ghost use Rattle.pieces.specs.Pieces.{piece, branchOf, Counted, runsIn, othersIn, othersFinite, FitAll, RoomIf, Put};
+ghost use Rattle.pieces.specs.Requests.{RoomFor, Passed};
+use crate::lines::lead_lines;
 use float::small::abs;
 use float::small::is_finite;
 use geometry::Point;
 use geometry::point_at;
-use network::words::Kind;
-use network::words::kind_of;
 use runs::run::run;
 
 // How many pieces all runs have, and whether all their points are finite.
@@ -27,7 +29,7 @@ pub struct Totals {
 }
 
 // Whether two points differ.
-pub fn apart(p: Point, q: Point) -> bool
+fn apart(p: Point, q: Point) -> bool
     ensures { λ r. ⌜ r ≡ apart p q ⌝ }
 {
     0.0 < abs(p.x - q.x) + abs(p.y - q.y)
@@ -119,6 +121,74 @@ fn put_pieces(
     k
 }
 
+// Adds the run of branch e, the first c points of path, to the totals of a pass, and writes its pieces where it is to write.
+pub(crate) fn tally(
+    write: bool,
+    t: Totals,
+    e: usize,
+    path: &[f64],
+    c: usize,
+    numbers: &mut [f64],
+    branches: &mut [u32],
+) -> Totals
+    requires { ⌜ (c < 2 ^ 32) × (e < 2 ^ 32) ⌝ }
+    requires { ⌜ RoomFor write (t .pieces) (pieces e (pointsIn c (now path))) (now numbers) (now branches) ⌝ }
+    ensures { λ r. ⌜ Passed write t r (pieces e (pointsIn c (now (path .entry)))) (allOf finitePoint (pointsIn c (now (path .entry)))) (now (numbers .entry)) (now (numbers .exit)) (now (branches .entry)) (now (branches .exit)) ⌝ }
+{
+    let finite = both(t.finite, finite_points(path, c));
+    if write {
+        let n = put_pieces(path, c, e as u32, t.pieces, numbers, branches);
+        return Totals { pieces: n, finite };
+    }
+    Totals {
+        pieces: t.pieces + count_pieces(path, c),
+        finite,
+    }
+}
+
+// Adds the runs of the branches that are no lines to the totals of a pass.
+fn pass_others(
+    write: bool,
+    t: Totals,
+    sub: &[u32],
+    from: &[i64],
+    to: &[i64],
+    service: &[u8],
+    unit: f64,
+    buses: &[u32],
+    ends: &[u32],
+    blocks: &[f64],
+    frames: &[f64],
+    path: &mut [f64],
+    numbers: &mut [f64],
+    branches: &mut [u32],
+) -> Totals
+    requires { ⌜ (length (now from) ≤ 8192) × (length (now sub) ≤ 4096) × (0 < length (now from) → 8 ≤ length (now path)) ⌝ }
+    requires { ⌜ RoomFor write (t .pieces) (othersIn (now sub) unit (now buses) (now ends) (now blocks) (now frames) (now from) (now to) (now service)) (now numbers) (now branches) ⌝ }
+    ensures { λ r. ⌜ Passed write t r (othersIn (now (sub .entry)) unit (now (buses .entry)) (now (ends .entry)) (now (blocks .entry)) (now (frames .entry)) (now (from .entry)) (now (to .entry)) (now (service .entry))) (othersFinite (now (sub .entry)) unit (now (buses .entry)) (now (ends .entry)) (now (blocks .entry)) (now (frames .entry)) (now (from .entry)) (now (to .entry)) (now (service .entry))) (now (numbers .entry)) (now (numbers .exit)) (now (branches .entry)) (now (branches .exit)) ⌝ }
+{
+    let mut done = t;
+    let mut e = 0;
+    while e < from.len() {
+        let c = run(
+            sub,
+            from,
+            to,
+            service,
+            unit,
+            buses,
+            ends,
+            blocks,
+            frames,
+            e,
+            path,
+        );
+        done = tally(write, done, e, path, c, numbers, branches);
+        e += 1;
+    }
+    done
+}
+
 // Counts the pieces of all runs, and tests their points. `index` enters boxes by cell, or none.
 pub fn survey(
     sub: &[u32],
@@ -147,113 +217,51 @@ pub fn survey(
     ensures { λ r. ⌜ r .finite ≡ allOf (allOf finitePoint) (runsIn (held (now (sub .entry)) unit (now (buses .entry)) (now (ends .entry)) (now (blocks .entry)) (now (places .entry)) (now (frames .entry)) (lead led cell gap k (now (stations .entry)) (now (ways .entry)))) (now (from .entry)) (now (to .entry)) (now (service .entry))) ⌝ }
     ensures { λ r. ⌜ r .pieces ≤ 2 ^ 45 ⌝ }
 {
-    let mut n: usize = 0;
-    let mut finite = true;
-    let mut e = 0;
-    while e < from.len() {
-        let c = run(
-            sub,
-            from,
-            to,
-            service,
-            unit,
-            buses,
-            ends,
-            blocks,
-            places,
-            frames,
-            led,
-            cell,
-            gap,
-            k,
-            stations,
-            index,
-            ways,
-            e,
-            path,
-        );
-        n += count_pieces(path, c);
-        finite = both(finite, finite_points(path, c));
-        e += 1;
-    }
-    Totals { pieces: n, finite }
-}
-
-// Whether branch e is written in the pass of lines, or in that of the others.
-fn chosen(lines: bool, sub: &[u32], from: &[i64], to: &[i64], service: &[u8], e: usize) -> bool
-    ensures { λ r. ⌜ r ≡ pick (isLine (kindOf (now (sub .entry)) (now (from .entry)) (now (to .entry)) (now (service .entry)) e)) lines (not lines) ⌝ }
-{
-    match kind_of(sub, from, to, service, e) {
-        Kind::Undrawn => !lines,
-        Kind::Open(_, _) => !lines,
-        Kind::Internal(_, _) => !lines,
-        Kind::Line(_, _) => lines,
-    }
-}
-
-// Writes the pieces of the lines, or of the other branches, from piece number `at` on, and answers the number after the last.
-fn write_pass(
-    lines: bool,
-    at: usize,
-    sub: &[u32],
-    from: &[i64],
-    to: &[i64],
-    service: &[u8],
-    unit: f64,
-    buses: &[u32],
-    ends: &[u32],
-    blocks: &[f64],
-    places: &[f64],
-    frames: &[f64],
-    led: bool,
-    cell: f64,
-    gap: f64,
-    k: usize,
-    stations: &[u32],
-    index: &[u32],
-    ways: &[f64],
-    path: &mut [f64],
-    numbers: &mut [f64],
-    branches: &mut [u32],
-) -> usize
-    requires { ⌜ (length (now from) ≤ 8192) × (length (now sub) ≤ 4096) ⌝ }
-    requires { ⌜ FitAll (now from) (now ends) (now path) ⌝ }
-    requires { ⌜ Stands cell k (now stations) (now frames) (now index) ⌝ }
-    requires { ⌜ Room at (passIn lines (held (now sub) unit (now buses) (now ends) (now blocks) (now places) (now frames) (lead led cell gap k (now stations) (now ways))) (now from) (now to) (now service)) (now numbers) (now branches) ⌝ }
-    ensures { λ r. ⌜ Put at r (passIn lines (held (now (sub .entry)) unit (now (buses .entry)) (now (ends .entry)) (now (blocks .entry)) (now (places .entry)) (now (frames .entry)) (lead led cell gap k (now (stations .entry)) (now (ways .entry)))) (now (from .entry)) (now (to .entry)) (now (service .entry))) (now (numbers .entry)) (now (numbers .exit)) (now (branches .entry)) (now (branches .exit)) ⌝ }
-{
-    let mut n = at;
-    let mut e = 0;
-    while e < from.len() {
-        if chosen(lines, sub, from, to, service, e) {
-            let c = run(
-                sub,
-                from,
-                to,
-                service,
-                unit,
-                buses,
-                ends,
-                blocks,
-                places,
-                frames,
-                led,
-                cell,
-                gap,
-                k,
-                stations,
-                index,
-                ways,
-                e,
-                path,
-            );
-            n = put_pieces(path, c, e as u32, n, numbers, branches);
-            e += 1;
-        } else {
-            e += 1;
-        }
-    }
-    n
+    let mut numbers = [0.0; 1];
+    let mut branches: [u32; 1] = [0; 1];
+    let t = pass_others(
+        false,
+        Totals {
+            pieces: 0,
+            finite: true,
+        },
+        sub,
+        from,
+        to,
+        service,
+        unit,
+        buses,
+        ends,
+        blocks,
+        frames,
+        path,
+        &mut numbers,
+        &mut branches,
+    );
+    lead_lines(
+        false,
+        t,
+        sub,
+        from,
+        to,
+        service,
+        unit,
+        buses,
+        ends,
+        blocks,
+        places,
+        frames,
+        led,
+        cell,
+        gap,
+        k,
+        stations,
+        index,
+        ways,
+        path,
+        &mut numbers,
+        &mut branches,
+    )
 }
 
 // Writes all pieces, those of lines last; nothing where the layout is refused, l its number.
@@ -290,9 +298,12 @@ pub fn write_pieces(
     if l != 0 {
         return;
     }
-    let n = write_pass(
-        false,
-        0,
+    let t = pass_others(
+        true,
+        Totals {
+            pieces: 0,
+            finite: true,
+        },
         sub,
         from,
         to,
@@ -301,22 +312,14 @@ pub fn write_pieces(
         buses,
         ends,
         blocks,
-        places,
         frames,
-        led,
-        cell,
-        gap,
-        k,
-        stations,
-        index,
-        ways,
         path,
         numbers,
         branches,
     );
-    write_pass(
+    lead_lines(
         true,
-        n,
+        t,
         sub,
         from,
         to,

@@ -9,6 +9,7 @@ use native.Mathlib.Omega.{arith}
 use lib.ListN.{length, getD, take, set, length-set, length-append}
 use lib.Seq.{take-set-le}
 use lib.Ieee.{Float}
+use Rattle.order.specs.Order.{pick}
 use Rattle.geometry.specs.declared.Point.{Point}
 use Rattle.geometry.specs.Plane.{pointAt}
 use Rattle.network.specs.Words.{Safe, stationOf, occupied}
@@ -20,7 +21,8 @@ use Rattle.detour.proofs.Shifting.{point-before, path-zero, path-more, path-con
 use Rattle.detour.proofs.Detours.{length-detour, led-short}
 use Rattle.network.specs.declared.words.Kind.{Kind}
 use Rattle.network.specs.declared.words.Kind.the-variants.{Undrawn, Open, Internal, Line}
-use Rattle.runs.specs.Views.{Lead, Held, slotOf, exitOf, openFrom, internalFrom, ledIn, lineFrom, runFrom, wayOf, waysOf, runIn, Ran}
+use Rattle.runs.specs.Run.{isLine}
+use Rattle.runs.specs.Views.{Lead, Held, openFrom, internalFrom, ledIn, ledRun, lineFrom, runFrom, wayOf, waysOf, runIn, otherRun, Ran}
 
 -- a list of at least four points whose first k are ps
 pub record Front (k : ℕ) (l : List Float) (ps : List Point) : Type 0 where
@@ -144,35 +146,38 @@ module _ (led : Bool) (cell gap : Float) (k : ℕ) (stations : List ℕ) (frames
 
 -- ---- the run of a branch, by what it is
 
-module _ (H : Held) (e : ℕ) (K : Kind) where
-  pub none-run : K ≡ Undrawn → [] ≡ runIn H e K
-  unfolding runIn runFrom
-  none-run h = subst (λ (z : Kind). [] ≡ runIn H e z) (sym h) refl
+module _ (sub : List ℕ) (unit : Float) (buses ends : List ℕ) (blocks frames : List Float) (e : ℕ) (K : Kind) where
+  pub none-run : K ≡ Undrawn → [] ≡ otherRun sub unit buses ends blocks frames e K
+  unfolding otherRun
+  none-run h = subst (λ (z : Kind). [] ≡ otherRun sub unit buses ends blocks frames e z) (sym h) refl
 
-  pub open-run : (a b : ℕ) → K ≡ Open a b → openFrom (H .sub) (H .unit) (H .buses) (H .blocks) (H .frames) a b ≡ runIn H e K
-  unfolding runIn runFrom
-  open-run a b h = subst (λ (z : Kind). openFrom (H .sub) (H .unit) (H .buses) (H .blocks) (H .frames) a b ≡ runIn H e z) (sym h) refl
+  pub no-line-run : (a b : ℕ) → K ≡ Line a b → [] ≡ otherRun sub unit buses ends blocks frames e K
+  unfolding otherRun
+  no-line-run a b h = subst (λ (z : Kind). [] ≡ otherRun sub unit buses ends blocks frames e z) (sym h) refl
 
-  pub internal-run : (a b ra rb : ℕ) → K ≡ Internal a b → ra ≡ getD (H .ends) (4 * e) 0 → rb ≡ getD (H .ends) (4 * e + 1) 0
-      → internalFrom (H .sub) (H .unit) (H .buses) (H .blocks) (H .frames) a b ra rb ≡ runIn H e K
-  unfolding runIn runFrom
+  pub open-run : (a b : ℕ) → K ≡ Open a b → openFrom sub unit buses blocks frames a b ≡ otherRun sub unit buses ends blocks frames e K
+  unfolding otherRun
+  open-run a b h = subst (λ (z : Kind). openFrom sub unit buses blocks frames a b ≡ otherRun sub unit buses ends blocks frames e z) (sym h) refl
+
+  pub internal-run : (a b ra rb : ℕ) → K ≡ Internal a b → ra ≡ getD ends (4 * e) 0 → rb ≡ getD ends (4 * e + 1) 0
+      → internalFrom sub unit buses blocks frames a b ra rb ≡ otherRun sub unit buses ends blocks frames e K
+  unfolding otherRun
   internal-run a b ra rb h p q =
-      subst (λ (z : Kind). internalFrom (H .sub) (H .unit) (H .buses) (H .blocks) (H .frames) a b ra rb ≡ runIn H e z) (sym h) (cc (p, q))
+      subst (λ (z : Kind). internalFrom sub unit buses blocks frames a b ra rb ≡ otherRun sub unit buses ends blocks frames e z) (sym h) (cc (p, q))
 
-  pub line-run : (a b ra rb w n : ℕ) → K ≡ Line a b → ra ≡ getD (H .ends) (4 * e) 0 → rb ≡ getD (H .ends) (4 * e + 1) 0 → w ≡ wayOf (H .ends) e → n ≡ waysOf (H .ends) e
-      → lineFrom (H .sub) (H .unit) (H .buses) (H .blocks) (H .places) (H .frames) (H .lead) a b ra rb w n ≡ runIn H e K
-  unfolding runIn runFrom
-  line-run a b ra rb w n h p q x y =
-      subst (λ (z : Kind). lineFrom (H .sub) (H .unit) (H .buses) (H .blocks) (H .places) (H .frames) (H .lead) a b ra rb w n ≡ runIn H e z) (sym h) (cc (p, q, x, y))
+-- the runs of all branches that are no lines
+pub other-is : (H : Held) (e : ℕ) (K : Kind) → otherRun (H .sub) (H .unit) (H .buses) (H .ends) (H .blocks) (H .frames) e K ≡ pick (isLine K) [] (runIn H e K)
+unfolding otherRun isLine runIn runFrom
+other-is H e Undrawn = refl
+other-is H e (Open a b) = refl
+other-is H e (Internal a b) = refl
+other-is H e (Line a b) = refl
 
--- a line's points, by its slots, exits and the path between them
-pub line-is : (sub : List ℕ) (unit : Float) (buses : List ℕ) (blocks places frames : List Float) (L : Lead) (a b ra rb w n s t : ℕ) (p q x y : Point) (before after : List Point)
-    → s ≡ stationOf sub a → t ≡ stationOf sub b → p ≡ slotOf unit buses blocks frames s a ra → q ≡ slotOf unit buses blocks frames t b rb
-    → x ≡ exitOf places frames s t (p .y) → y ≡ exitOf places frames t s (q .y) → before ≡ x ∷ (pathIn w n (L .ways) ++ (y ∷ []))
-    → after ≡ ledIn (L .led) (L .cell) (L .gap) (L .k) (L .stations) frames s t before
-    → p ∷ (after ++ (q ∷ [])) ≡ lineFrom sub unit buses blocks places frames L a b ra rb w n
-unfolding lineFrom
-line-is sub unit buses blocks places frames L a b ra rb w n s t p q x y before after c d e f g h i j = cc
+-- a line's points, by the path between its slots
+pub line-is : (L : Lead) (frames : List Float) (s t w n : ℕ) (p q x y : Point) (before after : List Point) → before ≡ x ∷ (pathIn w n (L .ways) ++ (y ∷ []))
+    → after ≡ ledIn (L .led) (L .cell) (L .gap) (L .k) (L .stations) frames s t before → p ∷ (after ++ (q ∷ [])) ≡ ledRun L frames s t p q x y w n
+unfolding ledRun
+line-is L frames s t w n p q x y before after g h = cc
 
 -- a run has at most eight points more than waypoints
 led-few : (led : Bool) (cell gap : Float) (k : ℕ) (stations : List ℕ) (frames : List Float) (s t : ℕ) (path : List Point)
@@ -185,28 +190,19 @@ ends-few : (w n : ℕ) (ways : List Float) (p q x y : Point) (after : List Point
     → length (p ∷ (after ++ (q ∷ []))) ≤ n + 8
 ends-few w n ways p q x y after h = omega (arith, length-append (pathIn w n ways) (y ∷ []), length-path w n ways, length-append after (q ∷ []))
 
-line-few : (sub : List ℕ) (unit : Float) (buses : List ℕ) (blocks places frames : List Float) (L : Lead) (a b ra rb w n : ℕ)
-    → length (lineFrom sub unit buses blocks places frames L a b ra rb w n) ≤ n + 8
-unfolding lineFrom
-line-few sub unit buses blocks places frames L a b ra rb w n =
-    let s : ℕ = stationOf sub a in
-    let t : ℕ = stationOf sub b in
-    let p : Point = slotOf unit buses blocks frames s a ra in
-    let q : Point = slotOf unit buses blocks frames t b rb in
-    let x : Point = exitOf places frames s t (p .y) in
-    let y : Point = exitOf places frames t s (q .y) in
+pub line-few : (L : Lead) (frames : List Float) (s t w n : ℕ) (p q x y : Point) → length (ledRun L frames s t p q x y w n) ≤ n + 8
+unfolding ledRun
+line-few L frames s t w n p q x y =
     let path : List Point = x ∷ (pathIn w n (L .ways) ++ (y ∷ [])) in
     ends-few w n (L .ways) p q x y (ledIn (L .led) (L .cell) (L .gap) (L .k) (L .stations) frames s t path)
     (led-few (L .led) (L .cell) (L .gap) (L .k) (L .stations) frames s t path)
 
 pub run-few : (H : Held) (e : ℕ) (K : Kind) → length (runIn H e K) ≤ waysOf (H .ends) e + 8
-unfolding runIn runFrom openFrom internalFrom
+unfolding runIn runFrom openFrom internalFrom lineFrom
 run-few H e Undrawn = omega arith
 run-few H e (Open a b) = omega arith
 run-few H e (Internal a b) = omega arith
-run-few H e (Line a b) =
-    line-few (H .sub) (H .unit) (H .buses) (H .blocks) (H .places) (H .frames) (H .lead) a b (getD (H .ends) (4 * e) 0) (getD (H .ends) (4 * e + 1) 0)
-    (wayOf (H .ends) e) (waysOf (H .ends) e)
+run-few H e (Line a b) = line-few (H .lead) (H .frames) (stationOf (H .sub) a) (stationOf (H .sub) b) (wayOf (H .ends) e) (waysOf (H .ends) e) _ _ _ _
 
 -- a branch's buses fit 32 bits
 abbrev pub Small : Kind → Type 0

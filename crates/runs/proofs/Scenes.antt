@@ -29,7 +29,7 @@ use Rattle.bars.specs.declared.Bar.{Bar}
 use Rattle.bars.specs.Bar.{blockAt, barAt, rowEnd}
 use Rattle.bars.specs.Exit.{exit}
 use Rattle.runs.specs.Run.{Scene, slot, between, linePoints, runFor, runOf, runs}
-use Rattle.runs.specs.Views.{Held, blockOf, barOf, slotOf, exitOf, openFrom, internalFrom, ledIn, lineFrom, runFrom, wayOf, waysOf, runIn, sceneWith, sceneIn}
+use Rattle.runs.specs.Views.{Held, blockOf, barOf, slotOf, exitOf, openFrom, internalFrom, ledIn, ledRun, lineFrom, runFrom, wayOf, waysOf, runIn, sceneWith, sceneIn}
 
 -- a line's path from exit to exit begins and ends as it did, and is at most four points longer
 pub between-leads : (S : Scene) (s t : ℕ) (p : Point) (rest : List Point) → Leads 4 p rest (between S s t (p ∷ rest))
@@ -79,7 +79,7 @@ module _ (H : Held) (below : (i : ℕ) → i < length (H .sub) → stationOf (H 
           )
 
       run-held : (ra rb w n : ℕ) (K : Kind) → Safe (H .sub) K → runFrom H ra rb w n K ≡ runFor (sceneWith H ks fs bs) ra rb (pathIn w n (H .lead .ways)) K
-      unfolding Safe runFrom runFor slot openFrom internalFrom lineFrom
+      unfolding Safe runFrom runFor slot openFrom internalFrom lineFrom ledRun
       run-held ra rb w n Undrawn h = refl
       run-held ra rb w n (Open a b) h = cc (bar-at a (h .0), bar-at b (h .1))
       run-held ra rb w n (Internal a b) h = cc (slot-held a ra (h .0), slot-held b rb (h .1))

@@ -64,7 +64,7 @@ slotOf unit buses blocks frames s i row = point (barOf unit buses blocks frames 
 unfoldable pub exitOf : List Float → List Float → ℕ → ℕ → Float → Point
 exitOf places frames s t y = point (exitX (boxAt frames s) (pointAt places s) (pointAt places t)) y
 
--- the points of a run between the buses a and b: of an open branch, of an internal one, and of a line, whose ends have the rows ra and rb
+-- the points of a run between the buses a and b: of an open branch, and of an internal one, whose ends have the rows ra and rb
 unfoldable pub openFrom : List ℕ → Float → List ℕ → List Float → List Float → ℕ → ℕ → List Point
 openFrom sub unit buses blocks frames a b =
     position (barOf unit buses blocks frames (stationOf sub a) a) ∷ position (barOf unit buses blocks frames (stationOf sub b) b) ∷ []
@@ -78,14 +78,19 @@ unfoldable pub ledIn : Bool → Float → Float → ℕ → List ℕ → List Fl
 ledIn led cell gap k stations frames s t path =
     cond led (detour (boxesIn k frames) (occupied (countsIn k stations)) cell gap s t path) path
 
--- w is its first waypoint, n how many it has
+-- the points of a line from station s to station t between its slots p and q, whose exits are x and y, by n waypoints, the first of them w
+unfoldable pub ledRun : Lead → List Float → ℕ → ℕ → Point → Point → Point → Point → ℕ → ℕ → List Point
+ledRun L frames s t p q x y w n =
+    p ∷ (ledIn (L .led) (L .cell) (L .gap) (L .k) (L .stations) frames s t (x ∷ (pathIn w n (L .ways) ++ (y ∷ []))) ++ (q ∷ []))
+
+-- that of a line between the buses a and b, whose ends have the rows ra and rb
 unfoldable pub lineFrom : List ℕ → Float → List ℕ → List Float → List Float → List Float → Lead → ℕ → ℕ → ℕ → ℕ → ℕ → ℕ → List Point
 lineFrom sub unit buses blocks places frames L a b ra rb w n =
     let s = stationOf sub a in
     let t = stationOf sub b in
     let p = slotOf unit buses blocks frames s a ra in
     let q = slotOf unit buses blocks frames t b rb in
-    p ∷ (ledIn (L .led) (L .cell) (L .gap) (L .k) (L .stations) frames s t (exitOf places frames s t (p .y) ∷ (pathIn w n (L .ways) ++ (exitOf places frames t s (q .y) ∷ []))) ++ (q ∷ []))
+    ledRun L frames s t p q (exitOf places frames s t (p .y)) (exitOf places frames t s (q .y)) w n
 
 unfoldable pub runFrom : Held → ℕ → ℕ → ℕ → ℕ → Kind → List Point
 runFrom H ra rb w n Undrawn = []
@@ -102,6 +107,13 @@ waysOf ends e = getD ends (4 * e + 3) 0
 
 unfoldable pub runIn : Held → ℕ → Kind → List Point
 runIn H e kind = runFrom H (getD (H .ends) (4 * e) 0) (getD (H .ends) (4 * e + 1) 0) (wayOf (H .ends) e) (waysOf (H .ends) e) kind
+
+-- the run of branch e where it is no line, else no points
+unfoldable pub otherRun : List ℕ → Float → List ℕ → List ℕ → List Float → List Float → ℕ → Kind → List Point
+otherRun sub unit buses ends blocks frames e Undrawn = []
+otherRun sub unit buses ends blocks frames e (Open a b) = openFrom sub unit buses blocks frames a b
+otherRun sub unit buses ends blocks frames e (Internal a b) = internalFrom sub unit buses blocks frames a b (getD ends (4 * e) 0) (getD ends (4 * e + 1) 0)
+otherRun sub unit buses ends blocks frames e (Line a b) = []
 
 -- a list has room for a run by n waypoints, with two slots, two exits and four points more; for that of branch e, whose waypoints have small numbers
 abbrev pub Roomy : ℕ → List Float → Type 0

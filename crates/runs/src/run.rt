@@ -7,7 +7,7 @@ ghost use Rattle.geometry.specs.Plane.{boxAt};
 ghost use Rattle.network.specs.Words.{kindOf};
 ghost use Rattle.network.proofs.Views.{putPoint};
 ghost use Rattle.detour.specs.Paths.{pathIn, Led};
-ghost use Rattle.runs.specs.Views.{held, lead, blockOf, barOf, slotOf, exitOf, openFrom, internalFrom, ledIn, lineFrom, runIn, Roomy, Fits, Stands, Ran};
+ghost use Rattle.runs.specs.Views.{lead, blockOf, barOf, slotOf, exitOf, openFrom, internalFrom, ledIn, ledRun, otherRun, Roomy, Stands, Ran};
 use bars::Bar;
 use bars::bar_for;
 use bars::exit_x;
@@ -59,7 +59,7 @@ pub fn bar_of(unit: f64, buses: &[u32], blocks: &[f64], frames: &[f64], s: usize
 }
 
 // The row end of bus i of station s.
-fn slot_of(
+pub fn slot_of(
     unit: f64,
     buses: &[u32],
     blocks: &[f64],
@@ -205,45 +205,31 @@ fn put_ends(path: &mut [f64], p: Point, q: Point, r: usize) -> usize
     r + 2
 }
 
-// The run of a line between the buses a and b, whose ends have the rows ra and rb, by n waypoints, the first of them w.
-fn run_line(
-    sub: &[u32],
-    unit: f64,
-    buses: &[u32],
-    blocks: &[f64],
-    places: &[f64],
-    frames: &[f64],
+// The run of a line from station s to station t between the slots p and q, whose exits are x and y, by n waypoints, the first of them w. `index` enters boxes by cell, or none.
+pub fn run_line(
     led: bool,
     cell: f64,
     gap: f64,
     k: usize,
     stations: &[u32],
+    frames: &[f64],
     index: &[u32],
     ways: &[f64],
-    a: usize,
-    b: usize,
-    ra: u32,
-    rb: u32,
+    s: usize,
+    t: usize,
+    p: Point,
+    q: Point,
+    x: Point,
+    y: Point,
     w: usize,
     n: usize,
     path: &mut [f64],
 ) -> usize
-    requires { ⌜ (a < 2 ^ 32) × (b < 2 ^ 32) × (Roomy n (now path)) × (w + n < 2 ^ 31) ⌝ }
+    requires { ⌜ (Roomy n (now path)) × (w + n < 2 ^ 31) ⌝ }
     requires { ⌜ Stands cell k (now stations) (now frames) (now index) ⌝ }
-    ensures { λ r. ⌜ Ran r (now (path .exit)) (lineFrom (now (sub .entry)) unit (now (buses .entry)) (now (blocks .entry)) (now (places .entry)) (now (frames .entry)) (lead led cell gap k (now (stations .entry)) (now (ways .entry))) a b ra rb w n) ⌝ }
+    ensures { λ r. ⌜ Ran r (now (path .exit)) (ledRun (lead led cell gap k (now (stations .entry)) (now (ways .entry))) (now (frames .entry)) s t p q x y w n) ⌝ }
 {
-    let s = station_of(sub, a);
-    let t = station_of(sub, b);
-    let p = slot_of(unit, buses, blocks, frames, s, a, ra);
-    let q = slot_of(unit, buses, blocks, frames, t, b, rb);
-    put_middle(
-        path,
-        exit_of(places, frames, s, t, p.y),
-        ways,
-        w,
-        n,
-        exit_of(places, frames, t, s, q.y),
-    );
+    put_middle(path, x, ways, w, n, y);
     let r = lead(
         led,
         cell,
@@ -260,7 +246,7 @@ fn run_line(
     put_ends(path, p, q, r)
 }
 
-// Puts the run of branch e at the front of path, and answers how many points it has. `index` enters boxes by cell, or none.
+// Puts the run of branch e at the front of path, and answers how many points it has: none where the branch is a line.
 pub fn run(
     sub: &[u32],
     from: &[i64],
@@ -270,52 +256,19 @@ pub fn run(
     buses: &[u32],
     ends: &[u32],
     blocks: &[f64],
-    places: &[f64],
     frames: &[f64],
-    led: bool,
-    cell: f64,
-    gap: f64,
-    k: usize,
-    stations: &[u32],
-    index: &[u32],
-    ways: &[f64],
     e: usize,
     path: &mut [f64],
 ) -> usize
-    requires { ⌜ (e < 2 ^ 32) × (length (now sub) ≤ 2 ^ 32) ⌝ }
-    requires { ⌜ Fits (now ends) (now path) e ⌝ }
-    requires { ⌜ Stands cell k (now stations) (now frames) (now index) ⌝ }
-    ensures { λ r. ⌜ Ran r (now (path .exit)) (runIn (held (now (sub .entry)) unit (now (buses .entry)) (now (ends .entry)) (now (blocks .entry)) (now (places .entry)) (now (frames .entry)) (lead led cell gap k (now (stations .entry)) (now (ways .entry)))) e (kindOf (now (sub .entry)) (now (from .entry)) (now (to .entry)) (now (service .entry)) e)) ⌝ }
+    requires { ⌜ (e < 2 ^ 32) × (length (now sub) ≤ 2 ^ 32) × (8 ≤ length (now path)) ⌝ }
+    ensures { λ r. ⌜ Ran r (now (path .exit)) (otherRun (now (sub .entry)) unit (now (buses .entry)) (now (ends .entry)) (now (blocks .entry)) (now (frames .entry)) e (kindOf (now (sub .entry)) (now (from .entry)) (now (to .entry)) (now (service .entry)) e)) ⌝ }
 {
     let ra = at(ends, 4 * e);
     let rb = at(ends, 4 * e + 1);
-    let w = at(ends, 4 * e + 2) as usize;
-    let n = at(ends, 4 * e + 3) as usize;
     match kind_of(sub, from, to, service, e) {
         Kind::Undrawn => 0,
         Kind::Open(a, b) => run_open(sub, unit, buses, blocks, frames, a, b, path),
         Kind::Internal(a, b) => run_internal(sub, unit, buses, blocks, frames, a, b, ra, rb, path),
-        Kind::Line(a, b) => run_line(
-            sub,
-            unit,
-            buses,
-            blocks,
-            places,
-            frames,
-            led,
-            cell,
-            gap,
-            k,
-            stations,
-            index,
-            ways,
-            a,
-            b,
-            ra,
-            rb,
-            w,
-            n,
-            path,
-        ),
+        Kind::Line(_, _) => 0,
     }
 }

@@ -1,74 +1,49 @@
 -- `pieces::survey` meets its contract. Assumes nothing.
-use Prim.Native.Nat.{_-_}
+use mathlib.Core.Path.{refl}
 use native.Mathlib.Omega.{arith}
-use lib.ListN.{length}
 use Rattle.runs.specs.Views.{held, lead}
-use Rattle.pieces.proofs.Passes.{Surveying, survey-none, survey-more, survey-count, survey-test, run-short, count-short}
+use Rattle.pieces.proofs.Passes.{unwritten, others-below, lines-below, survey-count, survey-finite, survey-few}
 use borrow.Author.Needs.{needs}
 use Rattle.pieces.proofs.survey.Statement.{statement}
 use Rattle.pieces.proofs.survey.Tie as tie
 use Rattle.pieces.proofs.survey.Reads as reads
 use Rattle.pieces.proofs.survey.Lts as lts
-use Rattle.pieces.proofs.both.Reads as both-reads
-use Rattle.pieces.proofs.count_pieces.Reads as count-pieces-reads
-use Rattle.pieces.proofs.finite_points.Reads as finite-points-reads
-use Rattle.runs.proofs.run.run.Reads as run-reads
+use Rattle.pieces.proofs.pass_others.Reads as pass-others-reads
+use Rattle.pieces.proofs.lines.lead_lines.Reads as lead-lines-reads
 
-abbrev Inv-loop : tie.InvT-loop
-Inv-loop sub from to service unit buses ends blocks places frames led cell gap k stations index ways path₀ n₀ finite₀ e₀ path n finite e =
-    Surveying (held sub unit buses ends blocks places frames (lead led cell gap k stations ways)) from to service n finite e path₀ path
+slice-aggregate-pass-others : tie.Need-slice-aggregate-pass-others
+slice-aggregate-pass-others c = search needs
 
-abbrev μ-loop : tie.MeasureT-loop
-μ-loop sub from to service unit buses ends blocks places frames led cell gap k stations index ways path₀ n₀ finite₀ e₀ path n finite e =
-    length from - e
+slice-aggregate-pass-others-2 : tie.Need-slice-aggregate-pass-others-2
+slice-aggregate-pass-others-2 c = search needs
 
-loop-holds : tie.Need-loop-holds Inv-loop μ-loop
-loop-holds c = survey-none _ _ _ _ _
+pass-others-requires : tie.Need-pass-others-requires
+pass-others-requires c κs = ((c .before .before .before .before .before .before .before .before .before .before .before .before .before .before .pre .0 .0, c .before .before .before .before .before .before .before .before .before .before .before .before .before .before .pre .0 .1, λ h. omega (arith, c .before .before .before .before .before .before .before .before .before .before .before .before .before .before .pre .1 .0 0 h .0)), (others-below (held (c .before .before .before .before .before .before .before .before .before .before .before .before .before .before .args .sub .now) (c .before .before .before .before .before .before .before .before .before .before .before .before .before .before .args .unit) (c .before .before .before .before .before .before .before .before .before .before .before .before .before .before .args .buses .now) (c .before .before .before .before .before .before .before .before .before .before .before .before .before .before .args .ends .now) (c .before .before .before .before .before .before .before .before .before .before .before .before .before .before .args .blocks .now) (c .before .before .before .before .before .before .before .before .before .before .before .before .before .before .args .places .now) (c .before .before .before .before .before .before .before .before .before .before .before .before .before .before .args .frames .now) (lead (c .before .before .before .before .before .before .before .before .before .before .before .before .before .before .args .led) (c .before .before .before .before .before .before .before .before .before .before .before .before .before .before .args .cell) (c .before .before .before .before .before .before .before .before .before .before .before .before .before .before .args .gap) (c .before .before .before .before .before .before .before .before .before .before .before .before .before .before .args .k) (c .before .before .before .before .before .before .before .before .before .before .before .before .before .before .args .stations .now) (c .before .before .before .before .before .before .before .before .before .before .before .before .before .before .args .ways .now))) (c .before .before .before .before .before .before .before .before .before .before .before .before .before .before .args .from .now) (c .before .before .before .before .before .before .before .before .before .before .before .before .before .before .args .to .now) (c .before .before .before .before .before .before .before .before .before .before .before .before .before .before .args .service .now) (c .before .before .before .before .before .before .before .before .before .before .before .before .before .before .args .path .now) (c .before .before .before .before .before .before .before .before .before .before .before .before .before .before .pre .1 .0) (c .before .before .before .before .before .before .before .before .before .before .before .before .before .before .pre .0 .0), λ k. unwritten k))
 
-run-requires : tie.Need-run-requires Inv-loop μ-loop
-run-requires c κs = ((omega (arith, c .before .loop-test .taken, c .before .before .before .before .before .before .before .before .before .before .before .before .before .before .pre .0 .0), omega (arith, c .before .before .before .before .before .before .before .before .before .before .before .before .before .before .pre .0 .1)), ((omega (arith, (c .before .before .before .before .before .before .before .before .before .before .before .before .before .before .pre .1 .0 _ (c .before .loop-test .taken)) .0, c .before .before .loop .inv .sized), (c .before .before .before .before .before .before .before .before .before .before .before .before .before .before .pre .1 .0 _ (c .before .loop-test .taken)) .1), c .before .before .before .before .before .before .before .before .before .before .before .before .before .before .pre .1 .1))
+slice-aggregate-lead-lines : tie.Need-slice-aggregate-lead-lines
+slice-aggregate-lead-lines c = search needs
 
-count-pieces-requires : tie.Need-count-pieces-requires Inv-loop μ-loop
-count-pieces-requires c κs = run-short _ _ _ _ _ _ _ (c .before .before .before .run .ensures) (omega (arith, (c .before .before .before .before .before .before .before .before .before .before .before .before .before .before .before .before .before .before .pre .1 .0 _ (c .before .before .before .before .before .loop-test .taken)) .1))
+slice-aggregate-lead-lines-2 : tie.Need-slice-aggregate-lead-lines-2
+slice-aggregate-lead-lines-2 c = search needs
 
-add-n : tie.Need-add-n Inv-loop μ-loop
-add-n c = omega (arith, c .before .before .before .before .before .before .before .loop .inv .few, c .before .before .before .before .before .before .before .loop .inv .within, c .before .before .before .before .before .before .before .before .before .before .before .before .before .before .before .before .before .before .before .pre .0 .0, count-short _ _ _ _ _ _ _ (c .before .before .before .before .run .ensures) _ (omega (arith, (c .before .before .before .before .before .before .before .before .before .before .before .before .before .before .before .before .before .before .before .pre .1 .0 _ (c .before .before .before .before .before .before .loop-test .taken)) .1)) (c .count-pieces .ensures))
+lead-lines-requires : tie.Need-lead-lines-requires
+lead-lines-requires c κs = (c .before .before .before .before .before .before .before .before .before .before .before .before .before .before .before .before .before .before .before .before .before .before .pre .0, ((λ e h. let z = c .before .before .before .before .before .before .before .before .before .before .before .before .before .before .before .before .before .before .before .before .before .before .pre .1 .0 e h in (omega (arith, z .0, c .before .before .before .before .before .before .before .pass-others .kept .1 .1 .1 .1 .1 .1 .1 .1 .1 .1 .1 .0), z .1)), (c .before .before .before .before .before .before .before .before .before .before .before .before .before .before .before .before .before .before .before .before .before .before .pre .1 .1, (lines-below (held (c .before .before .before .before .before .before .before .before .before .before .before .before .before .before .before .before .before .before .before .before .before .before .args .sub .now) (c .before .before .before .before .before .before .before .before .before .before .before .before .before .before .before .before .before .before .before .before .before .before .args .unit) (c .before .before .before .before .before .before .before .before .before .before .before .before .before .before .before .before .before .before .before .before .before .before .args .buses .now) (c .before .before .before .before .before .before .before .before .before .before .before .before .before .before .before .before .before .before .before .before .before .before .args .ends .now) (c .before .before .before .before .before .before .before .before .before .before .before .before .before .before .before .before .before .before .before .before .before .before .args .blocks .now) (c .before .before .before .before .before .before .before .before .before .before .before .before .before .before .before .before .before .before .before .before .before .before .args .places .now) (c .before .before .before .before .before .before .before .before .before .before .before .before .before .before .before .before .before .before .before .before .before .before .args .frames .now) (lead (c .before .before .before .before .before .before .before .before .before .before .before .before .before .before .before .before .before .before .before .before .before .before .args .led) (c .before .before .before .before .before .before .before .before .before .before .before .before .before .before .before .before .before .before .before .before .before .before .args .cell) (c .before .before .before .before .before .before .before .before .before .before .before .before .before .before .before .before .before .before .before .before .before .before .args .gap) (c .before .before .before .before .before .before .before .before .before .before .before .before .before .before .before .before .before .before .before .before .before .before .args .k) (c .before .before .before .before .before .before .before .before .before .before .before .before .before .before .before .before .before .before .before .before .before .before .args .stations .now) (c .before .before .before .before .before .before .before .before .before .before .before .before .before .before .before .before .before .before .before .before .before .before .args .ways .now))) (c .before .before .before .before .before .before .before .before .before .before .before .before .before .before .before .before .before .before .before .before .before .before .args .from .now) (c .before .before .before .before .before .before .before .before .before .before .before .before .before .before .before .before .before .before .before .before .before .before .args .to .now) (c .before .before .before .before .before .before .before .before .before .before .before .before .before .before .before .before .before .before .before .before .before .before .args .service .now) (c .before .before .before .before .before .before .before .before .before .before .before .before .before .before .before .before .before .before .before .before .before .before .args .path .now) (c .before .before .before .before .before .before .before .before .before .before .before .before .before .before .before .before .before .before .before .before .before .before .pre .1 .0) (c .before .before .before .before .before .before .before .before .before .before .before .before .before .before .before .before .before .before .before .before .before .before .pre .0 .0) (c .before .before .before .before .before .before .before .pass-others .result) (c .before .before .before .before .before .before .before .pass-others .ensures .count), λ k. unwritten k))))
 
-finite-points-requires : tie.Need-finite-points-requires Inv-loop μ-loop
-finite-points-requires c κs = run-short _ _ _ _ _ _ _ (c .before .before .before .before .before .run .ensures) (omega (arith, (c .before .before .before .before .before .before .before .before .before .before .before .before .before .before .before .before .before .before .before .before .pre .1 .0 _ (c .before .before .before .before .before .before .before .loop-test .taken)) .1))
+same-length : tie.Need-same-length
+same-length c = search needs
 
-both-requires : tie.Need-both-requires Inv-loop μ-loop
-both-requires c κs = search needs
-
-add-e : tie.Need-add-e Inv-loop μ-loop
-add-e c = omega (arith, c .before .before .before .before .before .before .before .before .before .loop-test .taken, c .before .before .before .before .before .before .before .before .before .before .before .before .before .before .before .before .before .before .before .before .before .before .pre .0 .0)
-
-loop-less : tie.Need-loop-less Inv-loop μ-loop
-loop-less c = search needs
-
-loop-again : tie.Need-loop-again Inv-loop μ-loop
-loop-again c = survey-more _ _ _ _ _ _ _ (c .before .before .before .before .before .before .before .run .ensures) _ _ _ _ _ _ _ (c .before .before .before .before .before .before .before .before .before .loop-test .taken) (omega (arith, (c .before .before .before .before .before .before .before .before .before .before .before .before .before .before .before .before .before .before .before .before .before .before .pre .1 .0 _ (c .before .before .before .before .before .before .before .before .before .loop-test .taken)) .1)) (c .before .before .before .before .before .before .before .before .before .before .loop .inv) (c .before .before .before .before .before .before .before .run .kept .1 .1 .1 .1 .1 .1 .1 .1 .1 .1 .1 .1 .1 .1 .1 .1 .1 .1 .0) (c .before .before .before .count-pieces .ensures) (c .before .finite-points .ensures) (c .both .ensures)
-
-same-length : tie.Need-same-length Inv-loop μ-loop
-same-length c = c .before .loop .inv .sized
-
-returns : tie.Need-returns Inv-loop μ-loop
-returns c = (survey-count _ _ _ _ _ _ _ _ _ (c .before .loop .inv) (c .loop-test .left), (survey-test _ _ _ _ _ _ _ _ _ (c .before .loop .inv) (c .loop-test .left), omega (arith, c .before .loop .inv .few, c .before .loop .inv .within, c .before .before .before .before .before .before .before .before .before .before .before .before .before .pre .0 .0)))
+returns : tie.Need-returns
+returns c = let H = (held (c .before .before .before .before .before .before .before .before .before .before .before .before .before .before .before .before .before .before .before .before .before .before .before .before .before .before .before .args .sub .now) (c .before .before .before .before .before .before .before .before .before .before .before .before .before .before .before .before .before .before .before .before .before .before .before .before .before .before .before .args .unit) (c .before .before .before .before .before .before .before .before .before .before .before .before .before .before .before .before .before .before .before .before .before .before .before .before .before .before .before .args .buses .now) (c .before .before .before .before .before .before .before .before .before .before .before .before .before .before .before .before .before .before .before .before .before .before .before .before .before .before .before .args .ends .now) (c .before .before .before .before .before .before .before .before .before .before .before .before .before .before .before .before .before .before .before .before .before .before .before .before .before .before .before .args .blocks .now) (c .before .before .before .before .before .before .before .before .before .before .before .before .before .before .before .before .before .before .before .before .before .before .before .before .before .before .before .args .places .now) (c .before .before .before .before .before .before .before .before .before .before .before .before .before .before .before .before .before .before .before .before .before .before .before .before .before .before .before .args .frames .now) (lead (c .before .before .before .before .before .before .before .before .before .before .before .before .before .before .before .before .before .before .before .before .before .before .before .before .before .before .before .args .led) (c .before .before .before .before .before .before .before .before .before .before .before .before .before .before .before .before .before .before .before .before .before .before .before .before .before .before .before .args .cell) (c .before .before .before .before .before .before .before .before .before .before .before .before .before .before .before .before .before .before .before .before .before .before .before .before .before .before .before .args .gap) (c .before .before .before .before .before .before .before .before .before .before .before .before .before .before .before .before .before .before .before .before .before .before .before .before .before .before .before .args .k) (c .before .before .before .before .before .before .before .before .before .before .before .before .before .before .before .before .before .before .before .before .before .before .before .before .before .before .before .args .stations .now) (c .before .before .before .before .before .before .before .before .before .before .before .before .before .before .before .before .before .before .before .before .before .before .before .before .before .before .before .args .ways .now))) in let P = c .before .before .before .before .before .before .before .before .before .before .before .before .pass-others .ensures in let Q = c .before .before .before .before .lead-lines .ensures in (survey-count H (c .before .before .before .before .before .before .before .before .before .before .before .before .before .before .before .before .before .before .before .before .before .before .before .before .before .before .before .args .from .now) (c .before .before .before .before .before .before .before .before .before .before .before .before .before .before .before .before .before .before .before .before .before .before .before .before .before .before .before .args .to .now) (c .before .before .before .before .before .before .before .before .before .before .before .before .before .before .before .before .before .before .before .before .before .before .before .before .before .before .before .args .service .now) (c .before .before .before .before .before .before .before .before .before .before .before .before .before .before .before .before .before .before .before .before .before .before .before .before .before .before .before .args .path .now) (c .before .before .before .before .before .before .before .before .before .before .before .before .before .before .before .before .before .before .before .before .before .before .before .before .before .before .before .pre .1 .0) (c .before .before .before .before .before .before .before .before .before .before .before .before .before .before .before .before .before .before .before .before .before .before .before .before .before .before .before .pre .0 .0) refl refl P Q, (survey-finite H (c .before .before .before .before .before .before .before .before .before .before .before .before .before .before .before .before .before .before .before .before .before .before .before .before .before .before .before .args .from .now) (c .before .before .before .before .before .before .before .before .before .before .before .before .before .before .before .before .before .before .before .before .before .before .before .before .before .before .before .args .to .now) (c .before .before .before .before .before .before .before .before .before .before .before .before .before .before .before .before .before .before .before .before .before .before .before .before .before .before .before .args .service .now) (c .before .before .before .before .before .before .before .before .before .before .before .before .before .before .before .before .before .before .before .before .before .before .before .before .before .before .before .args .path .now) (c .before .before .before .before .before .before .before .before .before .before .before .before .before .before .before .before .before .before .before .before .before .before .before .before .before .before .before .pre .1 .0) (c .before .before .before .before .before .before .before .before .before .before .before .before .before .before .before .before .before .before .before .before .before .before .before .before .before .before .before .pre .0 .0) refl refl P Q, survey-few H (c .before .before .before .before .before .before .before .before .before .before .before .before .before .before .before .before .before .before .before .before .before .before .before .before .before .before .before .args .from .now) (c .before .before .before .before .before .before .before .before .before .before .before .before .before .before .before .before .before .before .before .before .before .before .before .before .before .before .before .args .to .now) (c .before .before .before .before .before .before .before .before .before .before .before .before .before .before .before .before .before .before .before .before .before .before .before .before .before .before .before .args .service .now) (c .before .before .before .before .before .before .before .before .before .before .before .before .before .before .before .before .before .before .before .before .before .before .before .before .before .before .before .args .path .now) (c .before .before .before .before .before .before .before .before .before .before .before .before .before .before .before .before .before .before .before .before .before .before .before .before .before .before .before .pre .1 .0) (c .before .before .before .before .before .before .before .before .before .before .before .before .before .before .before .before .before .before .before .before .before .before .before .before .before .before .before .pre .0 .0) refl refl P Q))
 
 pub survey-spec : {M : Type 1} → statement M
 survey-spec =
     tie.close
     (tie.spec
-    Inv-loop
-    μ-loop
-    loop-holds
-    run-requires
-    count-pieces-requires
-    add-n
-    finite-points-requires
-    both-requires
-    add-e
-    loop-less
-    loop-again
+    slice-aggregate-pass-others
+    slice-aggregate-pass-others-2
+    pass-others-requires
+    slice-aggregate-lead-lines
+    slice-aggregate-lead-lines-2
+    lead-lines-requires
     same-length
     returns)

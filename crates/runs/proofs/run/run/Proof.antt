@@ -1,7 +1,6 @@
 -- `runs::run::run` meets its contract. Assumes nothing.
-use mathlib.Core.Path.{_≡_, refl, sym, _∙_, subst}
-use native.Mathlib.Omega.{arith}
-use Rattle.runs.proofs.Paths.{ran, ran-of, front-none, none-run, open-run, internal-run, line-run, Small, small}
+use mathlib.Core.Path.{refl, sym, _∙_, subst}
+use Rattle.runs.proofs.Paths.{ran, ran-of, front-none, none-run, no-line-run, open-run, internal-run, Small, small}
 use borrow.Author.Needs.{needs}
 use Rattle.runs.proofs.run.run.Statement.{statement}
 use Rattle.runs.proofs.run.run.Tie as tie
@@ -10,7 +9,6 @@ use Rattle.runs.proofs.run.run.Lts as lts
 use Rattle.network.proofs.words.kind_of.Reads as kind-of-reads
 use Rattle.order.proofs.at.Reads as at-reads
 use Rattle.runs.proofs.run.run_internal.Reads as run-internal-reads
-use Rattle.runs.proofs.run.run_line.Reads as run-line-reads
 use Rattle.runs.proofs.run.run_open.Reads as run-open-reads
 
 mul-at : tie.Need-mul-at
@@ -28,30 +26,6 @@ add-at c = search needs
 at-requires-2 : tie.Need-at-requires-2
 at-requires-2 c κs = search needs
 
-mul-at-3 : tie.Need-mul-at-3
-mul-at-3 c = search needs
-
-add-at-2 : tie.Need-add-at-2
-add-at-2 c = search needs
-
-at-requires-3 : tie.Need-at-requires-3
-at-requires-3 c κs = search needs
-
-cast-w : tie.Need-cast-w
-cast-w c = search needs
-
-mul-at-4 : tie.Need-mul-at-4
-mul-at-4 c = search needs
-
-add-at-3 : tie.Need-add-at-3
-add-at-3 c = search needs
-
-at-requires-4 : tie.Need-at-requires-4
-at-requires-4 c κs = search needs
-
-cast-n : tie.Need-cast-n
-cast-n c = search needs
-
 kind-of-requires : tie.Need-kind-of-requires
 kind-of-requires c κs = search needs
 
@@ -62,40 +36,34 @@ enum-known-a : tie.Need-enum-known-a
 enum-known-a c = search needs
 
 run-open-requires : tie.Need-run-open-requires
-run-open-requires c κs = let z = subst Small (c .before .before .a .given .1) (small _ _ (c .before .before .before .before .before .before .before .before .before .before .before .before .before .before .before .before .before .before .before .before .pre .0 .1) (c .before .before .before .before .kind-of .ensures .1)) in (z .0, z .1, omega (arith, c .before .before .before .before .before .before .before .before .before .before .before .before .before .before .before .before .before .before .before .before .pre .1 .0 .0))
+run-open-requires c κs = let z = subst Small (c .before .before .a .given .1) (small _ _ (c .before .before .before .before .before .before .before .before .before .before .before .before .before .before .pre .1) (c .before .before .before .before .kind-of .ensures .1)) in (z .0, z .1, c .before .before .before .before .before .before .before .before .before .before .before .before .before .before .pre .2)
 
 enum-known-a-2 : tie.Need-enum-known-a-2
 enum-known-a-2 c = search needs
 
 run-internal-requires : tie.Need-run-internal-requires
-run-internal-requires c κs = let z = subst Small (c .before .before .a2 .given .1) (small _ _ (c .before .before .before .before .before .before .before .before .before .before .before .before .before .before .before .before .before .before .before .before .pre .0 .1) (c .before .before .before .before .kind-of .ensures .1)) in (z .0, z .1, omega (arith, c .before .before .before .before .before .before .before .before .before .before .before .before .before .before .before .before .before .before .before .before .pre .1 .0 .0))
+run-internal-requires c κs = let z = subst Small (c .before .before .a2 .given .1) (small _ _ (c .before .before .before .before .before .before .before .before .before .before .before .before .before .before .pre .1) (c .before .before .before .before .kind-of .ensures .1)) in (z .0, z .1, c .before .before .before .before .before .before .before .before .before .before .before .before .before .before .pre .2)
 
-enum-known-a-3 : tie.Need-enum-known-a-3
-enum-known-a-3 c = search needs
-
-run-line-requires : tie.Need-run-line-requires
-run-line-requires c κs = let z = subst Small (c .before .before .a3 .given .1) (small _ _ (c .before .before .before .before .before .before .before .before .before .before .before .before .before .before .before .before .before .before .before .before .pre .0 .1) (c .before .before .before .before .kind-of .ensures .1)) in ((z .0, z .1, omega (arith, c .before .before .before .before .before .before .before .before .before .before .before .before .before .before .before .before .before .before .before .before .pre .1 .0 .0, c .before .before .before .before .before .at4 .ensures), omega (arith, c .before .before .before .before .before .before .before .before .before .before .before .before .before .before .before .before .before .before .before .before .pre .1 .0 .1, c .before .before .before .before .before .before .at3 .ensures, c .before .before .before .before .before .at4 .ensures)), c .before .before .before .before .before .before .before .before .before .before .before .before .before .before .before .before .before .before .before .before .pre .1 .1)
+enum-told-2 : tie.Need-enum-told-2
+enum-told-2 c = search needs
 
 returns : tie.Need-returns
-returns c = ran-of (ran 0 _ _ refl (front-none _ (omega (arith, c .before .before .before .before .before .before .before .before .before .before .before .before .before .before .before .before .before .before .pre .1 .0 .0)))) (none-run _ _ _ (sym (c .before .before .kind-of .ensures .0) ∙ c .enum-told .given .1))
+returns c = ran-of (ran 0 _ _ refl (front-none _ (c .before .before .before .before .before .before .before .before .before .before .before .before .pre .2))) (none-run _ _ _ _ _ _ _ _ (sym (c .before .before .kind-of .ensures .0) ∙ c .enum-told .given .1))
 
 same-length : tie.Need-same-length
 same-length c = search needs
 
 returns-2 : tie.Need-returns-2
-returns-2 c = ran-of (c .before .before .run-open .ensures) (open-run _ _ _ _ _ (sym (c .before .before .before .before .before .before .before .kind-of .ensures .0) ∙ c .before .before .before .before .before .a .given .1))
+returns-2 c = ran-of (c .before .before .run-open .ensures) (open-run _ _ _ _ _ _ _ _ _ _ (sym (c .before .before .before .before .before .before .before .kind-of .ensures .0) ∙ c .before .before .before .before .before .a .given .1))
 
 same-length-2 : tie.Need-same-length-2
 same-length-2 c = search needs
 
 returns-3 : tie.Need-returns-3
-returns-3 c = ran-of (c .before .before .run-internal .ensures) (internal-run _ _ _ _ _ _ _ (sym (c .before .before .before .before .before .before .before .kind-of .ensures .0) ∙ c .before .before .before .before .before .a2 .given .1) (c .before .before .before .before .before .before .before .before .before .before .before .at .ensures) (c .before .before .before .before .before .before .before .before .before .before .at2 .ensures))
-
-same-length-3 : tie.Need-same-length-3
-same-length-3 c = search needs
+returns-3 c = ran-of (c .before .before .run-internal .ensures) (internal-run _ _ _ _ _ _ _ _ _ _ _ _ (sym (c .before .before .before .before .before .before .before .kind-of .ensures .0) ∙ c .before .before .before .before .before .a2 .given .1) (c .before .before .before .before .before .before .before .before .before .at .ensures) (c .before .before .before .before .before .before .before .before .at2 .ensures))
 
 returns-4 : tie.Need-returns-4
-returns-4 c = ran-of (c .before .before .run-line .ensures) (line-run _ _ _ _ _ _ _ _ _ (sym (c .before .before .before .before .before .before .before .kind-of .ensures .0) ∙ c .before .before .before .before .before .a3 .given .1) (c .before .before .before .before .before .before .before .before .before .before .before .at .ensures) (c .before .before .before .before .before .before .before .before .before .before .at2 .ensures) (c .before .before .before .before .before .before .before .before .before .at3 .ensures) (c .before .before .before .before .before .before .before .before .at4 .ensures))
+returns-4 c = ran-of (ran 0 _ _ refl (front-none _ (c .before .before .before .before .before .before .before .before .before .before .before .before .pre .2))) (no-line-run _ _ _ _ _ _ _ _ _ _ (sym (c .before .before .kind-of .ensures .0) ∙ c .enum-told2 .given .1))
 
 pub run-spec : {M : Type 1} → statement M
 run-spec =
@@ -106,26 +74,16 @@ run-spec =
     mul-at-2
     add-at
     at-requires-2
-    mul-at-3
-    add-at-2
-    at-requires-3
-    cast-w
-    mul-at-4
-    add-at-3
-    at-requires-4
-    cast-n
     kind-of-requires
     enum-told
     enum-known-a
     run-open-requires
     enum-known-a-2
     run-internal-requires
-    enum-known-a-3
-    run-line-requires
+    enum-told-2
     returns
     same-length
     returns-2
     same-length-2
     returns-3
-    same-length-3
     returns-4)
