@@ -9,7 +9,7 @@ use native.Mathlib.Omega.{arith}
 use native.Mathlib.Nat.{not-suc-le-zero, le-of-suc-le-suc}
 use lib.Dec.{T, leb, eqb}
 use lib.IntN.{negsuc}
-use borrow.Author.Tests.{eqb-false}
+use borrow.Author.Tests.{eqb-false, ne-eqb}
 use lib.ListN.{length, getD, take}
 use lib.Seq.{getD-take, length-take-le}
 use lib.Ieee.{Float, binary64, lt, le, ofBits}
@@ -138,6 +138,24 @@ drawn-joins sub l (Bus a) (Bus b) = go (eqb a b) refl
     go true e = inl (unfold kindBy in refl)
     go false e = inr (a, b, refl, refl, eqb-false a b e)
 
+-- the three kinds that are drawn, from a to b
+abbrev FromTo : Kind → ℕ → ℕ → Type 0
+FromTo c a b = (c ≡ Open a b) ⊎ ((c ≡ Internal a b) ⊎ (c ≡ Line a b))
+
+joins-drawn : (sub : List ℕ) (l : Bool) (s t : Known) (a b : ℕ) → s ≡ Bus a → t ≡ Bus b → a ≢ b → FromTo (kindFor sub l s t) a b
+joins-drawn sub l s t a b p q d =
+    subst (λ (u : Known). FromTo (kindFor sub l u t) a b) (sym p) (subst (λ (v : Known). FromTo (kindFor sub l (Bus a) v) a b) (sym q) both-known)
+  where
+    by-kind : (c one : Bool) → FromTo (kindBy false c one a b) a b
+    by-kind false one = inl (unfold kindBy in refl)
+    by-kind true true = inr (inl (unfold kindBy in refl))
+    by-kind true false = inr (inr (unfold kindBy in refl))
+
+    both-known : FromTo (kindFor sub l (Bus a) (Bus b)) a b
+    both-known =
+        unfold kindFor in
+        subst (λ (u : Bool). FromTo (kindBy u l (eqb (stationOf sub a) (stationOf sub b)) a b) a b) (sym (ne-eqb a b d)) (by-kind l (eqb (stationOf sub a) (stationOf sub b)))
+
 joining-named : (P : ℕ → Type 0) (e : ℕ) (points : List Point) → P e → Every (λ (q : Piece). P (q .branch)) (joining e points)
 unfolding joining Every
 joining-named P e [] h = tt
@@ -218,6 +236,8 @@ module _ (o : Options) (N : Network) (L : Lists) (W : Work) (X : Crossings) (p :
   runs-of =
       record {
         listed = listed;
+        every = λ e a b h f t d.
+            unfold kindOf in joins-drawn (N .station) (live (N .service) e) (known (length (N .station)) (getD (N .from) e (negsuc 0))) (known (length (N .station)) (getD (N .to) e (negsuc 0))) a b f t d;
         ends = λ e h. ends-by e (pointsOf o N e) (kind N e) (kind-safe (N .station) (N .from) (N .to) (N .service) e) (run-ends o N e h);
         unbroken = λ e h. unbroken e (pointsOf o N e) (good e h);
         absent = λ e h n. absent e (pointsOf o N e) (good e h) n;

@@ -170,6 +170,9 @@ otherRun o N e = pick (isLine (kind N e)) [] (runOf o N e)
 pub record Runs (o : Options) (N : Network) (L : Lists) (p : Plot) : Type 0 where
   -- The piece list is one run for each open or internal branch by branch number, then one for each line by branch number, and nothing else.
   pub listed : piecesIn L (p .pieces) ≡ joined (otherRun o N) (length (N .from)) ++ joined (lineRun o N) (length (N .from))
+  -- Every branch between two known, different buses has a run: it is an open branch, an internal one or a line, from its from bus a to its to bus b.
+  pub every : (e a b : ℕ) → e < length (N .from) → known (length (N .station)) (getD (N .from) e (negsuc 0)) ≡ Bus a
+      → known (length (N .station)) (getD (N .to) e (negsuc 0)) ≡ Bus b → a ≢ b → (kind N e ≡ Open a b) ⊎ ((kind N e ≡ Internal a b) ⊎ (kind N e ≡ Line a b))
   -- A run starts at its from bus and ends at its to bus; a branch with an unknown end or from a bus to itself has no point and no piece.
   pub ends : (e : ℕ) → e < length (N .from) → Ends N p L e (pointsOf o N e) (kind N e)
   -- Its pieces lead from its first point to its last, each from where the one before ended.
