@@ -17,7 +17,7 @@ pub struct Bar {
 }
 
 // The x of a bar in the column of this number.
-pub fn bar_x(b: Box, f: f64, column: u32) -> f64
+fn bar_x(b: Box, f: f64, column: u32) -> f64
     ensures { λ r. ⌜ r ≡ barX b f column ⌝ }
 {
     b.left + (Options::PAD + (column as f64) * Options::BAR_GAP) * f

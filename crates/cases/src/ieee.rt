@@ -76,7 +76,7 @@ fn pair_agrees(name: u64, p: u64, q: u64, r: u64) -> bool {
     false
 }
 
-pub fn agrees(name: u64, count: usize, w: &[u64; 32]) -> bool {
+pub(crate) fn agrees(name: u64, count: usize, w: &[u64; 32]) -> bool {
     if name == FLO {
         return count == 2 && floors(float::bits::of_bits(w[0]), w[1]);
     }

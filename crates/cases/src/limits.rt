@@ -82,7 +82,7 @@ fn refusal_of_one(search: i32, x: f64) -> u32 {
 }
 
 // Whether limit number i is where the scope has it.
-pub fn agrees(i: usize) -> bool {
+pub(crate) fn agrees(i: usize) -> bool {
     match i {
         0 => refusal_of_count(4096) == 0,
         1 => refusal_of_count(4097) == 1,

@@ -19,7 +19,7 @@ const WIT: u64 = 0x77_6974;
 
 const MED: u64 = 0x6D_6564;
 
-pub fn has(name: u64) -> bool {
+pub(crate) fn has(name: u64) -> bool {
     name == CHN || name == SPA || name == NEA || name == WIT || name == MED
 }
 
@@ -153,7 +153,7 @@ fn median_agrees(w: &[u64]) -> bool {
     }
 }
 
-pub fn agrees(name: u64, w: &[u64]) -> bool {
+pub(crate) fn agrees(name: u64, w: &[u64]) -> bool {
     if name == CHN {
         return channel_agrees(w);
     }

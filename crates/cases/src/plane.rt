@@ -14,7 +14,7 @@ const PAR: u64 = 0x70_6172;
 
 const OVL: u64 = 0x6F_766C;
 
-pub fn has(name: u64) -> bool {
+pub(crate) fn has(name: u64) -> bool {
     name == HIT || name == CRS || name == PAR || name == OVL
 }
 
@@ -58,7 +58,7 @@ fn param_agrees(w: &[u64]) -> bool {
     }
 }
 
-pub fn agrees(name: u64, w: &[u64]) -> bool {
+pub(crate) fn agrees(name: u64, w: &[u64]) -> bool {
     if name == HIT {
         return hit_agrees(w);
     }

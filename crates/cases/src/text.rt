@@ -8,7 +8,7 @@ fn byte_at(text: &[u8], i: usize) -> u8 {
 }
 
 // The first line feed from `from` on, or the end of the text.
-pub fn line_end(text: &[u8], from: usize) -> usize
+pub(crate) fn line_end(text: &[u8], from: usize) -> usize
     requires { ⌜ from ≤ length (now text) ⌝ }
     ensures { λ r. ⌜ (from ≤ r) × (r ≤ length (now (text .entry))) ⌝ }
 {
@@ -52,7 +52,7 @@ fn word(line: &[u8], i: usize) -> u64 {
 }
 
 // The line's numbers, and how many there are, at most 32.
-pub fn words(line: &[u8], out: &mut [u64; 32]) -> usize {
+pub(crate) fn words(line: &[u8], out: &mut [u64; 32]) -> usize {
     let mut k = 0;
     let mut at = 4;
     while k < 32 && at < line.len() {
@@ -64,6 +64,6 @@ pub fn words(line: &[u8], out: &mut [u64; 32]) -> usize {
 }
 
 // The line's first three bytes as one number.
-pub fn name(line: &[u8]) -> u64 {
+pub(crate) fn name(line: &[u8]) -> u64 {
     byte_at(line, 0) as u64 * 0x1_0000 + byte_at(line, 1) as u64 * 0x100 + byte_at(line, 2) as u64
 }

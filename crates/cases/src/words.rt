@@ -1,16 +1,16 @@
 // Numbers of a test, taken from its words.
 
 // The word at i, 0 past the end.
-pub fn word_at(w: &[u64], i: usize) -> u64 {
+pub(crate) fn word_at(w: &[u64], i: usize) -> u64 {
     if i < w.len() { w[i] } else { 0 }
 }
 
-pub fn float_at(w: &[u64], i: usize) -> f64 {
+pub(crate) fn float_at(w: &[u64], i: usize) -> f64 {
     float::bits::of_bits(word_at(w, i))
 }
 
 // Whether x has the pattern `bits`, or both are NaNs.
-pub fn same(x: f64, bits: u64) -> bool {
+pub(crate) fn same(x: f64, bits: u64) -> bool {
     if x != x {
         return 0x7FF0_0000_0000_0000 < bits % 0x8000_0000_0000_0000;
     }
@@ -18,7 +18,7 @@ pub fn same(x: f64, bits: u64) -> bool {
 }
 
 // The floats from word `from` on, as many as the list holds.
-pub fn fill(w: &[u64], from: usize, list: &mut [f64]) {
+pub(crate) fn fill(w: &[u64], from: usize, list: &mut [f64]) {
     let mut i = 0;
     while i < list.len() {
         list[i] = float_at(w, std::num::wrapping_add_usize(from, i));
@@ -27,7 +27,7 @@ pub fn fill(w: &[u64], from: usize, list: &mut [f64]) {
 }
 
 // Whether the first n floats of a list have the patterns from word `from` on.
-pub fn all_same(list: &[f64], n: usize, w: &[u64], from: usize) -> bool {
+pub(crate) fn all_same(list: &[f64], n: usize, w: &[u64], from: usize) -> bool {
     let mut i = 0;
     while i < n {
         if i < list.len() {

@@ -20,7 +20,7 @@ fn search_in(o: Options) -> usize
     search_of(o.search)
 }
 
-pub fn lay(
+pub(crate) fn lay(
     o: Options,
     sub: &[u32],
     kv: &[u64],

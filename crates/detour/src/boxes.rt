@@ -23,7 +23,7 @@ fn box_index<'a>(boxes: &'a [f64], cell: f64) -> BoxIndex<'a>
 }
 
 // The first box of the index along the piece p q, a's and b's left out.
-pub fn first_hit<'a>(
+pub(crate) fn first_hit<'a>(
     index: BoxIndex<'a>,
     k: usize,
     stations: &[u32],

@@ -4,7 +4,6 @@ ghost use Prim.Native.Nat.{_+_, _*_, _^_, _≤_, _<_};
 ghost use lib.ListN.{length};
 ghost use lib.IntN.{natAbs};
 ghost use Rattle.float.specs.Ops.{f0};
-ghost use Rattle.geometry.specs.Plane.{boxAt};
 ghost use Rattle.network.specs.Words.{occupied};
 ghost use Rattle.network.specs.Views.{countsIn, boxesIn};
 ghost use Rattle.placement.specs.Place.{boxIn};
@@ -16,22 +15,10 @@ use crate::signed::sign_of;
 use float::small::abs;
 use float::small::max;
 use geometry::Box;
-
-// The s-th box, for four numbers a box.
-fn box_at(frames: &[f64], s: usize) -> Box
-    requires { ⌜ 4 * s + 3 < length (now frames) ⌝ }
-    ensures { λ r. ⌜ r ≡ boxAt (now (frames .entry)) s ⌝ }
-{
-    Box {
-        left: frames[4 * s],
-        top: frames[4 * s + 1],
-        right: frames[4 * s + 2],
-        bottom: frames[4 * s + 3],
-    }
-}
+use geometry::box_at;
 
 // Station s's box, zeros past the last.
-pub fn box_in(k: usize, frames: &[f64], s: usize) -> Box
+pub(crate) fn box_in(k: usize, frames: &[f64], s: usize) -> Box
     requires { ⌜ 4 * k ≤ length (now frames) ⌝ }
     ensures { λ r. ⌜ r ≡ boxIn (boxesIn k (now (frames .entry))) s ⌝ }
 {
@@ -80,7 +67,7 @@ pub fn cell_size(k: usize, stations: &[u32], frames: &[f64]) -> f64
 }
 
 // The number of the cell that a coordinate lies in.
-pub fn cell_of(cell: f64, x: f64) -> i64
+pub(crate) fn cell_of(cell: f64, x: f64) -> i64
     ensures { λ r. ⌜ r ≡ cellOf cell x ⌝ }
 {
     cell_number(x / cell)
@@ -97,7 +84,7 @@ fn between(cell: f64, low: f64, high: f64, n: i64) -> bool
 }
 
 // Whether a box is registered in a cell.
-pub fn covers(cell: f64, b: Box, cx: i64, cy: i64) -> bool
+pub(crate) fn covers(cell: f64, b: Box, cx: i64, cy: i64) -> bool
     ensures { λ r. ⌜ r ≡ covers cell b cx cy ⌝ }
 {
     if between(cell, b.left, b.right, cx) {
@@ -118,7 +105,7 @@ fn boundary(cell: f64, n: i64, s: i64) -> f64
 }
 
 // The part of a piece that starts at x and moves by d on an axis, at which it leaves its cell there.
-pub fn first_side(cell: f64, n: i64, x: f64, d: f64) -> f64
+pub(crate) fn first_side(cell: f64, n: i64, x: f64, d: f64) -> f64
     requires { ⌜ natAbs n < 2 ^ 61 ⌝ }
     ensures { λ r. ⌜ r ≡ firstSide cell n x d ⌝ }
 {
@@ -129,7 +116,7 @@ pub fn first_side(cell: f64, n: i64, x: f64, d: f64) -> f64
 }
 
 // The part of the piece between two sides of cells.
-pub fn side_step(cell: f64, d: f64) -> f64
+pub(crate) fn side_step(cell: f64, d: f64) -> f64
     ensures { λ r. ⌜ r ≡ sideStep cell d ⌝ }
 {
     if d == 0.0 {

@@ -85,7 +85,7 @@ fn or_else(best: Choice, other: Point) -> Point
 }
 
 // The point by which the piece p q goes round box b: the cheapest of the corners that clear it, else of all four.
-pub fn corner(p: Point, q: Point, b: Box, gap: f64) -> Point
+pub(crate) fn corner(p: Point, q: Point, b: Box, gap: f64) -> Point
     ensures { λ r. ⌜ r ≡ corner p q b gap ⌝ }
 {
     let g = gap * 0.5;

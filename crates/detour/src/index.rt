@@ -27,7 +27,7 @@ fn place_of(t: usize, c: i64) -> usize
 }
 
 // The head of a cell.
-pub fn head_of(t: usize, cx: i64, cy: i64) -> usize
+pub(crate) fn head_of(t: usize, cx: i64, cy: i64) -> usize
     requires { ⌜ (0 < t) × (t < 2 ^ 32) × (natAbs cx < 2 ^ 61) × (natAbs cy < 2 ^ 61) ⌝ }
     ensures { λ r. ⌜ r ≡ headOf t cx cy ⌝ }
 {
@@ -37,7 +37,7 @@ pub fn head_of(t: usize, cx: i64, cy: i64) -> usize
 }
 
 // Makes entry e the first of those in column x and row y.
-pub fn enter_at(t: usize, x: usize, y: usize, e: usize, index: &mut [u32])
+pub(crate) fn enter_at(t: usize, x: usize, y: usize, e: usize, index: &mut [u32])
     requires { ⌜ (t ≤ 64) × (x < t) × (y < t) × (e < 16384) × (1 + t * t + e < length (now index)) ⌝ }
     ensures { λ _. ⌜ now (index .exit) ≡ enterAt t x y e (now (index .entry)) ⌝ }
 {

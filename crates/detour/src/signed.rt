@@ -6,14 +6,14 @@ ghost use Rattle.detour.specs.Cells.{atMost, ahead, apart, cellNumber, s
 use float::floor::floor_to_i64;
 
 // Whether a is at most b.
-pub fn at_most(a: i64, b: i64) -> bool
+pub(crate) fn at_most(a: i64, b: i64) -> bool
     ensures { λ r. ⌜ r ≡ atMost a b ⌝ }
 {
     a <= b
 }
 
 // a + b.
-pub fn plus(a: i64, b: i64) -> i64
+pub(crate) fn plus(a: i64, b: i64) -> i64
     requires { ⌜ natAbs a + natAbs b < 2 ^ 62 ⌝ }
     ensures { λ r. ⌜ r ≡ ahead a b ⌝ }
 {
@@ -21,7 +21,7 @@ pub fn plus(a: i64, b: i64) -> i64
 }
 
 // How far b is from a.
-pub fn apart(a: i64, b: i64) -> u64
+pub(crate) fn apart(a: i64, b: i64) -> u64
     requires { ⌜ natAbs a + natAbs b < 2 ^ 62 ⌝ }
     ensures { λ r. ⌜ r ≡ apart a b ⌝ }
 {
@@ -30,7 +30,7 @@ pub fn apart(a: i64, b: i64) -> u64
 }
 
 // The largest whole number that is not above t, held to ±2^52.
-pub fn cell_number(t: f64) -> i64
+pub(crate) fn cell_number(t: f64) -> i64
     ensures { λ r. ⌜ r ≡ cellNumber t ⌝ }
 {
     if -4503599627370496.0 < t {
@@ -46,7 +46,7 @@ pub fn cell_number(t: f64) -> i64
 }
 
 // 1 or -1 by the sign of d, a zero's too; 0 of a NaN.
-pub fn sign_of(d: f64) -> i64
+pub(crate) fn sign_of(d: f64) -> i64
     ensures { λ r. ⌜ r ≡ signOf d ⌝ }
 {
     if d != d {
@@ -59,7 +59,7 @@ pub fn sign_of(d: f64) -> i64
 }
 
 // Whether two cells are one.
-pub fn same_cell(cx: i64, cy: i64, ex: i64, ey: i64) -> bool
+pub(crate) fn same_cell(cx: i64, cy: i64, ex: i64, ey: i64) -> bool
     ensures { λ r. ⌜ r ≡ sameCell cx cy ex ey ⌝ }
 {
     if at_most(cx, ex) {
@@ -73,7 +73,7 @@ pub fn same_cell(cx: i64, cy: i64, ex: i64, ey: i64) -> bool
 }
 
 // How many cells are walked at most from one cell to another.
-pub fn cell_count(cx: i64, cy: i64, ex: i64, ey: i64) -> u64
+pub(crate) fn cell_count(cx: i64, cy: i64, ex: i64, ey: i64) -> u64
     requires { ⌜ (natAbs cx + natAbs ex < 2 ^ 62) × (natAbs cy + natAbs ey < 2 ^ 62) ⌝ }
     ensures { λ r. ⌜ r ≡ cellCount cx cy ex ey ⌝ }
 {

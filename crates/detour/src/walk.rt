@@ -356,7 +356,7 @@ fn is_long(cell: f64, k: usize, p: Point, q: Point) -> bool {
 }
 
 // The first box along the piece p q, a's and b's left out.
-pub fn first_hit(
+pub(crate) fn first_hit(
     cell: f64,
     k: usize,
     stations: &[u32],

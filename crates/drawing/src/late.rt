@@ -2,16 +2,8 @@
 ghost use mathlib.Core.Path.{_≡_};
 ghost use mathlib.Core.Bool.{_&&_};
 ghost use Rattle.float.specs.Small.{isFinite};
-ghost use Rattle.network.specs.Refusal.{refuse};
 ghost use Rattle.drawing.specs.Answer.{lateBy};
 use float::small::is_finite;
-
-// 8 where the sizes are ill, else 0.
-pub fn size_refusal(ill: bool) -> u32
-    ensures { λ r. ⌜ r ≡ refuse ill 8 0 ⌝ }
-{
-    if ill { 8 } else { 0 }
-}
 
 // An earlier refusal, 11 or 12, 0 where none applies.
 pub fn late_of(earlier: u32, pieces: usize, numbers: usize, names: usize, finite: bool) -> u32

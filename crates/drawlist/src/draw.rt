@@ -98,7 +98,7 @@ fn list_parsed(
 }
 
 // What drawlist writes for a text.
-pub fn list_of(text: &[u8], out: &mut [u8]) -> usize
+pub(crate) fn list_of(text: &[u8], out: &mut [u8]) -> usize
     requires { ⌜ 15960 ≤ length (now out) ⌝ }
     ensures { λ r. ⌜ r ≡ length (outputOf (now (text .entry))) ⌝ }
     ensures { λ _. ⌜ now (out .exit) ≡ over (outputOf (now (text .entry))) (now (out .entry)) ⌝ }

@@ -91,7 +91,7 @@ fn with_work(
 }
 
 // Draws, and gives what a listing shows: roles, pieces and their branches.
-pub fn plot(
+pub(crate) fn plot(
     sub: &[u32],
     kv: &[u64],
     from: &[i64],

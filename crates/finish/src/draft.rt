@@ -34,21 +34,21 @@ pub struct Draft {
 }
 
 // The gap between lines, 0.8 × unit.
-pub fn gap_of(unit: f64) -> f64
+pub(crate) fn gap_of(unit: f64) -> f64
     ensures { λ r. ⌜ r ≡ gapOf unit ⌝ }
 {
     0.8 * unit
 }
 
 // Whether lines are led: there are iterations.
-pub fn is_led(o: Options) -> bool
+pub(crate) fn is_led(o: Options) -> bool
     ensures { λ r. ⌜ r ≡ ltb 0 (o .«route_iterations») ⌝ }
 {
     0 < o.route_iterations
 }
 
 // Judges the drawing that the work lists hold, which nothing refuses so far, with lists of these lengths, and enters its boxes by cell in `sorted`.
-pub fn judge(
+pub(crate) fn judge(
     o: Options,
     sub: &[u32],
     kv: &[u64],

@@ -57,7 +57,7 @@ fn closer(best: f64, x: f64, y: f64) -> f64
 }
 
 // The least positive distance from point i to another of the first n, infinity if none.
-pub fn nearest_distance(points: &[f64], n: usize, i: usize) -> f64
+fn nearest_distance(points: &[f64], n: usize, i: usize) -> f64
     requires { ⌜ (2 * n ≤ length (now points)) × (i < n) ⌝ }
     ensures { λ r. ⌜ r ≡ nearest (now (points .entry)) n i ⌝ }
 {

@@ -36,7 +36,7 @@ fn keys_by_x(points: &[f64], n: usize, keys: &mut [u64], order: &mut [u32]) -> u
 }
 
 // Those points' numbers by rising x at the front of order, and how many they are: n where every x is finite.
-pub fn by_x(
+pub(crate) fn by_x(
     points: &[f64],
     n: usize,
     keys: &mut [u64],
@@ -112,7 +112,7 @@ fn nearest_at(points: &[f64], n: usize, order: &[u32], c: usize) -> f64
 }
 
 // The nearest distances of the first n points at the front of out, each at its point's number.
-pub fn nearest_in_order(points: &[f64], n: usize, order: &[u32], out: &mut [f64])
+pub(crate) fn nearest_in_order(points: &[f64], n: usize, order: &[u32], out: &mut [f64])
     requires { ⌜ (2 * n ≤ length (now points)) × (n ≤ length (now order)) × (n ≤ length (now out)) × Swept (now points) n (now order) ⌝ }
     ensures { λ _. ⌜ now (out .exit) ≡ table (nearest (now (points .entry)) n) n ++ drop n (now (out .entry)) ⌝ }
 {
@@ -203,7 +203,13 @@ fn count_at(points: &[f64], n: usize, order: &[u32], radius: f64, c: usize) -> u
 }
 
 // These counts of the first n points at the front of counts, each at its point's number.
-pub fn counts_in_order(points: &[f64], n: usize, order: &[u32], radius: f64, counts: &mut [u32])
+pub(crate) fn counts_in_order(
+    points: &[f64],
+    n: usize,
+    order: &[u32],
+    radius: f64,
+    counts: &mut [u32],
+)
     requires { ⌜ (n < 2 ^ 32) × (2 * n ≤ length (now points)) × (n ≤ length (now order)) × (n ≤ length (now counts)) × Swept (now points) n (now order) ⌝ }
     ensures { λ _. ⌜ now (counts .exit) ≡ table (neighbours (now (points .entry)) n radius) n ++ drop n (now (counts .entry)) ⌝ }
 {

@@ -13,7 +13,7 @@ use geometry::Point;
 use geometry::point_at;
 
 // The point of bus i: (0, 0) where a coordinate is absent or not finite.
-pub fn bus_point(xy: &[f64], i: usize) -> Point
+fn bus_point(xy: &[f64], i: usize) -> Point
     requires { ⌜ i < 0x1_0000_0000 ⌝ }
     ensures { λ r. ⌜ r ≡ busPoint (now (xy .entry)) i ⌝ }
 {

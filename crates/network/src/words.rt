@@ -64,7 +64,7 @@ pub fn known_bus(n: usize, x: i64) -> Known
 }
 
 // Whether branch e is live: its service flag is absent or not 0.
-pub fn live(service: &[u8], e: usize) -> bool
+pub(crate) fn live(service: &[u8], e: usize) -> bool
     ensures { λ r. ⌜ r ≡ live (now (service .entry)) e ⌝ }
 {
     if e < service.len() {

@@ -4,26 +4,13 @@ ghost use Prim.Native.Nat.{_+_, _*_, _≤_, _<_};
 ghost use lib.Dec.{ltb};
 ghost use lib.ListN.{length};
 ghost use Rattle.float.specs.Ops.{f0};
-ghost use Rattle.geometry.specs.Plane.{boxAt};
 ghost use Rattle.network.specs.Words.{occupied};
 ghost use Rattle.network.specs.Views.{countsIn, boxesIn};
 ghost use Rattle.placement.specs.Modest.{largerSide, largest, modest, modestBox, allModest, illSized};
 use float::small::abs;
 use float::small::max;
 use geometry::Box;
-
-// The s-th box.
-fn box_at(frames: &[f64], s: usize) -> Box
-    requires { ⌜ 4 * s + 3 < length (now frames) ⌝ }
-    ensures { λ r. ⌜ r ≡ boxAt (now (frames .entry)) s ⌝ }
-{
-    Box {
-        left: frames[4 * s],
-        top: frames[4 * s + 1],
-        right: frames[4 * s + 2],
-        bottom: frames[4 * s + 3],
-    }
-}
+use geometry::box_at;
 
 // The largest of l and a box's two sides.
 fn larger_side(l: f64, b: Box) -> f64

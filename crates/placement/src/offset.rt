@@ -73,7 +73,7 @@ pub fn offset_order(search: usize, keys: &mut [u64], sorted: &mut [u32], spare: 
 }
 
 // The j-th offset.
-pub fn offset_at(keys: &[u64], sorted: &[u32], j: usize) -> Offset
+pub(crate) fn offset_at(keys: &[u64], sorted: &[u32], j: usize) -> Offset
     ensures { λ r. ⌜ r ≡ offsetAt (now (keys .entry)) (now (sorted .entry)) j ⌝ }
 {
     let c = key_at(keys, at(sorted, j));

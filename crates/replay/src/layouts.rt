@@ -241,7 +241,7 @@ fn lent_agrees(
     )
 }
 
-pub fn agrees(w: &[u64]) -> bool {
+pub(crate) fn agrees(w: &[u64]) -> bool {
     let mut sub = [0u32; 4097];
     let mut kv = [0u64; 32];
     let mut from = [0i64; 8193];

@@ -52,7 +52,7 @@ fn put_bus(w: &[u64], at: usize, i: usize, sub: &mut [u32], kv: &mut [u64], xy: 
 }
 
 // Buses from word `at` on, four words each: station, voltage, x, y. Where the next word is.
-pub fn fill_buses(
+pub(crate) fn fill_buses(
     w: &[u64],
     at: usize,
     rows: usize,
@@ -71,7 +71,7 @@ pub fn fill_buses(
 }
 
 // Branches, three words each: its two buses, and its service flag or role.
-pub fn fill_branches(
+pub(crate) fn fill_branches(
     w: &[u64],
     at: usize,
     rows: usize,
@@ -92,7 +92,7 @@ pub fn fill_branches(
 }
 
 // Half-edges, two words each: its corner and its twin.
-pub fn fill_mesh(
+pub(crate) fn fill_mesh(
     w: &[u64],
     at: usize,
     rows: usize,
@@ -111,7 +111,7 @@ pub fn fill_mesh(
 }
 
 // Floats, a word each.
-pub fn fill_floats(w: &[u64], at: usize, rows: usize, list: &mut [f64]) -> usize {
+pub(crate) fn fill_floats(w: &[u64], at: usize, rows: usize, list: &mut [f64]) -> usize {
     let mut next = at;
     let mut i = 0;
     while i < rows {
@@ -129,7 +129,7 @@ fn put_piece(w: &[u64], at: usize, j: usize, p: usize, pieces: &mut [f64], branc
 }
 
 // Pieces, five words each: its two ends and its branch.
-pub fn fill_pieces(
+pub(crate) fn fill_pieces(
     w: &[u64],
     at: usize,
     rows: usize,
@@ -158,7 +158,7 @@ fn float_same(list: &[f64], i: usize, w: &[u64], at: usize) -> bool {
 }
 
 // Whether the first n floats are those from word `at` on.
-pub fn floats_same(list: &[f64], n: usize, w: &[u64], at: usize) -> bool {
+pub(crate) fn floats_same(list: &[f64], n: usize, w: &[u64], at: usize) -> bool {
     let mut i = 0;
     while i < n {
         if !float_same(list, i, w, past(at, i)) {
@@ -178,7 +178,7 @@ fn role_same(roles: &[u8], i: usize, w: &[u64], at: usize) -> bool {
 }
 
 // Whether the first n roles are those from word `at` on.
-pub fn roles_same(roles: &[u8], n: usize, w: &[u64], at: usize) -> bool {
+pub(crate) fn roles_same(roles: &[u8], n: usize, w: &[u64], at: usize) -> bool {
     let mut i = 0;
     while i < n {
         if !role_same(roles, i, w, past(at, i)) {
@@ -202,7 +202,13 @@ fn piece_same(pieces: &[f64], branches: &[u32], j: usize, p: usize, w: &[u64], a
 }
 
 // Whether the first n pieces are those from word `at` on, five words each.
-pub fn pieces_same(pieces: &[f64], branches: &[u32], n: usize, w: &[u64], at: usize) -> bool {
+pub(crate) fn pieces_same(
+    pieces: &[f64],
+    branches: &[u32],
+    n: usize,
+    w: &[u64],
+    at: usize,
+) -> bool {
     let mut next = at;
     let mut p = 0;
     let mut j = 0;

@@ -3,7 +3,7 @@ ghost use Prim.Native.Nat.{_≤_, _<_};
 ghost use lib.ListN.{length};
 
 // The first line feed from `from` on, or the end of the text.
-pub fn line_end(text: &[u8], from: usize) -> usize
+pub(crate) fn line_end(text: &[u8], from: usize) -> usize
     requires { ⌜ from ≤ length (now text) ⌝ }
     ensures { λ r. ⌜ (from ≤ r) × (r ≤ length (now (text .entry))) ⌝ }
 {
@@ -46,7 +46,7 @@ fn put(out: &mut [u64], k: usize, v: u64) {
 }
 
 // The line's words from its third byte on, each after a space; how many there are.
-pub fn words(line: &[u8], out: &mut [u64]) -> usize {
+pub(crate) fn words(line: &[u8], out: &mut [u64]) -> usize {
     let mut k = 0;
     let mut v = 0;
     let mut i = 2;
@@ -67,6 +67,6 @@ pub fn words(line: &[u8], out: &mut [u64]) -> usize {
 }
 
 // The line's first byte, 0 where it has none.
-pub fn kind(line: &[u8]) -> u8 {
+pub(crate) fn kind(line: &[u8]) -> u8 {
     if 0 < line.len() { line[0] } else { 0 }
 }

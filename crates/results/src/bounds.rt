@@ -6,11 +6,11 @@ ghost use lib.ListN.{length};
 ghost use Rattle.network.specs.Words.{occupied};
 ghost use Rattle.network.specs.Views.{countsIn, boxesIn};
 ghost use Rattle.results.specs.Bounds.{around, aroundAll, nowhere, boundsOf};
-use crate::lists::box_in;
 use float::small::is_finite;
 use float::small::max;
 use float::small::min;
 use geometry::Box;
+use geometry::box_at;
 
 // The least box around b and another.
 fn around(b: Box, c: Box) -> Box
@@ -39,7 +39,7 @@ fn around_all(k: usize, stations: &[u32], frames: &[f64]) -> Box
     let mut s = 0;
     while s < k {
         if 0 < stations[2 * s] {
-            b = around(b, box_in(frames, s));
+            b = around(b, box_at(frames, s));
             s += 1;
         } else {
             s += 1;

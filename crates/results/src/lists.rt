@@ -5,17 +5,16 @@ ghost use Prim.Native.Nat.{_+_, _*_, _≤_, _<_};
 ghost use lib.ListN.{length, set};
 ghost use lib.Ieee.{nan};
 ghost use Rattle.order.specs.Table.{strided};
-ghost use Rattle.geometry.specs.Plane.{boxAt};
 ghost use Rattle.network.specs.Words.{kinds};
 ghost use Rattle.network.specs.Views.{boxesIn};
 ghost use Rattle.runs.specs.Run.{role};
 ghost use Rattle.runs.specs.Lists.{flat, boxNumbers, after};
-use geometry::Box;
+use geometry::box_at;
 use network::words::Kind;
 use network::words::kind_of;
 
 // Stores four numbers side by side, the i-th four of a list.
-pub fn put_numbers(list: &mut [f64], i: usize, a: f64, b: f64, c: f64, d: f64)
+pub(crate) fn put_numbers(list: &mut [f64], i: usize, a: f64, b: f64, c: f64, d: f64)
     requires { ⌜ 4 * i + 3 < length (now list) ⌝ }
     ensures { λ _. ⌜ now (list .exit) ≡ set (set (set (set (now (list .entry)) (4 * i) a) (4 * i + 1) b) (4 * i + 2) c) (4 * i + 3) d ⌝ }
 {
@@ -23,19 +22,6 @@ pub fn put_numbers(list: &mut [f64], i: usize, a: f64, b: f64, c: f64, d: f64)
     list[4 * i + 1] = b;
     list[4 * i + 2] = c;
     list[4 * i + 3] = d;
-}
-
-// The s-th box of a list that holds it.
-pub fn box_in(frames: &[f64], s: usize) -> Box
-    requires { ⌜ 4 * s + 3 < length (now frames) ⌝ }
-    ensures { λ r. ⌜ r ≡ boxAt (now (frames .entry)) s ⌝ }
-{
-    Box {
-        left: frames[4 * s],
-        top: frames[4 * s + 1],
-        right: frames[4 * s + 2],
-        bottom: frames[4 * s + 3],
-    }
 }
 
 // The stations' boxes and scales, unless the layout was refused with l.
@@ -56,7 +42,7 @@ pub fn write_stations(
     }
     let mut s = 0;
     while s < k {
-        let b = box_in(frames, s);
+        let b = box_at(frames, s);
         put_numbers(boxes, s, b.left, b.top, b.right, b.bottom);
         scales[s] = blocks[3 * s + 2];
         s += 1;

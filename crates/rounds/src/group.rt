@@ -79,7 +79,7 @@ fn group_all(
 }
 
 // Groups the first n crossings by channel: the third number of each, and behind the branches where each channel's begin; the last three are work lists.
-pub fn group(
+pub(crate) fn group(
     m: usize,
     channels: usize,
     n: usize,

@@ -272,7 +272,7 @@ fn round(
 }
 
 // So many rounds.
-pub fn rounds(
+pub(crate) fn rounds(
     sub: &[u32],
     from: &[i64],
     to: &[i64],
@@ -328,7 +328,7 @@ pub fn rounds(
 }
 
 // The points of the first n crossings.
-pub fn put_points(
+pub(crate) fn put_points(
     m: usize,
     ends: &[u32],
     centres: &[f64],

@@ -22,7 +22,7 @@ use order::at;
 use runs::run::box_at;
 
 // A half-edge of channel c.
-pub fn edge_of(m: usize, ends: &[u32], c: usize) -> usize
+pub(crate) fn edge_of(m: usize, ends: &[u32], c: usize) -> usize
     requires { ⌜ (m ≤ 2 ^ 32) × (c < 2 ^ 32) ⌝ }
     ensures { λ r. ⌜ r ≡ edgeIn m (now (ends .entry)) c ⌝ }
     ensures { λ r. ⌜ r < 2 ^ 32 ⌝ }
@@ -31,7 +31,7 @@ pub fn edge_of(m: usize, ends: &[u32], c: usize) -> usize
 }
 
 // The lower corner of half-edge h.
-pub fn low_at(corners: &[u32], h: usize) -> usize
+pub(crate) fn low_at(corners: &[u32], h: usize) -> usize
     requires { ⌜ h < 2 ^ 32 ⌝ }
     ensures { λ r. ⌜ r ≡ lowAt (now (corners .entry)) h ⌝ }
     ensures { λ r. ⌜ r < 2 ^ 32 ⌝ }
@@ -42,7 +42,7 @@ pub fn low_at(corners: &[u32], h: usize) -> usize
 }
 
 // The higher corner of half-edge h.
-pub fn high_at(corners: &[u32], h: usize) -> usize
+pub(crate) fn high_at(corners: &[u32], h: usize) -> usize
     requires { ⌜ h < 2 ^ 32 ⌝ }
     ensures { λ r. ⌜ r ≡ highAt (now (corners .entry)) h ⌝ }
     ensures { λ r. ⌜ r < 2 ^ 32 ⌝ }
@@ -53,7 +53,7 @@ pub fn high_at(corners: &[u32], h: usize) -> usize
 }
 
 // The place of the lower corner of half-edge h.
-pub fn low_of(corners: &[u32], centres: &[f64], h: usize) -> Point
+fn low_of(corners: &[u32], centres: &[f64], h: usize) -> Point
     requires { ⌜ h < 2 ^ 32 ⌝ }
     ensures { λ r. ⌜ r ≡ lowIn (now (corners .entry)) (now (centres .entry)) h ⌝ }
 {
@@ -61,7 +61,7 @@ pub fn low_of(corners: &[u32], centres: &[f64], h: usize) -> Point
 }
 
 // The place of the higher corner of half-edge h.
-pub fn high_of(corners: &[u32], centres: &[f64], h: usize) -> Point
+fn high_of(corners: &[u32], centres: &[f64], h: usize) -> Point
     requires { ⌜ h < 2 ^ 32 ⌝ }
     ensures { λ r. ⌜ r ≡ highIn (now (corners .entry)) (now (centres .entry)) h ⌝ }
 {
@@ -79,7 +79,7 @@ fn between(u: Point, w: Point, t: f64) -> Point
 }
 
 // Where crossing x is now.
-pub fn point_of(
+pub(crate) fn point_of(
     m: usize,
     ends: &[u32],
     centres: &[f64],
@@ -260,7 +260,7 @@ fn behind_of(
 }
 
 // Where crossing x wishes to be: on the line through the points before and behind it; a cleared path's crossing wishes for its place.
-pub fn wish_of(
+pub(crate) fn wish_of(
     sub: &[u32],
     from: &[i64],
     to: &[i64],

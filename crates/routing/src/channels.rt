@@ -9,7 +9,7 @@ use order::at;
 use walk::round::first_at;
 
 // Stores a number at i, nothing past the end.
-pub fn put(list: &mut [u32], i: usize, v: u32)
+fn put(list: &mut [u32], i: usize, v: u32)
     ensures { λ _. ⌜ now (list .exit) ≡ set (now (list .entry)) i v ⌝ }
 {
     if i < list.len() {
@@ -61,7 +61,7 @@ fn make_channel(corners: &[u32], around: &[u32], m: usize, h: usize, k: usize, e
 }
 
 // The number of half-edge h's channel, of k channels; a new one is made with number k.
-pub fn channel_for(
+pub(crate) fn channel_for(
     corners: &[u32],
     around: &[u32],
     m: usize,
@@ -84,7 +84,7 @@ pub fn channel_for(
 }
 
 // How many channels there are when channel c has been crossed, k before.
-pub fn count_with(k: usize, c: usize) -> usize
+pub(crate) fn count_with(k: usize, c: usize) -> usize
     requires { ⌜ k < 0xffff_ffff ⌝ }
     ensures { λ r. ⌜ r ≡ countWith k c ⌝ }
     ensures { λ r. ⌜ r ≤ k + 1 ⌝ }

@@ -43,7 +43,7 @@ pub fn occupied_corners(k: usize, stations: &mut [u32], places: &[f64], path: &m
 }
 
 // Where station s stands among the c occupied ones, by halving; c where it isn't one.
-pub fn corner_of(c: usize, stations: &[u32], s: usize) -> usize
+pub(crate) fn corner_of(c: usize, stations: &[u32], s: usize) -> usize
     requires { ⌜ (c ≤ 4096) × Rising (orderIn c (now stations)) ⌝ }
     ensures { λ r. ⌜ r ≡ placeIn s (orderIn c (now (stations .entry))) ⌝ }
     ensures { λ r. ⌜ r ≤ c ⌝ }

@@ -93,7 +93,7 @@ fn store_crossing(
 }
 
 // Stores the crossings of branch e with the first n half-edges of a trail, from number x on; how many channels there are then, k before.
-pub fn store_trail(
+pub(crate) fn store_trail(
     corners: &[u32],
     points: &[f64],
     around: &[u32],

@@ -43,7 +43,7 @@ fn count_line(
 }
 
 // The crossings of m branches, whose ways are the last two of four numbers each.
-pub fn count_all(
+pub(crate) fn count_all(
     corners: &[u32],
     twins: &[u32],
     points: &[f64],
@@ -143,7 +143,7 @@ fn store_branch(
 }
 
 // Stores the crossings and paths of m branches, whose ways are the last two of four numbers each, and then their paths.
-pub fn store_all(
+pub(crate) fn store_all(
     corners: &[u32],
     twins: &[u32],
     points: &[f64],
@@ -189,7 +189,7 @@ pub fn store_all(
 }
 
 // Unmarks n half-edges behind m branches.
-pub fn clear_marks(m: usize, n: usize, ends: &mut [u32])
+pub(crate) fn clear_marks(m: usize, n: usize, ends: &mut [u32])
     requires { ⌜ (m ≤ 8192) × (n ≤ 24576) × (4 * (m + n) + 4 ≤ length (now ends)) ⌝ }
     ensures { λ _. ⌜ take (4 * m) (now (ends .exit)) ≡ take (4 * m) (now (ends .entry)) ⌝ }
     ensures { λ _. ⌜ ((h : ℕ) → h < n → getD (now (ends .exit)) (4 * (m + h) + 1) 0 ≡ 0) ⌝ }

@@ -51,7 +51,7 @@ fn way_of(
 }
 
 // Writes each branch's way as the last two of its four numbers.
-pub fn write_ways(
+pub(crate) fn write_ways(
     sub: &[u32],
     from: &[i64],
     to: &[i64],

@@ -11,7 +11,7 @@ use order::number;
 use order::sort_part;
 
 // 0, .., c - 1 by rising key, numbers of one key by number, at the front of `sorted`.
-pub fn sort_numbers(keys: &[u64], c: usize, sorted: &mut [u32], spare: &mut [u32])
+fn sort_numbers(keys: &[u64], c: usize, sorted: &mut [u32], spare: &mut [u32])
     requires { ⌜ (c ≤ 2 ^ 32) × (c ≤ length (now sorted)) × (c ≤ length (now spare)) ⌝ }
     ensures { λ _. ⌜ take c (now (sorted .exit)) ≡ sortBy (keyAt (now (keys .entry))) (upFrom 0 c) ⌝ }
 {
@@ -57,7 +57,7 @@ fn walk(of: &[u32], c: usize, k: usize, sorted: &[u32], stations: &mut [u32], pl
 }
 
 // The place of each of 0, .., c - 1 in its station, which `of` gives, by rising key and then number, in `places`; how many each station has is left in its counter.
-pub fn rank_in_stations(
+pub(crate) fn rank_in_stations(
     of: &[u32],
     c: usize,
     k: usize,

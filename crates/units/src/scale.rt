@@ -22,7 +22,7 @@ fn tier(o: Options, count: usize) -> f64
 }
 
 // The scales of the first k stations by the spacing; path has the points of the n that are occupied. The other lists are work lists.
-pub fn scales(
+pub(crate) fn scales(
     o: Options,
     k: usize,
     n: usize,

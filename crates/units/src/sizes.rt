@@ -31,7 +31,7 @@ fn height(rows: u32) -> f64
 }
 
 // The sizes of the first k stations; `stations` has the bus count and the row count of each.
-pub fn sizes(k: usize, stations: &[u32], blocks: &mut [f64])
+pub(crate) fn sizes(k: usize, stations: &[u32], blocks: &mut [f64])
     requires { ⌜ (2 * k ≤ length (now stations)) × (3 * k ≤ length (now blocks)) ⌝ }
     ensures { λ _. ⌜ sizesIn k (now (blocks .exit)) ≡ sizesFor (countsIn k (now (stations .entry))) (rowCountsIn k (now (stations .entry))) ⌝ }
 {
@@ -44,7 +44,7 @@ pub fn sizes(k: usize, stations: &[u32], blocks: &mut [f64])
 }
 
 // The larger side of each occupied station at the front of frames, and how many they are.
-pub fn sides(k: usize, stations: &[u32], blocks: &[f64], frames: &mut [f64]) -> usize
+pub(crate) fn sides(k: usize, stations: &[u32], blocks: &[f64], frames: &mut [f64]) -> usize
     requires { ⌜ (2 * k ≤ length (now stations)) × (3 * k ≤ length (now blocks)) × (k ≤ length (now frames)) ⌝ }
     ensures { λ r. ⌜ take r (now (frames .exit)) ≡ sides (sizesIn k (now (blocks .entry))) (occupied (countsIn k (now (stations .entry)))) ⌝ }
     ensures { λ r. ⌜ r ≤ k ⌝ }

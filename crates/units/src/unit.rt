@@ -59,7 +59,7 @@ fn median_of(
 }
 
 // The spacing of the first n points. The other lists are work lists.
-pub fn spacing(
+pub(crate) fn spacing(
     n: usize,
     path: &[f64],
     frames: &mut [f64],
@@ -75,7 +75,7 @@ pub fn spacing(
 }
 
 // The median larger side of an occupied station, at least 1.
-pub fn typical(
+pub(crate) fn typical(
     k: usize,
     stations: &[u32],
     blocks: &[f64],
@@ -92,7 +92,7 @@ pub fn typical(
 }
 
 // The unit by a fill, the spacing and the typical side.
-pub fn unit_for(fill: f64, gap: f64, side: f64) -> f64
+pub(crate) fn unit_for(fill: f64, gap: f64, side: f64) -> f64
     ensures { λ r. ⌜ r ≡ unitFor fill gap side ⌝ }
 {
     fill * gap / side

@@ -44,7 +44,7 @@ pub fn go_round(corners: &[u32], keys: &mut [u64], around: &mut [u32], spare: &m
 }
 
 // The corner that the half-edge at place p of `around` starts at.
-pub fn start_at(corners: &[u32], around: &[u32], p: usize) -> u32
+fn start_at(corners: &[u32], around: &[u32], p: usize) -> u32
     ensures { λ r. ⌜ r ≡ getD (now (corners .entry)) (getD (now (around .entry)) p 0) 0 ⌝ }
 {
     at(corners, at(around, p) as usize)

@@ -10,7 +10,7 @@ use Rattle.results.proofs.bounds.around_all.Tie as tie
 use Rattle.results.proofs.bounds.around_all.Reads as reads
 use Rattle.results.proofs.bounds.around_all.Lts as lts
 use Rattle.results.proofs.bounds.around.Reads as around-reads
-use Rattle.results.proofs.lists.box_in.Reads as box-in-reads
+use Rattle.geometry.proofs.box_at.Reads as box-at-reads
 
 abbrev Inv-loop : tie.InvT-loop
 Inv-loop k stations frames i b₀ s₀ b s = (s ≤ k) × Around k stations frames s b
@@ -35,8 +35,8 @@ mul-if1-2 c = search needs
 shared-slice-read-if1 : tie.Need-shared-slice-read-if1 Inv-loop μ-loop
 shared-slice-read-if1 c = search needs
 
-box-in-requires : tie.Need-box-in-requires Inv-loop μ-loop
-box-in-requires c κs = search needs
+box-at-requires : tie.Need-box-at-requires Inv-loop μ-loop
+box-at-requires c κs = search needs
 
 around-requires : tie.Need-around-requires Inv-loop μ-loop
 around-requires c κs = search needs
@@ -48,7 +48,7 @@ loop-less : tie.Need-loop-less Inv-loop μ-loop
 loop-less c = search needs
 
 loop-again : tie.Need-loop-again Inv-loop μ-loop
-loop-again c = (omega arith, around-yes _ _ _ _ _ _ _ (c .before .before .before .before .loop-test .taken) (c .before .before .if1 .taken) (c .before .box-in .ensures) (c .around .ensures) (c .before .before .before .before .before .loop .inv .1))
+loop-again c = (omega arith, around-yes _ _ _ _ _ _ _ (c .before .before .before .before .loop-test .taken) (c .before .before .if1 .taken) (c .before .box-at .ensures) (c .around .ensures) (c .before .before .before .before .before .loop .inv .1))
 
 add-s-2 : tie.Need-add-s-2 Inv-loop μ-loop
 add-s-2 c = search needs
@@ -73,7 +73,7 @@ around-all-spec =
     mul-if1
     mul-if1-2
     shared-slice-read-if1
-    box-in-requires
+    box-at-requires
     around-requires
     add-s
     loop-less

@@ -14,7 +14,7 @@ use Rattle.results.proofs.lists.write_stations.Statement.{statement}
 use Rattle.results.proofs.lists.write_stations.Tie as tie
 use Rattle.results.proofs.lists.write_stations.Reads as reads
 use Rattle.results.proofs.lists.write_stations.Lts as lts
-use Rattle.results.proofs.lists.box_in.Reads as box-in-reads
+use Rattle.geometry.proofs.box_at.Reads as box-at-reads
 use Rattle.results.proofs.lists.put_numbers.Reads as put-numbers-reads
 
 abbrev Inv-loop : tie.InvT-loop
@@ -29,8 +29,8 @@ returns c = (after-refusal _ _ _ (c .if1 .taken), after-refusal _ _ _ (c .if1 .t
 loop-holds : tie.Need-loop-holds Inv-loop μ-loop
 loop-holds c = (omega arith, framed-none _ _ _ _)
 
-box-in-requires : tie.Need-box-in-requires Inv-loop μ-loop
-box-in-requires c κs = search needs
+box-at-requires : tie.Need-box-at-requires Inv-loop μ-loop
+box-at-requires c κs = search needs
 
 put-numbers-requires : tie.Need-put-numbers-requires Inv-loop μ-loop
 put-numbers-requires c κs = omega (arith, c .before .before .before .loop .inv .1 .boxes .room)
@@ -60,7 +60,7 @@ loop-less : tie.Need-loop-less Inv-loop μ-loop
 loop-less c = search needs
 
 loop-again : tie.Need-loop-again Inv-loop μ-loop
-loop-again c = (omega arith, framed-more _ _ _ _ _ _ _ _ _ (omega arith) (omega arith) (c .before .before .before .before .before .box-in .ensures) (c .before .before .before .put-numbers .ensures) (c .before .before .before .before .before .before .before .loop .inv .1))
+loop-again c = (omega arith, framed-more _ _ _ _ _ _ _ _ _ (omega arith) (omega arith) (c .before .before .before .before .before .box-at .ensures) (c .before .before .before .put-numbers .ensures) (c .before .before .before .before .before .before .before .loop .inv .1))
 
 same-length : tie.Need-same-length Inv-loop μ-loop
 same-length c = c .before .loop .inv .1 .boxes .room
@@ -79,7 +79,7 @@ write-stations-spec =
     μ-loop
     returns
     loop-holds
-    box-in-requires
+    box-at-requires
     put-numbers-requires
     mul-scales
     add-scales
