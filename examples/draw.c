@@ -37,10 +37,10 @@ int main(void) {
     double crossing_places[1], crossing_ways[2];
 
     tansygate_plotted plot = tansygate_layout(
-        options, LEN(sub), LEN(kv), LEN(from), LEN(to), LEN(service), LEN(xy), mesh, 0, mesh, 0,
         LEN(positions), LEN(bars), LEN(boxes), LEN(scales), LEN(roles), LEN(pieces), LEN(branches),
         LEN(stations), LEN(buses), LEN(ends), LEN(sorted), LEN(spare), LEN(keys), LEN(places), LEN(blocks),
-        LEN(frames), LEN(path), LEN(crossing_numbers), LEN(crossing_places), LEN(crossing_ways));
+        LEN(frames), LEN(path), LEN(crossing_numbers), LEN(crossing_places), LEN(crossing_ways),
+        options, LEN(sub), LEN(kv), LEN(from), LEN(to), LEN(service), LEN(xy), mesh, 0, mesh, 0);
     if (plot.number != TANSYGATE_DONE) {
         printf("refused %u\n", (unsigned)plot.number);
         return 1;
@@ -55,12 +55,13 @@ int main(void) {
                pieces[4 * p + 1], pieces[4 * p + 2], pieces[4 * p + 3]);
 
     double displacement[K], spacing[K], relative[PIECES];
-    uint32_t index[N];
+    uint32_t index[4 * N + 257];
     double points[2 * N];
     tansygate_audited audit = tansygate_audit(
+        LEN(displacement), LEN(spacing), LEN(relative),
+        LEN(stations), LEN(index), LEN(spare), LEN(keys), LEN(points), path, 2 * N,
         LEN(sub), LEN(kv), LEN(from), LEN(to), LEN(xy), LEN(boxes), LEN(roles), pieces, 4 * plot.pieces,
-        branches, plot.pieces, LEN(displacement), LEN(spacing), LEN(relative),
-        LEN(stations), LEN(index), LEN(spare), LEN(keys), LEN(points), path, 2 * N);
+        branches, plot.pieces);
     if (audit.number != TANSYGATE_DONE) {
         printf("audit refused %u\n", (unsigned)audit.number);
         return 1;

@@ -4,10 +4,12 @@
  * lends every list, as a pointer and a number of elements (not bytes). Lists that a function writes must not overlap each other or a list
  * that it reads; a list of 0 elements may have any pointer but a null one.
  * A list may be longer than needed; what stands past the used length of a
- * result list keeps its old content.
+ * result list keeps its old content. In every call the lists that it writes
+ * come first, then the options, then the lists that it reads.
  *
  * n buses, m branches, k = highest station number + 1 (0 without buses),
- * L = mesh length = corners_len, counted as at most 24,576.
+ * L = mesh length = corners_len, counted as at most 24,576,
+ * I = 4n + 257, above 128 buses 4n + 4097.
  *
  * Link with target/staticlib/libexports.a (`rt staticlib exports`), x86-64 Linux.
  */
@@ -77,18 +79,6 @@ typedef struct {
 
 /* Draws a network into the lent lists. */
 tansygate_plotted tansygate_layout(
-    tansygate_options options,
-    /* the network */
-    const uint32_t *sub, size_t sub_len,                    /* n: each bus's station */
-    const uint64_t *kv, size_t kv_len,                      /* n: each bus's voltage, as the bits of a double */
-    const int64_t *from, size_t from_len,                   /* m: each branch's first bus; one below 0 or from n up is unknown */
-    const int64_t *to, size_t to_len,                       /* m: its second bus */
-    const uint8_t *service, size_t service_len,             /* 0 open, else live; absent: live */
-    const double *xy, size_t xy_len,                        /* 2 a bus: x and y, y down; absent or not finite: (0, 0) */
-    /* a mesh over the occupied stations by rank: three corners a triangle, and the twin of each
-       half-edge or TANSYGATE_NO_TWIN; both of one length, a multiple of 3, at most 24,576 */
-    const uint32_t *corners, size_t corners_len,
-    const uint32_t *twins, size_t twins_len,
     /* results */
     double *positions, size_t positions_len,                /* 2n: x and y of each bar's middle */
     double *bars, size_t bars_len,                          /* 4n: x0, y0, x1, y1 of each bus's bar */
@@ -101,7 +91,7 @@ tansygate_plotted tansygate_layout(
     uint32_t *stations, size_t stations_len,                /* 2n */
     uint32_t *buses, size_t buses_len,                      /* 3n */
     uint32_t *ends, size_t ends_len,                        /* 4m + 4L + 4 */
-    uint32_t *sorted, size_t sorted_len,                    /* n + 2m + L + 1681; also 1 a crossing */
+    uint32_t *sorted, size_t sorted_len,                    /* n + 2m + L + 1681 and at least I; also 1 a crossing */
     uint32_t *spare, size_t spare_len,                      /* n + 2m + L + 1681; also 1 a crossing */
     uint64_t *keys, size_t keys_len,                        /* n + 2m + L + 1681; also 1 a crossing */
     double *places, size_t places_len,                      /* 2n */
@@ -112,7 +102,19 @@ tansygate_plotted tansygate_layout(
        has room for; with 0 iterations or fewer than three occupied stations there are none. */
     uint32_t *crossing_numbers, size_t crossing_numbers_len, /* any; 3 a crossing */
     double *crossing_places, size_t crossing_places_len,    /* any; 1 a crossing */
-    double *crossing_ways, size_t crossing_ways_len);       /* any; 2 a crossing */
+    double *crossing_ways, size_t crossing_ways_len,        /* any; 2 a crossing */
+    tansygate_options options,
+    /* the network */
+    const uint32_t *sub, size_t sub_len,                    /* n: each bus's station */
+    const uint64_t *kv, size_t kv_len,                      /* n: each bus's voltage, as the bits of a double */
+    const int64_t *from, size_t from_len,                   /* m: each branch's first bus; one below 0 or from n up is unknown */
+    const int64_t *to, size_t to_len,                       /* m: its second bus */
+    const uint8_t *service, size_t service_len,             /* 0 open, else live; absent: live */
+    const double *xy, size_t xy_len,                        /* 2 a bus: x and y, y down; absent or not finite: (0, 0) */
+    /* a mesh over the occupied stations by rank: three corners a triangle, and the twin of each
+       half-edge or TANSYGATE_NO_TWIN; both of one length, a multiple of 3, at most 24,576 */
+    const uint32_t *corners, size_t corners_len,
+    const uint32_t *twins, size_t twins_len);
 
 /* Zeros where number isn't 0. */
 typedef struct {
@@ -125,7 +127,19 @@ typedef struct {
 
 /* Audits a drawing of a network as tansygate_layout left it, or any other. */
 tansygate_audited tansygate_audit(
-    const uint32_t *sub, size_t sub_len,                    /* the network, as above */
+    /* results */
+    double *displacement, size_t displacement_len,          /* k: each occupied station's distance from seed to box middle */
+    double *spacing, size_t spacing_len,                    /* k: its distance to the nearest other, in shorter sides of its box */
+    double *relative, size_t relative_len,                  /* one a piece: each line's drawn length over its straight length */
+    /* work lists */
+    uint32_t *stations, size_t stations_len,                /* 2n */
+    uint32_t *index, size_t index_len,                      /* I */
+    uint32_t *spare, size_t spare_len,                      /* n */
+    uint64_t *keys, size_t keys_len,                        /* n */
+    double *points, size_t points_len,                      /* 2n */
+    double *path, size_t path_len,                          /* 2n */
+    /* the network, as above, and the drawing */
+    const uint32_t *sub, size_t sub_len,
     const uint64_t *kv, size_t kv_len,
     const int64_t *from, size_t from_len,
     const int64_t *to, size_t to_len,
@@ -133,25 +147,14 @@ tansygate_audited tansygate_audit(
     const double *boxes, size_t boxes_len,                  /* 4k exactly */
     const uint8_t *roles, size_t roles_len,                 /* m exactly */
     const double *pieces, size_t pieces_len,                /* 4 a piece exactly */
-    const uint32_t *branches, size_t branches_len,          /* one a piece */
-    /* results */
-    double *displacement, size_t displacement_len,          /* k: each occupied station's distance from seed to box middle */
-    double *spacing, size_t spacing_len,                    /* k: its distance to the nearest other, in shorter sides of its box */
-    double *relative, size_t relative_len,                  /* one a piece: each line's drawn length over its straight length */
-    /* work lists */
-    uint32_t *stations, size_t stations_len,                /* 2n */
-    uint32_t *index, size_t index_len,                      /* n */
-    uint32_t *spare, size_t spare_len,                      /* n */
-    uint64_t *keys, size_t keys_len,                        /* n */
-    double *points, size_t points_len,                      /* 2n */
-    double *path, size_t path_len);                         /* 2n */
+    const uint32_t *branches, size_t branches_len);         /* one a piece */
 
 /* The root of x * x + y * y, correctly rounded. */
 double tansygate_hypot(double x, double y);
 
 /* Writes each point's least positive distance to another to the front of out (infinity where there is none);
    gives how many points that are: as many as points has pairs of numbers and out has room for. */
-size_t tansygate_nearest(const double *points, size_t points_len, double *out, size_t out_len);
+size_t tansygate_nearest(double *out, size_t out_len, const double *points, size_t points_len);
 
 #ifdef __cplusplus
 }

@@ -47,6 +47,15 @@ pub fn tx_layout_quality(input: &TxLayoutInput, layout: &TxLayout) -> Result<TxL
     let (mut displacement, mut spacing) = (vec![0.0; k], vec![0.0; k]);
     let mut relative_length = vec![0.0; layout.segment_edge.len()];
     let a = ffi::audit(
+        &mut displacement,
+        &mut spacing,
+        &mut relative_length,
+        &mut vec![0; 2 * n],
+        &mut vec![0; ffi::index_length(n)],
+        &mut vec![0; n],
+        &mut vec![0; n],
+        &mut vec![0.0; 2 * n],
+        &mut vec![0.0; 2 * n],
         &input.bus_substation,
         &input.kv_bits(),
         &input.from,
@@ -56,15 +65,6 @@ pub fn tx_layout_quality(input: &TxLayoutInput, layout: &TxLayout) -> Result<TxL
         &layout.role,
         &layout.segments,
         &layout.segment_edge,
-        &mut displacement,
-        &mut spacing,
-        &mut relative_length,
-        &mut vec![0; 2 * n],
-        &mut vec![0; 4 * n + 4_097],
-        &mut vec![0; n],
-        &mut vec![0; n],
-        &mut vec![0.0; 2 * n],
-        &mut vec![0.0; 2 * n],
     );
     Refusal::check(a.number)?;
     displacement.truncate(a.stations);

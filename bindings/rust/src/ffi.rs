@@ -33,31 +33,36 @@ pub struct Audited {
 }
 
 macro_rules! call {
-    ($name:ident = $symbol:ident($($value:ident: $v:ty),*; $($list:ident: $i:ty),*; $($lent:ident: $o:ty),*) -> $answer:ty) => {
+    ($name:ident = $symbol:ident($($lent:ident: $o:ty),*; $($value:ident: $v:ty),*; $($list:ident: $i:ty),*) -> $answer:ty) => {
         #[allow(clippy::too_many_arguments)]
-        pub fn $name($($value: $v,)* $($list: &[$i],)* $($lent: &mut [$o],)*) -> $answer {
+        pub fn $name($($lent: &mut [$o],)* $($value: $v,)* $($list: &[$i],)*) -> $answer {
             extern "C" {
-                fn $symbol($(_: $v,)* $(_: *const $i, _: usize,)* $(_: *mut $o, _: usize,)*) -> $answer;
+                fn $symbol($(_: *mut $o, _: usize,)* $(_: $v,)* $(_: *const $i, _: usize,)*) -> $answer;
             }
             // SAFETY: the types and their order are those of include/tansygate.h. Each list is lent with its own
             // length for the time of the call, those written by `&mut`, so that no two overlap, and a slice's
             // pointer is never null. The functions keep nothing.
-            unsafe { $symbol($($value,)* $($list.as_ptr(), $list.len(),)* $($lent.as_mut_ptr(), $lent.len(),)*) }
+            unsafe { $symbol($($lent.as_mut_ptr(), $lent.len(),)* $($value,)* $($list.as_ptr(), $list.len(),)*) }
         }
     };
 }
 
 call!(layout = tansygate_layout(
-    options: Options;
-    sub: u32, kv: u64, from: i64, to: i64, service: u8, xy: f64, corners: u32, twins: u32;
     positions: f64, bars: f64, boxes: f64, scales: f64, roles: u8, pieces: f64, branches: u32,
     stations: u32, buses: u32, ends: u32, sorted: u32, spare: u32, keys: u64,
     places: f64, blocks: f64, frames: f64, path: f64,
-    crossing_numbers: u32, crossing_places: f64, crossing_ways: f64
+    crossing_numbers: u32, crossing_places: f64, crossing_ways: f64;
+    options: Options;
+    sub: u32, kv: u64, from: i64, to: i64, service: u8, xy: f64, corners: u32, twins: u32
 ) -> Plotted);
 
-call!(audit = tansygate_audit(;
-    sub: u32, kv: u64, from: i64, to: i64, xy: f64, boxes: f64, roles: u8, pieces: f64, branches: u32;
+call!(audit = tansygate_audit(
     displacement: f64, spacing: f64, relative: f64,
-    stations: u32, index: u32, spare: u32, keys: u64, points: f64, path: f64
+    stations: u32, index: u32, spare: u32, keys: u64, points: f64, path: f64;;
+    sub: u32, kv: u64, from: i64, to: i64, xy: f64, boxes: f64, roles: u8, pieces: f64, branches: u32
 ) -> Audited);
+
+/// The needed length of a list that boxes are looked up by cell in, for n buses (docs/WORK.md).
+pub fn index_length(n: usize) -> usize {
+    4 * n + if n > 128 { 4_097 } else { 257 }
+}

@@ -168,15 +168,6 @@ fn draw(input: &TxLayoutInput, options: &TxLayoutOptions, mesh: Mesh<'_>, room: 
         bounds: [0.0; 4],
     };
     let p = ffi::layout(
-        options.plain(),
-        &input.bus_substation,
-        &input.kv_bits(),
-        &input.from,
-        &input.to,
-        &input.in_service,
-        &input.xy,
-        mesh.triangles,
-        mesh.halfedges,
         &mut drawing.positions,
         &mut drawing.busbars,
         &mut drawing.boxes,
@@ -187,7 +178,7 @@ fn draw(input: &TxLayoutInput, options: &TxLayoutOptions, mesh: Mesh<'_>, room: 
         &mut vec![0; 2 * n],
         &mut vec![0; 3 * n],
         &mut vec![0; 4 * m + 4 * l + 4],
-        &mut vec![0; sorting],
+        &mut vec![0; sorting.max(ffi::index_length(n))],
         &mut vec![0; sorting],
         &mut vec![0; sorting],
         &mut vec![0.0; 2 * n],
@@ -197,6 +188,15 @@ fn draw(input: &TxLayoutInput, options: &TxLayoutOptions, mesh: Mesh<'_>, room: 
         &mut vec![0; 3 * room.crossings],
         &mut vec![0.0; room.crossings],
         &mut vec![0.0; 2 * room.crossings],
+        options.plain(),
+        &input.bus_substation,
+        &input.kv_bits(),
+        &input.from,
+        &input.to,
+        &input.in_service,
+        &input.xy,
+        mesh.triangles,
+        mesh.halfedges,
     );
     Refusal::check(p.number)?;
     drawing.segments.truncate(4 * p.pieces);

@@ -48,6 +48,15 @@ impl TxLayoutInput {
     pub fn validate(&self) -> Result<(), Refusal> {
         // An audit that is lent nothing looks at these four first; what it says past them is about its lists.
         let a = ffi::audit(
+            &mut [],
+            &mut [],
+            &mut [],
+            &mut [],
+            &mut [],
+            &mut [],
+            &mut [],
+            &mut [],
+            &mut [],
             &self.bus_substation,
             &self.kv_bits(),
             &self.from,
@@ -57,15 +66,6 @@ impl TxLayoutInput {
             &[],
             &[],
             &[],
-            &mut [],
-            &mut [],
-            &mut [],
-            &mut [],
-            &mut [],
-            &mut [],
-            &mut [],
-            &mut [],
-            &mut [],
         );
         match a.number {
             1..=4 => Refusal::check(a.number),

@@ -1,6 +1,2 @@
--- Laws that the functions' proofs use.
-pub mod Early
-pub mod Lates
-pub mod Crossing
+-- Laws that the functions' proofs and the crates above use.
 pub mod Whole
-pub mod Accepted

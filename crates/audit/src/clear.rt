@@ -1,7 +1,7 @@
 // Work lists back to zeros.
 ghost use mathlib.Core.Path.{_≡_};
-ghost use Rattle.audit.specs.Drawn.{work};
-ghost use Rattle.audit.specs.Answer.{cleared};
+ghost use Rattle.findings.specs.Drawn.{work};
+ghost use Rattle.findings.specs.Answer.{cleared};
 use results::clears::zero_f;
 use results::clears::zero_u32;
 use results::clears::zero_u64;

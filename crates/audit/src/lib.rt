@@ -1,8 +1,4 @@
-// The audit of a drawing: refusals, figures and the answer.
-pub mod answer;
+// The audit of a drawing: the public call.
 pub mod clear;
 pub mod inside;
 pub mod quality;
-pub mod refuse;
-pub mod room;
-pub mod through;

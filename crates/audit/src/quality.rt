@@ -1,24 +1,14 @@
 // The public call.
-ghost use mathlib.Core.Path.{_≡_};
-ghost use Rattle.audit.specs.Drawn.{drawn, lists, work};
-ghost use Rattle.audit.specs.Answer.{call, auditOf};
-use crate::answer::Audit;
+ghost use Rattle.findings.specs.Drawn.{drawn, lists, work};
+ghost use Rattle.findings.specs.Answer.{call, Answered};
 use crate::clear::clear_work;
 use crate::inside::audited;
-use crate::refuse::refusal_of_input;
-use crate::room::Room;
+use findings::answer::Audit;
+use findings::refuse::refusal_of_input;
+use findings::room::Room;
 
 // Audits a drawing: the figures of each station and line in the result lists, the others in the answer.
 pub fn tx_layout_quality(
-    sub: &[u32],
-    kv: &[u64],
-    from: &[i64],
-    to: &[i64],
-    xy: &[f64],
-    boxes: &[f64],
-    roles: &[u8],
-    pieces: &[f64],
-    branches: &[u32],
     displacement: &mut [f64],
     spacing: &mut [f64],
     relative: &mut [f64],
@@ -28,10 +18,20 @@ pub fn tx_layout_quality(
     keys: &mut [u64],
     points: &mut [f64],
     path: &mut [f64],
+    sub: &[u32],
+    kv: &[u64],
+    from: &[i64],
+    to: &[i64],
+    xy: &[f64],
+    boxes: &[f64],
+    roles: &[u8],
+    pieces: &[f64],
+    branches: &[u32],
 ) -> Audit
-    ensures { λ r. ⌜ call r (lists (now (displacement .exit)) (now (spacing .exit)) (now (relative .exit))) (work (now (stations .exit)) (now (index .exit)) (now (spare .exit)) (now (keys .exit)) (now (points .exit)) (now (path .exit)))
-        ≡ auditOf (drawn (now (sub .entry)) (now (kv .entry)) (now (from .entry)) (now (to .entry)) (now (xy .entry)) (now (boxes .entry)) (now (roles .entry)) (now (pieces .entry)) (now (branches .entry)))
-        (lists (now (displacement .entry)) (now (spacing .entry)) (now (relative .entry))) (work (now (stations .entry)) (now (index .entry)) (now (spare .entry)) (now (keys .entry)) (now (points .entry)) (now (path .entry))) ⌝ }
+    ensures { λ r. ⌜ Answered
+        (drawn (now (sub .entry)) (now (kv .entry)) (now (from .entry)) (now (to .entry)) (now (xy .entry)) (now (boxes .entry)) (now (roles .entry)) (now (pieces .entry)) (now (branches .entry)))
+        (lists (now (displacement .entry)) (now (spacing .entry)) (now (relative .entry))) (work (now (stations .entry)) (now (index .entry)) (now (spare .entry)) (now (keys .entry)) (now (points .entry)) (now (path .entry)))
+        (call r (lists (now (displacement .exit)) (now (spacing .exit)) (now (relative .exit))) (work (now (stations .exit)) (now (index .exit)) (now (spare .exit)) (now (keys .exit)) (now (points .exit)) (now (path .exit)))) ⌝ }
 {
     let room = Room {
         displacement: displacement.len(),

@@ -1,3 +1,4 @@
 -- Laws that the functions' proofs use.
 pub mod Spans
 pub mod Rows
+pub mod SpanLaw

@@ -74,5 +74,5 @@ pub(crate) fn agrees(name: u64, w: &[u64]) -> bool {
     if name == PAR {
         return param_agrees(w);
     }
-    neighbours::overlaps(box_at(w, 0), box_at(w, 4)) == (word_at(w, 8) == 1)
+    proximity::overlaps(box_at(w, 0), box_at(w, 4)) == (word_at(w, 8) == 1)
 }

@@ -21,7 +21,7 @@ use Rattle.units.specs.Views.{scalesIn}
 use Rattle.placement.specs.Modest.{illSized}
 use Rattle.placement.specs.Views.{framesIn}
 use Rattle.bars.specs.declared.Bar.{Bar}
-use Rattle.detour.specs.Cells.{cellSize}
+use Rattle.cells.specs.Cells.{cellSize}
 use Rattle.detour.specs.Paths.{pathIn}
 use Rattle.runs.specs.Run as Run
 use Rattle.runs.specs.Run.{Scene}
@@ -29,9 +29,11 @@ use Rattle.runs.specs.Finite.{allOf, finitePoint}
 use Rattle.runs.specs.Views.{wayOf, waysOf, held, lead, Fits}
 use Rattle.pieces.specs.Pieces.{runsIn}
 use Rattle.results.specs.Bars.{barsIn}
-use Rattle.routing.specs.Route as Route
-use Rattle.routing.specs.Views.{Grid, grid, gapOf, linesIn}
-use Rattle.routes.specs.Routes.{meshUsed, meshFits, routedIn, crossingsOf, routeRefusal, Routes}
+use Rattle.crossings.specs.Route as Route
+use Rattle.crossings.specs.Views.{Grid, grid, linesIn}
+use Rattle.crossings.specs.Gap.{gapOf}
+use Rattle.routes.specs.Routes.{meshUsed, meshFits, crossingsOf, routeRefusal}
+use Rattle.routes.specs.Routed.{routedIn, Routes}
 use Rattle.drawing.specs.Network.{Network}
 use Rattle.drawing.specs.Drawing as Drawing
 use Rattle.drawing.specs.Drawing.{planned, drawing, straightScene, ledScene, routedScene, routedOf, sceneOf}

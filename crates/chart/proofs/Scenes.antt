@@ -30,7 +30,8 @@ use Rattle.units.specs.Size.{Size, sizeAt}
 use Rattle.units.specs.Unit.{spacing, typical, unitFor}
 use Rattle.units.specs.Scale as Scale
 use Rattle.units.specs.Views.{sizeIn, sizesIn, scalesIn}
-use Rattle.placement.specs.Offset.{offsets}
+use Rattle.offsets.specs.Offset.{offsets}
+use Rattle.turns.specs.Turns.{placementOrder}
 use Rattle.placement.specs.Place as Place
 use Rattle.placement.specs.Place.{Frame, frameFor, noBox, boxIn}
 use Rattle.placement.specs.Views.{framesIn}
@@ -41,11 +42,11 @@ use Rattle.bars.specs.Span.{spanAt, spansIn}
 use Rattle.bars.specs.Exit.{exit}
 use Rattle.runs.specs.Run as Run
 use Rattle.runs.specs.Run.{Scene, slot, between, linePoints, runFor, runOf}
-use Rattle.detour.specs.Cells.{cellSize}
+use Rattle.cells.specs.Cells.{cellSize}
 use Rattle.detour.specs.Paths.{pathIn}
 use Rattle.runs.specs.Views.{Held, held, lead, blockOf, barOf, slotOf, exitOf, openFrom, internalFrom, ledIn, ledRun, lineFrom, runFrom, wayOf, waysOf, runIn}
-use Rattle.routing.specs.Views as Routing
-use Rattle.routing.specs.Views.{grid, exitAt, lineBetween, lineIn, linesIn}
+use Rattle.crossings.specs.Views as Routing
+use Rattle.crossings.specs.Views.{grid, exitAt, lineBetween, lineIn, linesIn}
 use Rattle.pieces.specs.Pieces.{runsIn}
 use Rattle.results.specs.Bars.{barsIn}
 use Rattle.plan.specs.Stages.{Interiors, Settled}
@@ -235,7 +236,7 @@ module _ (o : Options) (N : Network) (k : ℕ) (unit : Float) (search : ℕ) (bu
       (typical (Sizes.sizes (N .station) (kinds (N .station) (N .from) (N .to) (N .service)) (busCounts (N .station))) (busCounts (N .station)))
       → search ≡ searchOf (o .search)
       → pointsIn k places
-      ≡ Place.places (framesIn unit k blocks) (offsets search) (Seed.seeds (N .station) (N .xy)) (Place.placementOrder (N .station) (N .kv) (busCounts (N .station)))
+      ≡ Place.places (framesIn unit k blocks) (offsets search) (Seed.seeds (N .station) (N .xy)) (placementOrder (N .station) (N .kv) (busCounts (N .station)))
       → boxesIn k frames ≡ Place.boxes (framesIn unit k blocks) (busCounts (N .station)) (pointsIn k places)
       → Holds o N k unit buses ends blocks places frames
   unfolding planned
@@ -262,7 +263,7 @@ module _ (o : Options) (N : Network) (k : ℕ) (unit : Float) (search : ℕ) (bu
       seeds = Seed.seeds sub (N .xy)
 
       order : List ℕ
-      order = Place.placementOrder sub (N .kv) counts
+      order = placementOrder sub (N .kv) counts
 
       fs : List Frame
       fs = Place.frames
@@ -309,6 +310,6 @@ settled-held o N k unit finite search stations₁ stations buses₁ buses ends p
     drawing-held o N k unit search buses ends blocks places frames below (cl ∙ I .columns) sp (I .fromRows) (I .toRows) (I .sizes) (I .scales) (I .unitIs) se
     (S .placed
     ∙ ap
-    (λ (z : List Point). Place.places (framesIn unit k blocks) (offsets search) z (Place.placementOrder (N .station) (N .kv) (busCounts (N .station))))
+    (λ (z : List Point). Place.places (framesIn unit k blocks) (offsets search) z (placementOrder (N .station) (N .kv) (busCounts (N .station))))
     (I .seeds))
     (S .boxes)

@@ -12,12 +12,12 @@ use Rattle.network.specs.Words.{occupied}
 use Rattle.network.specs.Views.{countsIn, boxesIn}
 use Rattle.units.specs.Views.{scalesIn}
 use Rattle.placement.specs.Modest.{illSized}
-use Rattle.detour.specs.Cells.{cellSize}
+use Rattle.cells.specs.Cells.{cellSize}
 use Rattle.runs.specs.Finite.{allOf, finitePoint}
 use Rattle.runs.specs.Views.{held, lead, Fits}
 use Rattle.pieces.specs.Pieces.{runsIn}
 use Rattle.results.specs.Bars.{barsIn}
-use Rattle.routing.specs.Views.{gapOf}
+use Rattle.crossings.specs.Gap.{gapOf}
 use Rattle.drawing.specs.Network.{Network}
 use Rattle.drawing.specs.Drawing.{drawing}
 use Rattle.drawing.specs.Answer.{routedBy}

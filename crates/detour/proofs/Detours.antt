@@ -9,9 +9,9 @@ use Rattle.geometry.specs.declared.Point.{Point}
 use Rattle.geometry.specs.declared.Box.{Box}
 use Rattle.geometry.specs.Plane.{pointAt}
 use Rattle.placement.specs.Place.{boxIn}
-use Rattle.detour.specs.declared.walk.FirstHit.{FirstHit}
-use Rattle.detour.specs.declared.walk.FirstHit.the-variants.{Free, At}
-use Rattle.detour.specs.Cells.{firstHit}
+use Rattle.cells.specs.declared.walk.FirstHit.{FirstHit}
+use Rattle.cells.specs.declared.walk.FirstHit.the-variants.{Free, At}
+use Rattle.cells.specs.Cells.{firstHit}
 use Rattle.detour.specs.Detour.{corner, detourOn, detourTo, detour}
 use Rattle.detour.specs.Paths.{pathIn, PutIn, Led}
 use Rattle.detour.proofs.Shifting.{point-before, path-zero, path-more, path-cons, path-join, path-kept, path-moved, length-path}

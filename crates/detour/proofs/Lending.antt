@@ -15,9 +15,9 @@ use lib.Ieee.{Float}
 use Rattle.geometry.specs.declared.Point.{Point}
 use Rattle.network.specs.Words.{occupied}
 use Rattle.network.specs.Views.{countsIn, boxesIn}
-use Rattle.detour.specs.declared.walk.FirstHit.{FirstHit}
-use Rattle.detour.specs.Cells.{firstHit}
-use Rattle.detour.specs.Index.{Indexed}
+use Rattle.cells.specs.declared.walk.FirstHit.{FirstHit}
+use Rattle.cells.specs.Cells.{firstHit}
+use Rattle.cells.specs.Index.{Indexed}
 
 -- what the lists asked for hold, and what is found in them
 abbrev pub Long : List ℕ → List Float → ℕ → Type 0

@@ -16,8 +16,8 @@ use Rattle.geometry.specs.declared.Point.{Point}
 use Rattle.geometry.specs.Plane.{point}
 use Rattle.geometry.specs.Clip.{part, cut, clipBy, met, clipped, hits}
 use Rattle.network.specs.Views.{boxesIn}
-use Rattle.detour.specs.declared.walk.FirstHit.the-variants.{Free, At}
-use Rattle.detour.specs.Cells.{side, largest, cellSize, cellNumber, cellOf, atMost, ahead, apart, between, covers, far, nearer, struck, look, sameCell, settled, onward, walk, signOf, boundary, firstSide, sideStep, rayOf, spotOf, cellCount, walked, found, firstHit}
+use Rattle.cells.specs.declared.walk.FirstHit.the-variants.{Free, At}
+use Rattle.cells.specs.Cells.{side, largest, cellSize, cellNumber, cellOf, atMost, ahead, apart, between, covers, far, nearer, struck, look, sameCell, settled, onward, walk, signOf, boundary, firstSide, sideStep, rayOf, spotOf, cellCount, walked, found, firstHit}
 use Rattle.detour.specs.Detour.{cornersOf, cost, costKey, clears, clearing, cheaper, cheapest, orElse, corner, detourOn, detourTo, detour}
 
 -- point i of a list

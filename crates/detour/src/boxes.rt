@@ -4,9 +4,9 @@ ghost use Prim.Native.Nat.{_*_, _≤_};
 ghost use lib.ListN.{length};
 ghost use Rattle.network.specs.Words.{occupied};
 ghost use Rattle.network.specs.Views.{countsIn, boxesIn};
-ghost use Rattle.detour.specs.Cells.{firstHit};
-ghost use Rattle.detour.specs.Index.{Indexed};
-use crate::walk::FirstHit;
+ghost use Rattle.cells.specs.Cells.{firstHit};
+ghost use Rattle.cells.specs.Index.{Indexed};
+use cells::walk::FirstHit;
 use geometry::Point;
 
 // The lent boxes, four numbers each, and the side of the cells that they are registered in.
@@ -37,7 +37,7 @@ pub(crate) fn first_hit<'a>(
     requires { ⌜ Indexed (boxesIn k (now (index .boxes))) (occupied (countsIn k (now stations))) (index .cell) k (now list) ⌝ }
     ensures { λ r. ⌜ r ≡ firstHit (boxesIn k (now (index .entry .boxes))) (occupied (countsIn k (now (stations .entry)))) (index .entry .cell) p q a b ⌝ }
 {
-    crate::walk::first_hit(index.cell, k, stations, index.boxes, list, p, q, a, b)
+    cells::walk::first_hit(index.cell, k, stations, index.boxes, list, p, q, a, b)
 }
 
 // The same, of boxes and a cell's side.

@@ -1,8 +1,4 @@
 // Leading a path round boxes: the first box along a piece, found cell by cell, and at most four points put in.
 pub mod boxes;
-pub mod cells;
 pub mod corner;
-pub mod index;
 pub mod path;
-pub mod signed;
-pub mod walk;

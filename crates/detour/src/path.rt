@@ -6,12 +6,12 @@ ghost use Rattle.geometry.specs.Plane.{pointAt};
 ghost use Rattle.network.specs.Words.{occupied};
 ghost use Rattle.network.specs.Views.{countsIn, boxesIn};
 ghost use Rattle.detour.specs.Detour.{detour};
-ghost use Rattle.detour.specs.Index.{Indexed};
+ghost use Rattle.cells.specs.Index.{Indexed};
 ghost use Rattle.detour.specs.Paths.{pathIn, Shifted, PutIn, Led};
 use crate::boxes::hit_among;
-use crate::cells::box_in;
 use crate::corner::corner;
-use crate::walk::FirstHit;
+use cells::cells::box_in;
+use cells::walk::FirstHit;
 use geometry::Point;
 
 // Point i of a list of coordinates.

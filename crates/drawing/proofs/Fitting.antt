@@ -15,6 +15,7 @@ use Rattle.float.specs.Ops.{f0, f1}
 use Rattle.network.specs.Options.{inRange, between, searchFits, searchOf}
 use Rattle.network.specs.Words.{stationCount}
 use Rattle.network.specs.Refusal.{refuse, shapeRefusal, tooFar}
+use Rattle.cells.specs.Index.{indexLength}
 use Rattle.drawing.specs.declared.room.Room.{Room}
 use Rattle.drawing.specs.Network.{Network}
 use Rattle.drawing.specs.Answer.{orLater, early, meshLength, sorting, shortResults, shortWork, crossingRoom}
@@ -117,7 +118,7 @@ fits-of o N R h =
     in
     let p = five (R .positions) (2 * n) (R .bars) (4 * n) (R .boxes) (4 * k) (R .scales) k (R .roles) m (z .2) in
     let rest : Bool =
-    ltb (R .keys) s || (ltb (R .places) (2 * n) || (ltb (R .blocks) (3 * n) || (ltb (R .frames) (4 * n) || ltb (R .path) (2 * n + 2 * meshLength N + 16))))
+    ltb (R .keys) s || (ltb (R .places) (2 * n) || (ltb (R .blocks) (3 * n) || (ltb (R .frames) (4 * n) || (ltb (R .path) (2 * n + 2 * meshLength N + 16) || ltb (R .sorted) (indexLength n)))))
     in
     let w1 =
     enough (R .stations) (2 * n)
@@ -128,7 +129,12 @@ fits-of o N R h =
     let w3 = enough (R .ends) (4 * m + 4 * meshLength N + 4) (ltb (R .sorted) s || (ltb (R .spare) s || rest)) (w2 .1) in
     let w4 = enough (R .sorted) s (ltb (R .spare) s || rest) (w3 .1) in
     let w5 = enough (R .spare) s rest (w4 .1) in
-    let w = five (R .keys) s (R .places) (2 * n) (R .blocks) (3 * n) (R .frames) (4 * n) (R .path) (2 * n + 2 * meshLength N + 16) (w5 .1) in
+    let w6 =
+    enough (R .keys) s
+    (ltb (R .places) (2 * n) || (ltb (R .blocks) (3 * n) || (ltb (R .frames) (4 * n) || (ltb (R .path) (2 * n + 2 * meshLength N + 16) || ltb (R .sorted) (indexLength n)))))
+    (w5 .1)
+    in
+    let w = five (R .places) (2 * n) (R .blocks) (3 * n) (R .frames) (4 * n) (R .path) (2 * n + 2 * meshLength N + 16) (R .sorted) (indexLength n) (w6 .1) in
     record {
       shape = shape-fits _ _ _ _ (z .0);
       search = search-in o (test-on _ (z .1));
@@ -142,11 +148,11 @@ fits-of o N R h =
       ends = w3 .0;
       sorted = w4 .0;
       spare = w5 .0;
-      keys = w .0;
-      places = w .1;
-      blocks = w .2;
-      frames = w .3;
-      path = w .4;
+      keys = w6 .0;
+      places = w .0;
+      blocks = w .1;
+      frames = w .2;
+      path = w .3;
     }
 
 -- The crossing list holds no more than each of its six lists.

@@ -1,4 +1,6 @@
 -- Laws of refusals and answers.
 pub mod Early
 pub mod Fitting
+pub mod Written
 pub mod Lates
+pub mod Number

@@ -14,6 +14,7 @@ use Rattle.network.specs.Options.{inRange}
 use Rattle.network.specs.Words.{stationCount, occupied}
 use Rattle.network.specs.Refusal.{refuse, shapeRefusal, tooFar}
 use Rattle.placement.specs.Modest.{illSized}
+use Rattle.cells.specs.Index.{indexLength}
 use Rattle.bars.specs.declared.Bar.{Bar}
 use Rattle.bars.specs.Bar.{position}
 use Rattle.drawing.specs.declared.room.Room.{Room}
@@ -67,7 +68,7 @@ unfoldable pub shortResults : ℕ → ℕ → ℕ → Room → Bool
 shortResults n m k R =
     ltb (R .positions) (2 * n) || (ltb (R .bars) (4 * n) || (ltb (R .boxes) (4 * k) || (ltb (R .scales) k || ltb (R .roles) m)))
 
--- the length of the three lists that sorts use
+-- the length of the three lists that sorts use; `sorted` also holds boxes by cell
 abbrev pub sorting : ℕ → ℕ → ℕ → ℕ
 sorting n m mesh = n + 2 * m + mesh + 1681
 
@@ -75,7 +76,7 @@ unfoldable pub shortWork : ℕ → ℕ → ℕ → Room → Bool
 shortWork n m mesh R =
     ltb (R .stations) (2 * n) || (ltb (R .buses) (3 * n) || (ltb (R .ends) (4 * m + 4 * mesh + 4)
     || (ltb (R .sorted) (sorting n m mesh) || (ltb (R .spare) (sorting n m mesh) || (ltb (R .keys) (sorting n m mesh)
-    || (ltb (R .places) (2 * n) || (ltb (R .blocks) (3 * n) || (ltb (R .frames) (4 * n) || ltb (R .path) (2 * n + 2 * mesh + 16)))))))))
+    || (ltb (R .places) (2 * n) || (ltb (R .blocks) (3 * n) || (ltb (R .frames) (4 * n) || (ltb (R .path) (2 * n + 2 * mesh + 16) || ltb (R .sorted) (indexLength n))))))))))
 
 -- r, or where it is 0 what comes after it
 abbrev pub orLater : ℕ → ℕ → ℕ

@@ -23,14 +23,15 @@ use Rattle.stations.specs.Row as Row
 use Rattle.units.specs.Size as Sizes
 use Rattle.units.specs.Unit.{coordinates, spacing, typical, unitFor}
 use Rattle.units.specs.Scale as Scale
-use Rattle.placement.specs.Offset as Offset
+use Rattle.offsets.specs.Offset as Offset
+use Rattle.turns.specs.Turns.{placementOrder}
 use Rattle.placement.specs.Place as Place
 use Rattle.placement.specs.Place.{boxIn}
 use Rattle.bars.specs.declared.Bar.{Bar}
 use Rattle.bars.specs.Bar as Bars
 use Rattle.bars.specs.Exit.{exit}
-use Rattle.routing.specs.Route as Route
-use Rattle.routing.specs.Views.{gapOf}
+use Rattle.crossings.specs.Route as Route
+use Rattle.crossings.specs.Gap.{gapOf}
 use Rattle.routes.specs.Routes.{meshUsed, meshFits, crossingsOf}
 use Rattle.drawing.specs.Network.{Network}
 use Rattle.runs.specs.Run as Run
@@ -81,7 +82,7 @@ planned O N =
     let unit = unitFor (O .fill) gap (typical sizes counts) in
     let scales = Scale.scales O seeds counts gap in
     let frames = Place.frames unit scales sizes in
-    let order = Place.placementOrder sub (N .kv) counts in
+    let order = placementOrder sub (N .kv) counts in
     let offsets = Offset.offsets (searchOf (O .search)) in
     let places = Place.places frames offsets seeds order in
     let found = table (Place.foundFree frames offsets seeds order) (length order) in

@@ -1,3 +1,4 @@
 pub mod Network
 pub mod Drawing
 pub mod Answer
+pub mod Number

@@ -5,6 +5,7 @@ ghost use lib.ListN.{length};
 ghost use Rattle.drawing.specs.Network.{network};
 ghost use Rattle.drawing.specs.Answer.{shortResults, shortWork, early};
 use crate::room::Room;
+use cells::index::index_length;
 use network::options::Options;
 use network::refuse::shape_refusal;
 use network::refuse::too_far;
@@ -63,7 +64,10 @@ fn short_work(n: usize, m: usize, mesh: usize, room: Room) -> bool
     if room.frames < 4 * n {
         return true;
     }
-    room.path < 2 * n + 2 * mesh + 16
+    if room.path < 2 * n + 2 * mesh + 16 {
+        return true;
+    }
+    room.sorted < index_length(n)
 }
 
 // The mesh length, counted as at most 24,576.

@@ -12,26 +12,23 @@ use Rattle.network.specs.declared.options.Options.{Options}
 use Rattle.drawing.specs.declared.answer.Plot.{Plot}
 use Rattle.drawing.specs.declared.answer.Answer.{Answer}
 use Rattle.drawing.specs.declared.answer.Answer.the-variants.{Drawn, Refused}
-use Rattle.drawing.specs.Network.{Network, network, Lists, lists, Work, Crossings}
-use Rattle.drawing.specs.Answer.{Call, call, layoutOf}
+use Rattle.drawing.specs.Network.{Network, network, Lists, lists}
 use Rattle.layout.proofs.Drawn.{pieces-fit}
+use Rattle.small.specs.Held.{workLists, crossingLists, heldCall, Held}
 use Rattle.listing.specs.declared.input.Counts.{Counts}
 use Rattle.listing.specs.declared.input.Parsed.the-variants as Parsed
-use Rattle.listing.specs.Input.{Input, parsed, over}
-use Rattle.listing.specs.Places.{answer}
+use Rattle.listing.specs.Input.{Input, parsed}
+use Rattle.order.specs.Over.{over}
+use Rattle.listing.specs.LinePlaces.{answer, numberOf}
 use Rattle.listing.proofs.Laws.{take-over, parsed-shape, answered}
 use Rattle.listing.specs.Output.{listing, refusal}
-use Rattle.drawlist.specs.Output.{listOptions, resultLists, workLists, crossingLists, plotted, Plotted, Shown, textBy, textOf, networkOf, outputOf}
+use Rattle.listed.specs.Output.{listOptions, resultLists, plotted, Shown, textBy, textOf, networkOf, outputOf}
 
-pub plotted-by : (N : Network) (L : Lists) (a : Answer) (L' : Lists) (W' : Work) (X' : Crossings) (o : Options)
-    → o ≡ listOptions → call a L' W' X' ≡ layoutOf o N L workLists crossingLists → Plotted N L a L'
+pub shown-by : (N : Network) (L : Lists) (a : Answer) (L' : Lists) (o : Options)
+    → o ≡ listOptions → Held o N L 128 0 a L' → Shown N L a (L' .roles) (L' .pieces) (L' .branches)
 unfolding plotted
-plotted-by N L a L' W' X' o e h =
-    let k : call a L' W' X' ≡ layoutOf listOptions N L workLists crossingLists = h ∙ ap (λ (p : Options). layoutOf p N L workLists crossingLists) e in
-    record { answerIs = ap (λ (c : Call). c .answer) k; listsAre = ap (λ (c : Call). c .lists) k }
-
-pub shown-by : (N : Network) (L : Lists) (a : Answer) (L' : Lists) → Plotted N L a L' → Shown N L a (L' .roles) (L' .pieces) (L' .branches)
-shown-by N L a L' P =
+shown-by N L a L' o e H =
+    let P : Held listOptions N L 128 0 a L' = subst (λ (p : Options). Held p N L 128 0 a L') e H in
     record {
       answerIs = P .answerIs;
       rolesAre = ap (λ (l : Lists). l .roles) (P .listsAre);
@@ -49,8 +46,8 @@ module _ (N : Network) (a : Answer) (r : List ℕ) (n : List Float) (b : List �
   text-refused k e = let h : plotted N resultLists .answer ≡ Refused k = sym (S .answerIs) ∙ e in rw h
 
   pub few-pieces : (p : Plot) → a ≡ Drawn p → p .pieces ≤ 192
-  unfolding plotted
-  few-pieces p e = pieces-fit listOptions N resultLists workLists crossingLists p (sym (S .answerIs) ∙ e) .1
+  unfolding plotted heldCall
+  few-pieces p e = pieces-fit listOptions N resultLists (workLists 128) (crossingLists 0) p (sym (S .answerIs) ∙ e) .1
 
 -- ---- from the parser
 
@@ -88,11 +85,11 @@ output-drawn t n a a' b b' c c' d d' e e' f f' h ha hb hc hd he hf =
     ap textOf k ∙ rw (w .0)
 
 pub output-malformed : (t : List ℕ) → answer (parsed t) ≡ Parsed.Malformed → refusal 14 ≡ outputOf t
-unfolding outputOf answer
+unfolding outputOf answer numberOf
 output-malformed t h = malformed (parsed t .wellFormed) refl h
   where
     malformed : (b : Bool) → parsed t .wellFormed ≡ b → cond b (Parsed.Network (record { buses = length (parsed t .buses .sub); branches = length (parsed t .branches .live) })) Parsed.Malformed ≡ Parsed.Malformed
-        → refusal 14 ≡ cond (parsed t .wellFormed) (textOf (networkOf (parsed t))) (refusal 14)
+        → refusal 14 ≡ cond (parsed t .wellFormed) (textOf (networkOf (parsed t))) (refusal (numberOf (answer (parsed t))))
     malformed true e k = let z : _≡_ {A = ℕ} 0 1 = cc in absurd (omega arith)
     malformed false e k = rw e
 

@@ -1,24 +1,13 @@
 // The audit call.
-ghost use mathlib.Core.Path.{_≡_};
-ghost use Rattle.audit.specs.Drawn.{drawn, lists, work};
-ghost use Rattle.audit.specs.Answer.{auditOf};
-ghost use Rattle.exports.specs.Plain.{judged, plainAudit};
-use crate::plain::Audited;
-use crate::plain::audit_numbers;
+ghost use Rattle.findings.specs.Drawn.{drawn, lists, work};
+ghost use Rattle.records.specs.Plain.{judged, AuditAnswered};
 use audit::quality::tx_layout_quality;
+use records::plain::Audited;
+use records::plain::audit_numbers;
 
 // Audits a drawing: the figures of each station and line in the result lists, the others in the answer.
 #[no_mangle]
 pub extern "C" fn tansygate_audit(
-    sub: &[u32],
-    kv: &[u64],
-    from: &[i64],
-    to: &[i64],
-    xy: &[f64],
-    boxes: &[f64],
-    roles: &[u8],
-    pieces: &[f64],
-    branches: &[u32],
     displacement: &mut [f64],
     spacing: &mut [f64],
     relative: &mut [f64],
@@ -28,25 +17,25 @@ pub extern "C" fn tansygate_audit(
     keys: &mut [u64],
     points: &mut [f64],
     path: &mut [f64],
+    sub: &[u32],
+    kv: &[u64],
+    from: &[i64],
+    to: &[i64],
+    xy: &[f64],
+    boxes: &[f64],
+    roles: &[u8],
+    pieces: &[f64],
+    branches: &[u32],
 ) -> Audited
-    ensures { λ r. ⌜ judged r
-        (lists (now (displacement .exit)) (now (spacing .exit)) (now (relative .exit)))
-        (work (now (stations .exit)) (now (index .exit)) (now (spare .exit)) (now (keys .exit)) (now (points .exit)) (now (path .exit)))
-        ≡ plainAudit (auditOf
+    ensures { λ r. ⌜ AuditAnswered
         (drawn (now (sub .entry)) (now (kv .entry)) (now (from .entry)) (now (to .entry)) (now (xy .entry)) (now (boxes .entry)) (now (roles .entry)) (now (pieces .entry)) (now (branches .entry)))
         (lists (now (displacement .entry)) (now (spacing .entry)) (now (relative .entry)))
-        (work (now (stations .entry)) (now (index .entry)) (now (spare .entry)) (now (keys .entry)) (now (points .entry)) (now (path .entry)))) ⌝ }
+        (work (now (stations .entry)) (now (index .entry)) (now (spare .entry)) (now (keys .entry)) (now (points .entry)) (now (path .entry)))
+        (judged r
+        (lists (now (displacement .exit)) (now (spacing .exit)) (now (relative .exit)))
+        (work (now (stations .exit)) (now (index .exit)) (now (spare .exit)) (now (keys .exit)) (now (points .exit)) (now (path .exit)))) ⌝ }
 {
     let a = tx_layout_quality(
-        sub,
-        kv,
-        from,
-        to,
-        xy,
-        boxes,
-        roles,
-        pieces,
-        branches,
         displacement,
         spacing,
         relative,
@@ -56,6 +45,15 @@ pub extern "C" fn tansygate_audit(
         keys,
         points,
         path,
+        sub,
+        kv,
+        from,
+        to,
+        xy,
+        boxes,
+        roles,
+        pieces,
+        branches,
     );
     audit_numbers(a)
 }

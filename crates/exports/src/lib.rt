@@ -1,6 +1,5 @@
 // Functions for C and Rust: numbers pass as themselves, a list as a pointer and a length.
 pub mod auditing;
-pub mod plain;
 pub mod plotting;
 
 ghost use mathlib.Core.Path.{_≡_};
@@ -9,7 +8,7 @@ ghost use Prim.Native.Nat.{_*_, _/_, _≤_, min};
 ghost use lib.ListN.{length, drop};
 ghost use Rattle.float.specs.Hypot.{hypotOf};
 ghost use Rattle.order.specs.Table.{table};
-ghost use Rattle.neighbours.specs.Near.{nearest};
+ghost use Rattle.proximity.specs.Near.{nearest};
 
 // The root of x * x + y * y, correctly rounded.
 #[no_mangle]
@@ -29,7 +28,7 @@ fn points_in(numbers: usize, room: usize) -> usize
 
 // Writes each point's least positive distance to another to the front of out; how many points that are.
 #[no_mangle]
-pub extern "C" fn tansygate_nearest(points: &[f64], out: &mut [f64]) -> usize
+pub extern "C" fn tansygate_nearest(out: &mut [f64], points: &[f64]) -> usize
     ensures { λ r. ⌜ r ≡ min (length (now (points .entry)) / 2) (length (now (out .entry))) ⌝ }
     ensures { λ r. ⌜ now (out .exit) ≡ table (nearest (now (points .entry)) r) r ++ drop r (now (out .entry)) ⌝ }
 {

@@ -1,26 +1,15 @@
 // The drawing call.
-ghost use mathlib.Core.Path.{_≡_};
 ghost use Rattle.drawing.specs.Network.{network, lists, work, crossings};
-ghost use Rattle.drawing.specs.Answer.{layoutOf};
-ghost use Rattle.exports.specs.Plain.{optionsOf, drew, plainLayout};
-use crate::plain::Plotted;
-use crate::plain::Settings;
-use crate::plain::options_of;
-use crate::plain::plot_numbers;
+ghost use Rattle.records.specs.Plain.{drew, LayoutAnswered};
 use layout::call::tx_schematic_layout;
+use records::plain::Plotted;
+use records::plain::Settings;
+use records::plain::options_of;
+use records::plain::plot_numbers;
 
 // Draws the network into the lent lists.
 #[no_mangle]
 pub extern "C" fn tansygate_layout(
-    s: Settings,
-    sub: &[u32],
-    kv: &[u64],
-    from: &[i64],
-    to: &[i64],
-    service: &[u8],
-    xy: &[f64],
-    corners: &[u32],
-    twins: &[u32],
     positions: &mut [f64],
     bars: &mut [f64],
     boxes: &mut [f64],
@@ -41,27 +30,27 @@ pub extern "C" fn tansygate_layout(
     crossing_numbers: &mut [u32],
     crossing_places: &mut [f64],
     crossing_ways: &mut [f64],
+    s: Settings,
+    sub: &[u32],
+    kv: &[u64],
+    from: &[i64],
+    to: &[i64],
+    service: &[u8],
+    xy: &[f64],
+    corners: &[u32],
+    twins: &[u32],
 ) -> Plotted
-    ensures { λ r. ⌜ drew r
-        (lists (now (positions .exit)) (now (bars .exit)) (now (boxes .exit)) (now (scales .exit)) (now (roles .exit)) (now (pieces .exit)) (now (branches .exit)))
-        (work (now (stations .exit)) (now (buses .exit)) (now (ends .exit)) (now (sorted .exit)) (now (spare .exit)) (now (keys .exit)) (now (places .exit)) (now (blocks .exit)) (now (frames .exit)) (now (path .exit)))
-        (crossings (now («crossing_numbers» .exit)) (now («crossing_places» .exit)) (now («crossing_ways» .exit)))
-        ≡ plainLayout (layoutOf (optionsOf s)
+    ensures { λ r. ⌜ LayoutAnswered s
         (network (now (sub .entry)) (now (kv .entry)) (now (from .entry)) (now (to .entry)) (now (service .entry)) (now (xy .entry)) (now (corners .entry)) (now (twins .entry)))
         (lists (now (positions .entry)) (now (bars .entry)) (now (boxes .entry)) (now (scales .entry)) (now (roles .entry)) (now (pieces .entry)) (now (branches .entry)))
         (work (now (stations .entry)) (now (buses .entry)) (now (ends .entry)) (now (sorted .entry)) (now (spare .entry)) (now (keys .entry)) (now (places .entry)) (now (blocks .entry)) (now (frames .entry)) (now (path .entry)))
-        (crossings (now («crossing_numbers» .entry)) (now («crossing_places» .entry)) (now («crossing_ways» .entry)))) ⌝ }
+        (crossings (now («crossing_numbers» .entry)) (now («crossing_places» .entry)) (now («crossing_ways» .entry)))
+        (drew r
+        (lists (now (positions .exit)) (now (bars .exit)) (now (boxes .exit)) (now (scales .exit)) (now (roles .exit)) (now (pieces .exit)) (now (branches .exit)))
+        (work (now (stations .exit)) (now (buses .exit)) (now (ends .exit)) (now (sorted .exit)) (now (spare .exit)) (now (keys .exit)) (now (places .exit)) (now (blocks .exit)) (now (frames .exit)) (now (path .exit)))
+        (crossings (now («crossing_numbers» .exit)) (now («crossing_places» .exit)) (now («crossing_ways» .exit)))) ⌝ }
 {
     let a = tx_schematic_layout(
-        options_of(s),
-        sub,
-        kv,
-        from,
-        to,
-        service,
-        xy,
-        corners,
-        twins,
         positions,
         bars,
         boxes,
@@ -82,6 +71,15 @@ pub extern "C" fn tansygate_layout(
         crossing_numbers,
         crossing_places,
         crossing_ways,
+        options_of(s),
+        sub,
+        kv,
+        from,
+        to,
+        service,
+        xy,
+        corners,
+        twins,
     );
     plot_numbers(a)
 }

@@ -7,7 +7,7 @@ use native.Mathlib.Nat.{add-zero}
 use lib.ListN.{length, getD, set, drop}
 use lib.Seq.{sets, getD-append-add, getD-drop}
 use Rattle.results.proofs.Writes.{Written, written-none, written-more, written-all}
-use Rattle.runs.specs.Lists.{over}
+use Rattle.order.specs.Over.{over}
 
 module _ {A : Type 0} where
   pub record Front (whole left old l : List A) (c : ℕ) : Type 0 where

@@ -1,10 +1,4 @@
--- Laws that the functions' proofs use.
-pub mod Each
+-- Laws that the functions' proofs and the crates above use.
 pub mod Front
 pub mod Stationwise
-pub mod Clashing
-pub mod Stretches
-pub mod Testing
-pub mod NoClash
-pub mod Cases
 pub mod Reading

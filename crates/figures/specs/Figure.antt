@@ -8,7 +8,7 @@ use Rattle.float.specs.Ops.{f2, leastNormal, _⊕_, _⊖_, _⊘_}
 use Rattle.geometry.specs.declared.Point.{Point}
 use Rattle.geometry.specs.declared.Box.{Box}
 use Rattle.geometry.specs.Plane.{point}
-use Rattle.neighbours.specs.Near.{distance, nearest}
+use Rattle.proximity.specs.Near.{distance, nearest}
 use Rattle.network.specs.Seed.{placeAt}
 use Rattle.units.specs.Unit.{coordinates}
 use Rattle.placement.specs.Place.{boxIn}

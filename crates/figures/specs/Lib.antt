@@ -1,5 +1,1 @@
-pub mod Fit
-pub mod Scale
 pub mod Figure
-pub mod Overlaps
-pub mod Relative

@@ -4,8 +4,8 @@ ghost use Prim.Native.Nat.{_*_, _≤_};
 ghost use lib.ListN.{length};
 ghost use Rattle.network.specs.Words.{occupied};
 ghost use Rattle.network.specs.Views.{countsIn, pointsIn, boxesIn};
-ghost use Rattle.neighbours.specs.Near.{distance};
-ghost use Rattle.runs.specs.Lists.{over};
+ghost use Rattle.proximity.specs.Near.{distance};
+ghost use Rattle.order.specs.Over.{over};
 ghost use Rattle.figures.specs.Figure.{middle, middles, displacements, shorter, bySides, spacingsFrom};
 use float::hypot::hypot;
 use float::small::max;
@@ -28,7 +28,7 @@ fn middle(b: Box) -> Point
 }
 
 // The distance from p to q.
-pub(crate) fn distance(p: Point, q: Point) -> f64
+pub fn distance(p: Point, q: Point) -> f64
     ensures { λ r. ⌜ r ≡ distance p q ⌝ }
 {
     hypot(q.x - p.x, q.y - p.y)

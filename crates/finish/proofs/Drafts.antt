@@ -17,7 +17,7 @@ use Rattle.network.specs.Refusal.{everyFinite}
 use Rattle.network.specs.Views.{countsIn, boxesIn}
 use Rattle.units.specs.Views.{scalesIn}
 use Rattle.bars.specs.Bar.{position}
-use Rattle.detour.specs.Cells.{cellSize}
+use Rattle.cells.specs.Cells.{cellSize}
 use Rattle.runs.specs.Run.{Piece, allPieces, role}
 use Rattle.runs.specs.Finite.{allOf, finitePoint, finiteBox, finiteBar}
 use Rattle.runs.specs.Lists.{flat, pointNumbers, boxNumbers, barNumbers, pieceNumbers, after}
@@ -26,7 +26,7 @@ use Rattle.pieces.specs.Pieces.{runsIn, branchOf}
 use Rattle.results.specs.Bars.{barsIn}
 use Rattle.results.specs.Bounds.{boundsOf}
 use Rattle.results.proofs.Finites.{finite-boxes}
-use Rattle.routing.specs.Views.{gapOf}
+use Rattle.crossings.specs.Gap.{gapOf}
 use Rattle.drawing.specs.declared.answer.Answer.{Answer}
 use Rattle.drawing.specs.declared.answer.Answer.the-variants.{Refused}
 use Rattle.drawing.specs.declared.room.Room.{Room}

@@ -3,6 +3,7 @@ pub mod Signs
 pub mod Pack
 pub mod Rounding
 pub mod RoundLaws
+pub mod OperationLaws
 pub mod FloorLaws
 pub mod Extend
 pub mod Hypots
@@ -12,9 +13,18 @@ pub mod Keys
 pub mod TotalOrder
 pub mod Extremes
 pub mod Bounds
+pub mod SizeLaws
+pub mod Quotients
+pub mod Each
 pub mod Whole
 pub mod Lengths
 pub mod Digit
 pub mod Words
 pub mod Packing
 pub mod Patterns
+pub mod DoubleLaws
+pub mod DoubleRound
+pub mod DoubleOps
+pub mod DoubleKeys
+pub mod DoubleRange
+pub mod DoublePairs

@@ -423,7 +423,7 @@ square-le n h l = not-lt (h * h) (4 * n) (λ k. not-le-of-lt (quarters-lt n h k)
 square-ge : (n h : ℕ) → quarters n ≤ 2 * h → 4 * n ≤ h * h
 square-ge n h l = not-lt (4 * n) (h * h) (λ k. not-le-of-lt (quarters-gt n h k) l)
 
-quarters-ge : (n h : ℕ) → h * h ≤ 4 * n → 2 * h ≤ quarters n
+pub quarters-ge : (n h : ℕ) → h * h ≤ 4 * n → 2 * h ≤ quarters n
 quarters-ge n h l = elim (eq-or-lt-of-le l) [ inl e ↦ le-of-eq (sym (quarters-eq n h (sym e))) | inr k ↦ le-of-lt (quarters-gt n h k) ]
 
 pub root-rounded : (n : ℕ) → RootRounded n (nearestRoot n)
@@ -457,16 +457,123 @@ root-rounded n = record {
     }
 
 -- hypot of two finite floats, of a and b grains
-finite-of : (x : Float) (s : Bool) (a : ℕ) → HasValue x s a (2 ^ 1074) → T (isFinite x)
+pub finite-of : (x : Float) (s : Bool) (a c : ℕ) → HasValue x s a c → T (isFinite x)
 unfolding isFinite
-finite-of nan s a h = absurd h
-finite-of (inf t) s a h = absurd h
-finite-of (fin t m e) s a h = tt
+finite-of nan s a c h = absurd h
+finite-of (inf t) s a c h = absurd h
+finite-of (fin t m e) s a c h = tt
 
 pub hypot-rounded : (x y : Float) (s t : Bool) (a b : ℕ) → HasValue x s a (2 ^ 1074) → HasValue y t b (2 ^ 1074) → RootRounded (a * a + b * b) (hypotOf x y)
 hypot-rounded x y s t a b h k =
     subst (RootRounded (a * a + b * b))
     (ap (λ (z : ℕ). nearestRoot (z * z + b * b)) (sym (grains-of x s a h))
     ∙ ap (λ (z : ℕ). nearestRoot (grains x * grains x + z * z)) (sym (grains-of y t b k))
-    ∙ both-finite x y (finite-of x s a h) (finite-of y t b k))
+    ∙ both-finite x y (finite-of x s a (2 ^ 1074) h) (finite-of y t b (2 ^ 1074) k))
     (root-rounded (a * a + b * b))
+
+-- no other float is the root so rounded
+module _ (n : ℕ) (x y : Float) where
+  root-not-above : (a : RootNearest n x) (b : RootNearest n y) → a .v < b .v → ⊥
+  root-not-above a b l =
+      let e : 4 * n ≡ (a .v + b .v) * (a .v + b .v) = le-antisymm (a .above (b .v) (b .q) (b .k) (b .value) l) (le-trans (le-of-eq (turn (a .v) (b .v))) (b .below (a .v) (a .q) (a .k) (a .value) l)) in
+      let p : a .q % 2 ≡ 0 = a .even (b .v) (b .q) (b .k) (b .value) (λ h. lt-irrefl (b .v) (lt-of-le-of-lt (le-of-eq h) l)) e in
+      let r : b .q % 2 ≡ 0 = b .even (a .v) (a .q) (a .k) (a .value) (λ h. lt-irrefl (b .v) (lt-of-le-of-lt (le-of-eq (sym h)) l)) (e ∙ turn (a .v) (b .v)) in
+      let u = (a .q + 1) * 2 ^ a .k in
+      let next : Value u (a .q + 1) (a .k) = record {
+        is = refl;
+        digits = room (a .q) p (a .value .digits);
+        normal = λ h. up (a .q) (a .value .normal h);
+        range = a .value .range;
+      } in
+      let above : a .v < u = lt-of-le-of-lt (le-of-eq (a .value .is)) (mul-lt-mul-of-pos-right (step (a .q)) (pow-pos (a .k))) in
+      let below : u < b .v = lt-of-le-ne (over next) (λ h. odd (a .q) (b .q) p r (one-way u (a .q + 1) (a .k) (b .q) (b .k) next (subst (λ (w : ℕ). Value w (b .q) (b .k)) (sym h) (b .value)))) in
+      clash (a .v) u (b .v) above (le-trans (b .below u (a .q + 1) (a .k) next below) (le-of-eq e))
+    where
+      turn : (i j : ℕ) → (i + j) * (i + j) ≡ (j + i) * (j + i)
+      turn i j = omega arith
+
+      room : (q : ℕ) → q % 2 ≡ 0 → q < 2 ^ 53 → q + 1 < 2 ^ 53
+      room q p h = omega arith
+
+      up : (q : ℕ) → 2 ^ 52 ≤ q → 2 ^ 52 ≤ q + 1
+      up q h = omega arith
+
+      step : (q : ℕ) → q < q + 1
+      step q = omega arith
+
+      odd : (q p : ℕ) → q % 2 ≡ 0 → p % 2 ≡ 0 → q + 1 ≡ p → ⊥
+      odd q p a b e = omega arith
+
+      over : Value ((a .q + 1) * 2 ^ a .k) (a .q + 1) (a .k) → (a .q + 1) * 2 ^ a .k ≤ b .v
+      over z = elim (apart (a .q) (a .k) (b .v) (b .q) (b .k) (a .value .normal) (unbounded (b .v) (b .q) (b .k) (b .value))) [
+        | inl h ↦ absurd (not-le-of-lt l (le-trans h (le-of-eq (sym (a .value .is)))))
+        | inr h ↦ h
+      ]
+
+      clash : (i j m : ℕ) → i < j → (m + j) * (m + j) ≤ (i + m) * (i + m) → ⊥
+      clash i j m h k = not-le-of-lt (less (i + m) (m + j) (sum i j m h)) k
+        where
+          sum : (i j m : ℕ) → i < j → i + m + 1 ≤ m + j
+          sum i j m h = omega arith
+
+          less : (c d : ℕ) → c + 1 ≤ d → c * c < d * d
+          less c d h = lt-of-lt-of-le (near c) (le-trans (mul-le-mul-right (c + 1) h) (le-trans (le-of-eq (swap d (c + 1))) (mul-le-mul-right d h)))
+            where
+              near : (c : ℕ) → c * c < (c + 1) * (c + 1)
+              near c = omega arith
+
+              swap : (i j : ℕ) → i * j ≡ j * i
+              swap i j = omega arith
+
+pub root-only : (n : ℕ) (x : Float) → T (fits binary64 x) → RootRounded n x → x ≡ nearestRoot n
+root-only n x f R = go (decLe (b * b) n)
+  where
+    b : ℕ
+    b = 2 ^ 2098 - 2 ^ 2044
+
+    y : Float
+    y = nearestRoot n
+
+    fits-y : T (fits binary64 (nearestRoot n))
+    fits-y = subst (λ (z : Float). T (fits binary64 z)) (sym (nearest-round n)) (round-fits binary64 false (quarters n) (2 ^ 1076))
+
+    same : (i : RootNearest n x) (j : RootNearest n (nearestRoot n)) → i .v ≡ j .v
+    same i j = le-antisymm (not-lt (i .v) (j .v) (root-not-above n (nearestRoot n) x j i)) (not-lt (j .v) (i .v) (root-not-above n x (nearestRoot n) i j))
+
+    go : Dec ((2 ^ 2098 - 2 ^ 2044) * (2 ^ 2098 - 2 ^ 2044) ≤ n) → x ≡ nearestRoot n
+    go (yes l) = R .infinite l ∙ sym (root-rounded n .infinite l)
+    go (no g) =
+        let i = R .finite (lt-of-not-le g) in
+        let j = root-rounded n .finite (lt-of-not-le g) in
+        same-value x (nearestRoot n) false (j .v) f fits-y (subst (λ (v : ℕ). HasValue x false v (2 ^ 1074)) (same i j) (i .size)) (j .size)
+
+abbrev number : Float → Type 0
+number nan = ⊥
+number (inf s) = Unit
+number (fin s m e) = Unit
+
+-- the other cases of hypot: an infinite side, and else a NaN
+hypot-first : (s : Bool) (y : Float) → hypotOf (inf s) y ≡ inf false
+unfolding hypotOf
+hypot-first s y = refl
+
+hypot-second : (x : Float) (s : Bool) → hypotOf x (inf s) ≡ inf false
+unfolding hypotOf
+hypot-second nan s = refl
+hypot-second (inf t) s = refl
+hypot-second (fin t m e) s = refl
+
+pub hypot-inf : (x y : Float) (s : Bool) → (x ≡ inf s) ⊎ (y ≡ inf s) → hypotOf x y ≡ inf false
+hypot-inf x y s (inl e) = ap (λ (z : Float). hypotOf z y) e ∙ hypot-first s y
+hypot-inf x y s (inr e) = ap (λ (z : Float). hypotOf x z) e ∙ hypot-second x s
+
+pub hypot-nan : (x y : Float) → ((s : Bool) → x ≡ inf s → ⊥) → ((s : Bool) → y ≡ inf s → ⊥) → (x ≡ nan) ⊎ (y ≡ nan) → hypotOf x y ≡ nan
+unfolding hypotOf
+hypot-nan nan nan f g h = refl
+hypot-nan nan (inf t) f g h = absurd (g t refl)
+hypot-nan nan (fin t n d) f g h = refl
+hypot-nan (inf s) y f g h = absurd (f s refl)
+hypot-nan (fin s m e) nan f g h = refl
+hypot-nan (fin s m e) (inf t) f g h = absurd (g t refl)
+hypot-nan (fin s m e) (fin t n d) f g (inl p) = absurd (subst number p tt)
+hypot-nan (fin s m e) (fin t n d) f g (inr p) = absurd (subst number p tt)

@@ -7,3 +7,7 @@ pub mod Cases
 pub mod Steps
 pub mod Floor
 pub mod Rounding
+pub mod Operations
+pub mod Size
+pub mod Double
+pub mod DoubleCases

@@ -10,12 +10,18 @@ use Rattle.drawing.specs.Network.{Network, Lists, Work, Crossings}
 use Rattle.drawing.specs.Drawing.{drawing}
 use Rattle.drawing.specs.Answer.{roomOf, early, late, clearedWork, clearedCrossings, call, callLate, callEarly, layoutOf}
 use Rattle.finish.specs.Draft.{Drew}
+use Rattle.drawing.specs.Number.{Answered}
+use Rattle.drawing.proofs.Number.{answered}
 
-pub call-early : (o : Options) (N : Network) (L : Lists) (W : Work) (X : Crossings) (r : ℕ)
+refused-early : (o : Options) (N : Network) (L : Lists) (W : Work) (X : Crossings) (r : ℕ)
     → r ≡ early o N (roomOf L W X) → (r ≡ 0 → ⊥) → call (Refused r) L W X ≡ layoutOf o N L W X
 unfolding layoutOf callEarly
-call-early o N L W X zero e h = absurd (h refl)
-call-early o N L W X (suc r) e h = rw (sym e)
+refused-early o N L W X zero e h = absurd (h refl)
+refused-early o N L W X (suc r) e h = rw (sym e)
+
+pub call-early : (o : Options) (N : Network) (L : Lists) (W : Work) (X : Crossings) (r : ℕ)
+    → r ≡ early o N (roomOf L W X) → (r ≡ 0 → ⊥) → Answered o N L W X (call (Refused r) L W X)
+call-early o N L W X r e h = answered o N L W X (call (Refused r) L W X) (refused-early o N L W X r e h)
 
 -- Lists of one length are cleared to the same lists.
 pub record Alike (U W : Work) : Type 0 where
@@ -48,9 +54,10 @@ cleared-level U X A = rw (A .numbers, A .places, A .ways)
 pub call-late : (o : Options) (N : Network) (L L' : Lists) (W U W' : Work) (X Y X' : Crossings) (a : Answer)
     → 0 ≡ early o N (roomOf L W X) → Drew o N (late (drawing o N) (roomOf L W X)) L a L'
     → W' ≡ clearedWork U → Alike U W → X' ≡ clearedCrossings Y → Level Y X
-    → call a L' W' X' ≡ layoutOf o N L W X
+    → Answered o N L W X (call a L' W' X')
 unfolding layoutOf callEarly callLate
 call-late o N L L' W U W' X Y X' a e D w A x B =
     let v : W' ≡ clearedWork W = w ∙ cleared-alike U W A in
     let y : X' ≡ clearedCrossings X = x ∙ cleared-level Y X B in
-    rw (sym e, D .answerIs, D .listsAre, v, y)
+    let h : call a L' W' X' ≡ layoutOf o N L W X = rw (sym e, D .answerIs, D .listsAre, v, y) in
+    answered o N L W X (call a L' W' X') h

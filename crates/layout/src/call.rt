@@ -2,7 +2,8 @@
 ghost use mathlib.Core.Path.{_≡_};
 ghost use Prim.Native.Nat.{min};
 ghost use Rattle.drawing.specs.Network.{network, lists, work, crossings};
-ghost use Rattle.drawing.specs.Answer.{call, layoutOf, crossingRoom};
+ghost use Rattle.drawing.specs.Answer.{call, crossingRoom};
+ghost use Rattle.drawing.specs.Number.{Answered};
 use chart::chart;
 use drawing::answer::Answer;
 use drawing::clear::clear_crossings;
@@ -33,15 +34,6 @@ fn crossing_room(room: Room) -> usize
 
 // Draws the network into the lent lists.
 pub fn tx_schematic_layout(
-    o: Options,
-    sub: &[u32],
-    kv: &[u64],
-    from: &[i64],
-    to: &[i64],
-    service: &[u8],
-    xy: &[f64],
-    corners: &[u32],
-    twins: &[u32],
     positions: &mut [f64],
     bars: &mut [f64],
     boxes: &mut [f64],
@@ -62,16 +54,25 @@ pub fn tx_schematic_layout(
     crossing_numbers: &mut [u32],
     crossing_places: &mut [f64],
     crossing_ways: &mut [f64],
+    o: Options,
+    sub: &[u32],
+    kv: &[u64],
+    from: &[i64],
+    to: &[i64],
+    service: &[u8],
+    xy: &[f64],
+    corners: &[u32],
+    twins: &[u32],
 ) -> Answer
-    ensures { λ r. ⌜ call r
-        (lists (now (positions .exit)) (now (bars .exit)) (now (boxes .exit)) (now (scales .exit)) (now (roles .exit)) (now (pieces .exit)) (now (branches .exit)))
-        (work (now (stations .exit)) (now (buses .exit)) (now (ends .exit)) (now (sorted .exit)) (now (spare .exit)) (now (keys .exit)) (now (places .exit)) (now (blocks .exit)) (now (frames .exit)) (now (path .exit)))
-        (crossings (now («crossing_numbers» .exit)) (now («crossing_places» .exit)) (now («crossing_ways» .exit)))
-        ≡ layoutOf o
+    ensures { λ r. ⌜ Answered o
         (network (now (sub .entry)) (now (kv .entry)) (now (from .entry)) (now (to .entry)) (now (service .entry)) (now (xy .entry)) (now (corners .entry)) (now (twins .entry)))
         (lists (now (positions .entry)) (now (bars .entry)) (now (boxes .entry)) (now (scales .entry)) (now (roles .entry)) (now (pieces .entry)) (now (branches .entry)))
         (work (now (stations .entry)) (now (buses .entry)) (now (ends .entry)) (now (sorted .entry)) (now (spare .entry)) (now (keys .entry)) (now (places .entry)) (now (blocks .entry)) (now (frames .entry)) (now (path .entry)))
-        (crossings (now («crossing_numbers» .entry)) (now («crossing_places» .entry)) (now («crossing_ways» .entry))) ⌝ }
+        (crossings (now («crossing_numbers» .entry)) (now («crossing_places» .entry)) (now («crossing_ways» .entry)))
+        (call r
+        (lists (now (positions .exit)) (now (bars .exit)) (now (boxes .exit)) (now (scales .exit)) (now (roles .exit)) (now (pieces .exit)) (now (branches .exit)))
+        (work (now (stations .exit)) (now (buses .exit)) (now (ends .exit)) (now (sorted .exit)) (now (spare .exit)) (now (keys .exit)) (now (places .exit)) (now (blocks .exit)) (now (frames .exit)) (now (path .exit)))
+        (crossings (now («crossing_numbers» .exit)) (now («crossing_places» .exit)) (now («crossing_ways» .exit)))) ⌝ }
 {
     let room = Room {
         positions: positions.len(),

@@ -6,10 +6,11 @@ use Prim.Native.Nat.{ℕ, zero, suc}
 use lib.IntN.{pos, negsuc}
 use lib.ListN.{replicate}
 use lib.Ieee.{ofBits, binary64}
-use Rattle.listing.specs.Field.{got, wrong, busNumber}
+use Rattle.fields.specs.Field.{got, wrong, busNumber}
 use Rattle.listing.specs.Line.{busNames, branchNames}
 use Rattle.listing.specs.Input.{parsed}
-use Rattle.listing.specs.Output.{pieceNames, listing, numberField, shown, refusal}
+use Rattle.listing.specs.Output.{pieceNames, listing, refusal}
+use Rattle.fields.specs.Spell.{numberField, shown}
 
 -- `4059000000000000` and sixteen zeros
 abbrev hundred : List ℕ

@@ -13,12 +13,13 @@ use lib.Seq.{take-append-seam}
 use borrow.Author.Tests.{ltb-true}
 use Rattle.listing.specs.declared.input.Counts.{Counts}
 use Rattle.listing.specs.declared.input.Parsed.the-variants as Parsed
-use Rattle.listing.specs.Field.{Read, got, wrong, digit, closed, digitsTo, positive, whole, hexadecimal, pattern, minus, plus, busNumber}
+use Rattle.fields.specs.Field.{Read, got, wrong, digit, closed, digitsTo, positive, whole, hexadecimal, pattern, minus, plus, busNumber}
 use Rattle.listing.specs.Line.{begins, busNames, branchNames, andThen, Bus, Branch, busLine, branchLine}
-use Rattle.listing.specs.Input.{Lines, lines, broken, linesTo, Buses, Branches, noBuses, noBranches, addBus, addBranch, busLines, branchLines, atEnd, Input, withBuses, withBranches, parsed, over, read}
-use Rattle.listing.specs.Places.{answer}
-use Rattle.listing.proofs.Fields.{on-test}
-use Rattle.listing.proofs.Bounds.{not-got, limited-got, digits-least}
+use Rattle.listing.specs.Input.{Lines, lines, broken, linesTo, Buses, Branches, noBuses, noBranches, addBus, addBranch, busLines, branchLines, atEnd, Input, withBuses, withBranches, parsed, read}
+use Rattle.order.specs.Over.{over}
+use Rattle.listing.specs.LinePlaces.{answer}
+use Rattle.fields.proofs.Fields.{on-test}
+use Rattle.fields.proofs.Bounds.{not-got, limited-got, digits-least}
 
 -- the front of a list that s was written over
 pub take-over : {A : Type 0} (s l : List A) → take (length s) (over s l) ≡ s

@@ -5,9 +5,9 @@ use mathlib.Core.List.{List}
 use Prim.Native.Nat.{ℕ, _+_, _≤_, _<_}
 use lib.ListN.{length, drop, getD, drop-of-length-le}
 use borrow.Author.Tests.{eq-eqb, ne-eqb}
-use Rattle.listing.specs.Field.{Read, got, wrong}
+use Rattle.fields.specs.Field.{Read, got, wrong}
 use Rattle.listing.specs.Line.{begins, andThen}
-use Rattle.listing.proofs.Fields.{at-cons}
+use Rattle.fields.proofs.Fields.{at-cons}
 
 -- an answer whose variant is known
 pub known : {A R : Type 0} (f : R → Read A) {x : Read A} {r q : R} → x ≡ f r → r ≡ q → x ≡ f q

@@ -8,11 +8,12 @@ use lib.Ieee.{Float}
 use lib.ListN.{length, drop}
 use Rattle.listing.specs.declared.input.Parsed.{Parsed}
 use Rattle.listing.specs.declared.input.Parsed.the-variants as Parsed
-use Rattle.listing.specs.Field.{got, wrong}
+use Rattle.fields.specs.Field.{got, wrong}
 use Rattle.listing.specs.Line.{begins, busNames}
-use Rattle.listing.specs.Input.{Lines, lines, broken, Buses, Branches, noBuses, noBranches, busLines, branchLines, Input, withBuses, withBranches, parsed, over, read, counted}
-use Rattle.listing.specs.Places.{answer}
-use Rattle.listing.proofs.Bounds.{not-got}
+use Rattle.listing.specs.Input.{Lines, lines, broken, Buses, Branches, noBuses, noBranches, busLines, branchLines, Input, withBuses, withBranches, parsed, read, counted}
+use Rattle.order.specs.Over.{over}
+use Rattle.listing.specs.LinePlaces.{answer}
+use Rattle.fields.proofs.Bounds.{not-got}
 
 -- lines that were counted
 module _ {A B : Type 0} (f : A → List B) where

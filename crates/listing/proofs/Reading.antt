@@ -10,10 +10,11 @@ use lib.IntN.{ℤ}
 use lib.Ieee.{Float, ofBits, binary64}
 use lib.ListN.{length, drop, set, length-append, length-set, length-drop, drop-of-length-le}
 use lib.Seq.{drop-cons, drop-drop, set-at, append-snoc}
-use Rattle.listing.specs.Field.{Read, got, wrong}
+use Rattle.fields.specs.Field.{Read, got, wrong}
 use Rattle.listing.specs.Line.{begins, branchNames, Bus, Branch, busLine, branchLine}
-use Rattle.listing.specs.Input.{Lines, lines, broken, linesTo, Buses, Branches, noBuses, noBranches, addBus, addBranch, busLines, branchLines, atEnd, over, read, counted}
-use Rattle.listing.proofs.Fields.{on-test, at-cons}
+use Rattle.listing.specs.Input.{Lines, lines, broken, linesTo, Buses, Branches, noBuses, noBranches, addBus, addBranch, busLines, branchLines, atEnd, read, counted}
+use Rattle.order.specs.Over.{over}
+use Rattle.fields.proofs.Fields.{on-test, at-cons}
 
 -- one more element over the front of a list
 pub over-more : {A : Type 0} (s l : List A) (n : ℕ) (d x : A) → length s ≡ n → n < length l → set (over s l) n x ≡ over (s ++ (x ∷ [])) l

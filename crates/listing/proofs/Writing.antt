@@ -8,9 +8,10 @@ use lib.ListN.{length, getD, take, set, length-append, length-set}
 use lib.Seq.{take-suc, take-length, length-take-le}
 use lib.Ieee.{Float, nan}
 use Rattle.order.specs.Table.{joined}
-use Rattle.listing.specs.Input.{over}
-use Rattle.listing.specs.Output.{numberField, floatField, pointFields, pieceLine, putAt}
-use Rattle.listing.proofs.Spelling.{put-one, put-two, put-over, number-length, u32-places, few-places, float-length}
+use Rattle.order.specs.Over.{over}
+use Rattle.listing.specs.Output.{pointFields, pieceLine}
+use Rattle.fields.specs.Spell.{numberField, floatField, putAt}
+use Rattle.fields.proofs.Spelling.{put-one, put-two, put-over, number-length, u32-places, few-places, float-length}
 
 -- l′ is l with s from place `at` on, and r is the place after it
 abbrev pub Wrote : List ℕ → ℕ → List ℕ → List ℕ → ℕ → Type 0

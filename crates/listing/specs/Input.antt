@@ -5,7 +5,7 @@ use mathlib.Core.List.{List, [], _∷_, _++_}
 use lib.IntN.{ℤ}
 use lib.ListN.{length, drop}
 use lib.Ieee.{Float, ofBits, binary64}
-use Rattle.listing.specs.Field.{Read, got, wrong}
+use Rattle.fields.specs.Field.{Read, got, wrong}
 use Rattle.listing.specs.Line.{begins, busNames, branchNames, Bus, Branch, busLine, branchLine}
 
 -- the buses of a network: substations, the bits of kv, and x and y in turn
@@ -86,10 +86,6 @@ parsed t =
       | true ↦ withBuses (busLines (drop 11 t))
       | false ↦ record { wellFormed = false; buses = noBuses; branches = noBranches }
     ]
-
--- a list written over the front of another
-unfoldable pub over : {A : Type 0} → List A → List A → List A
-over s l = s ++ drop (length s) l
 
 -- the lines of a kind that were read, whether or not one after them is malformed
 unfoldable pub read : {A : Type 0} → Lines A → A

@@ -1,5 +1,4 @@
-pub mod Field
 pub mod Line
 pub mod Input
-pub mod Places
+pub mod LinePlaces
 pub mod Output

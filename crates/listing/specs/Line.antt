@@ -4,7 +4,7 @@ use mathlib.Core.Bool.{Bool, true, false, _&&_}
 use mathlib.Core.List.{List, [], _∷_}
 use lib.Dec.{eqb}
 use lib.IntN.{ℤ}
-use Rattle.listing.specs.Field.{Read, got, wrong, whole, pattern, busNumber}
+use Rattle.fields.specs.Field.{Read, got, wrong, whole, pattern, busNumber}
 
 -- whether a text begins with the given bytes
 unfoldable pub begins : List ℕ → List ℕ → Bool

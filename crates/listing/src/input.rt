@@ -3,14 +3,15 @@ ghost use mathlib.Core.Path.{_≡_};
 ghost use Prim.Native.Nat.{_+_, _*_, _<_, _≤_};
 ghost use lib.ListN.{length, drop, set};
 ghost use lib.Ieee.{ofBits, binary64};
-ghost use Rattle.listing.specs.Input.{busLines, branchLines, parsed, over, read as readOf, counted};
+ghost use Rattle.listing.specs.Input.{busLines, branchLines, parsed, read as readOf, counted};
+ghost use Rattle.order.specs.Over.{over};
 ghost use Rattle.listing.specs.Line.{begins as beginsWith, branchNames};
-ghost use Rattle.listing.specs.Places.{blockOf, answer};
-use super::line::BranchLine;
-use super::line::BusLine;
-use super::line::begins;
-use super::line::branch_line;
-use super::line::bus_line;
+ghost use Rattle.listing.specs.LinePlaces.{blockOf, answer};
+use crate::line::BranchLine;
+use crate::line::BusLine;
+use crate::line::begins;
+use crate::line::branch_line;
+use crate::line::bus_line;
 use float::bits::of_bits;
 
 // The most buses and branches that a text may have.

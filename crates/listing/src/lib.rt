@@ -1,6 +1,4 @@
-// The text that the program drawlist reads, and the text that it writes.
-mod field;
+// The lines of the text that the program drawlist reads and writes.
 pub mod input;
 mod line;
 pub mod output;
-mod spell;

@@ -2,12 +2,12 @@
 ghost use mathlib.Core.Path.{_≡_};
 ghost use lib.ListN.{drop};
 ghost use Rattle.listing.specs.Line.{begins as beginsWith, busLine, branchLine};
-ghost use Rattle.listing.specs.Places.{busOf, branchOf};
-use super::field::Field;
-use super::field::Signed;
-use super::field::bus_number;
-use super::field::pattern;
-use super::field::whole;
+ghost use Rattle.listing.specs.LinePlaces.{busOf, branchOf};
+use fields::field::Field;
+use fields::field::Signed;
+use fields::field::bus_number;
+use fields::field::pattern;
+use fields::field::whole;
 
 pub enum BusLine {
     Bus {

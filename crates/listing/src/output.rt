@@ -3,10 +3,11 @@ ghost use mathlib.Core.Path.{_≡_};
 ghost use Prim.Native.Nat.{_+_, _*_, _^_, _≤_, _<_};
 ghost use lib.ListN.{length, getD};
 ghost use Rattle.order.specs.Table.{joined};
-ghost use Rattle.listing.specs.Input.{over};
-ghost use Rattle.listing.specs.Output.{putAt, pointFields, pieceLine, listing, refusal};
-use super::spell::float_field;
-use super::spell::number_field;
+ghost use Rattle.order.specs.Over.{over};
+ghost use Rattle.listing.specs.Output.{pointFields, pieceLine, listing, refusal};
+ghost use Rattle.fields.specs.Spell.{putAt};
+use fields::spell::float_field;
+use fields::spell::number_field;
 use geometry::number_at;
 
 // The bytes s; the place after them.

@@ -15,7 +15,7 @@ use Rattle.float.specs.Ops.{f0, orderKey}
 use Rattle.float.proofs.Keys.{key-cases, order-key-le, order-key-lt, order-key-injective}
 use Rattle.float.proofs.Extremes.{min-first, min-second}
 use Rattle.order.specs.Order.{pick}
-use Rattle.neighbours.specs.Near.{nearer}
+use Rattle.proximity.specs.Near.{nearer}
 use Rattle.neighbours.specs.Sweep.{Least}
 
 truth : (b : Bool) → b ≡ true → T b

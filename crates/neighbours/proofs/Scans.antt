@@ -12,7 +12,7 @@ use Rattle.float.specs.Ops.{_⊖_, f0}
 use Rattle.order.specs.Order.{pick}
 use Rattle.order.specs.Table.{howMany}
 use Rattle.order.proofs.Tables.{howMany-yes, howMany-no, howMany-le}
-use Rattle.neighbours.specs.Near.{distance, nearer, nearestTo, near, within, neighbours}
+use Rattle.proximity.specs.Near.{distance, nearer, nearestTo, near, within, neighbours}
 
 module _ (ps : List Float) (i : ℕ) where
   -- the distance to point j, as the code has it

@@ -19,7 +19,7 @@ use Rattle.float.proofs.Signs.{zero-bits}
 use Rattle.float.proofs.Keys.{le-neg, le-self, finite-no-nan}
 use Rattle.float.proofs.Sums.{sub-mono, le-number}
 use Rattle.neighbours.specs.Sweep.{xAt, Swept, away}
-use Rattle.neighbours.proofs.Sides.{cycle, hypot-past, raise}
+use Rattle.proximity.proofs.Sides.{cycle, hypot-past, raise}
 use Rattle.neighbours.proofs.Places.{place-below, place-rising}
 
 -- of fractions b / p below a / q, and a / q at most v / r

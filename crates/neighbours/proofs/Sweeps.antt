@@ -20,7 +20,7 @@ use Rattle.order.specs.Order.{pick}
 use Rattle.order.specs.Table.{howMany}
 use Rattle.order.proofs.Merging.{le-or-lt}
 use Rattle.order.proofs.Tables.{howMany-yes, howMany-no, howMany-zero, howMany-ext}
-use Rattle.neighbours.specs.Near.{distance, nearer, nearestTo, nearest, near, within}
+use Rattle.proximity.specs.Near.{distance, nearer, nearestTo, nearest, near, within}
 use Rattle.neighbours.specs.Sweep.{xAt, Swept, away, inReach, Others, Least}
 use Rattle.neighbours.proofs.Scans.{reach}
 use Rattle.neighbours.proofs.Leasts.{least-above, least-none, least-same, least-more, least-one}

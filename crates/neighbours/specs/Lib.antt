@@ -1,3 +1,1 @@
-pub mod Overlap
-pub mod Near
 pub mod Sweep

@@ -1,60 +1,14 @@
-// Neighbours: boxes that overlap, the distance to the nearest other point, and how many points are near.
+// Neighbours: the distance to the nearest other point, and how many points are near.
 ghost use mathlib.Core.Path.{_≡_};
 ghost use mathlib.Core.List.{_++_};
 ghost use Prim.Native.Nat.{_+_, _*_, _^_, _<_, _≤_};
 ghost use lib.ListN.{length, drop};
-ghost use lib.Ieee.{le};
-ghost use Rattle.float.specs.Hypot.{hypotOf};
 ghost use Rattle.order.specs.Table.{table};
-ghost use Rattle.neighbours.specs.Overlap.{meet, overlap};
-ghost use Rattle.neighbours.specs.Near.{NotPast, nearer, nearest, within, neighbours};
-use float::hypot::hypot;
-use float::small::max;
-use float::small::min;
-use geometry::Box;
+ghost use Rattle.proximity.specs.Near.{nearest, within, neighbours};
+use proximity::closer;
+use proximity::is_near;
 
 mod sweep;
-
-// Whether each of l0 to r0 and l1 to r1 begins before the other ends.
-fn meet(l0: f64, r0: f64, l1: f64, r1: f64) -> bool
-    ensures { λ r. ⌜ r ≡ meet l0 r0 l1 r1 ⌝ }
-{
-    if l0 < r1 {
-        return l1 < r0;
-    }
-    false
-}
-
-// Whether two boxes strictly overlap.
-pub fn overlaps(p: Box, q: Box) -> bool
-    ensures { λ r. ⌜ r ≡ overlap p q ⌝ }
-{
-    if meet(p.left, p.right, q.left, q.right) {
-        return meet(p.top, p.bottom, q.top, q.bottom);
-    }
-    false
-}
-
-// The longer of two sides x and y, which the hypotenuse is not below. Branch free.
-fn longer(x: f64, y: f64) -> f64
-    ensures { λ r. ⌜ NotPast r (hypotOf x y) ⌝ }
-{
-    max(max(x, -x), max(y, -y))
-}
-
-// The lesser of best and the length of (x, y), where that is above 0. A side longer than best settles it.
-fn closer(best: f64, x: f64, y: f64) -> f64
-    ensures { λ r. ⌜ r ≡ nearer best (hypotOf x y) ⌝ }
-{
-    if best < longer(x, y) {
-        return best;
-    }
-    let d = hypot(x, y);
-    if 0.0 < d {
-        return min(best, d);
-    }
-    best
-}
 
 // The least positive distance from point i to another of the first n, infinity if none.
 fn nearest_distance(points: &[f64], n: usize, i: usize) -> f64
@@ -106,16 +60,6 @@ pub fn nearest_neighbour_distances(
         return;
     }
     nearest_of_all(points, n, out);
-}
-
-// Whether the length of (x, y) is at most radius. A side longer than that settles it.
-fn is_near(x: f64, y: f64, radius: f64) -> bool
-    ensures { λ r. ⌜ r ≡ le (hypotOf x y) radius ⌝ }
-{
-    if radius < longer(x, y) {
-        return false;
-    }
-    hypot(x, y) <= radius
 }
 
 // How many others of the first n points are at most radius away from point i.

@@ -8,12 +8,12 @@ ghost use lib.Ieee.{lt};
 ghost use Rattle.float.specs.Small.{isFinite};
 ghost use Rattle.float.specs.Ops.{f0};
 ghost use Rattle.order.specs.Table.{table, howMany};
-ghost use Rattle.neighbours.specs.Near.{nearest, neighbours};
+ghost use Rattle.proximity.specs.Near.{nearest, neighbours};
 ghost use Rattle.neighbours.specs.Sweep.{Numbered, Swept, Others, Least, away, inReach};
-use crate::closer;
-use crate::is_near;
 use float::key::order_key;
 use float::small::is_finite;
+use proximity::closer;
+use proximity::is_near;
 
 // Points to the first whose x is not finite, at most n: their order keys by x and their numbers. How many they are.
 fn keys_by_x(points: &[f64], n: usize, keys: &mut [u64], order: &mut [u32]) -> usize

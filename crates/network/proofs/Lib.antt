@@ -3,7 +3,9 @@ pub mod Views
 mod Signs
 pub mod Stations
 pub mod Branches
+pub mod KindLaw
 pub mod Counts
 pub mod Seeds
+pub mod SeedSizes
 mod Refusals
 pub mod Shapes

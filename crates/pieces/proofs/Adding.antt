@@ -18,7 +18,7 @@ use Rattle.runs.specs.Finite.{allOf, finitePoint}
 use Rattle.runs.specs.Views.{Ran}
 use Rattle.pieces.specs.declared.Totals.{Totals}
 use Rattle.pieces.specs.Pieces.{Put}
-use Rattle.pieces.specs.Requests.{RoomFor, Passed}
+use Rattle.pieces.specs.Passes.{RoomFor, Passed}
 use Rattle.pieces.proofs.Laws.{joined-before, all-zero, all-suc}
 use Rattle.pieces.proofs.Puts.{put-none, put-more}
 

@@ -22,13 +22,15 @@ use Rattle.network.proofs.Branches.{kind-safe}
 use Rattle.network.specs.Views.{pointsIn}
 use Rattle.runs.specs.Run.{Piece, apart, pieces, isLine, allPieces}
 use Rattle.runs.specs.Finite.{allOf, finitePoint}
-use Rattle.runs.specs.Lists.{flat, pieceNumbers, over, after}
+use Rattle.runs.specs.Lists.{flat, pieceNumbers, after}
+use Rattle.order.specs.Over.{over}
 use Rattle.runs.specs.Views.{Held, openFrom, internalFrom, lineFrom, runFrom, runIn, otherRun, waysOf, wayOf, Fits, Ran}
 use Rattle.runs.proofs.Paths.{run-few, other-is}
 use Rattle.pieces.specs.declared.Totals.{Totals}
-use Rattle.pieces.specs.declared.request.LineRequest.{LineRequest}
+use Rattle.requests.specs.declared.request.LineRequest.{LineRequest}
 use Rattle.pieces.specs.Pieces.{piece, branchOf, runAt, runsIn, passRun, passAt, passIn, passFinite, othersIn, othersFinite, blockIn, blockFinite, FitAll, RoomIf, Put}
-use Rattle.pieces.specs.Requests.{Lists, lists, nothingAt, lineRequest, requestOf, FilledTo, requestRun, requestPieces, listPieces, listFinite, Asks, AskAll, RoomFor, Passed}
+use Rattle.requests.specs.Requests.{Lists, lists, nothingAt, lineRequest, requestOf, FilledTo}
+use Rattle.pieces.specs.Passes.{requestRun, requestPieces, listPieces, listFinite, Asks, AskAll, RoomFor, Passed}
 use Rattle.pieces.proofs.Laws.{pieces-none, joined-mono, joined-at-most, all-zero, all-suc}
 use Rattle.pieces.proofs.Puts.{put-of, length-flat}
 use Rattle.pieces.proofs.Adding.{Going, go-none, go-room, go-more, go-end, passed-of, passed-none, passed-more, ran-room, ran-passed}

@@ -1,6 +1,5 @@
 // Pieces of all runs: counted, then written.
 pub mod lines;
-pub mod request;
 
 ghost use mathlib.Core.Path.{_≡_};
 ghost use mathlib.Core.Bool.{_&&_};
@@ -14,7 +13,7 @@ ghost use Rattle.runs.specs.Run.{apart, pieces, allPieces};
 ghost use Rattle.runs.specs.Lists.{flat, pieceNumbers, after};
 ghost use Rattle.runs.specs.Views.{held, lead, Stands};
 ghost use Rattle.pieces.specs.Pieces.{piece, branchOf, Counted, runsIn, othersIn, othersFinite, FitAll, RoomIf, Put};
-ghost use Rattle.pieces.specs.Requests.{RoomFor, Passed};
+ghost use Rattle.pieces.specs.Passes.{RoomFor, Passed};
 use crate::lines::lead_lines;
 use float::small::abs;
 use float::small::is_finite;

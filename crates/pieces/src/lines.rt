@@ -6,13 +6,13 @@ ghost use lib.ListN.{length};
 ghost use Rattle.runs.specs.Finite.{allOf, finitePoint};
 ghost use Rattle.runs.specs.Views.{held, lead, Stands};
 ghost use Rattle.pieces.specs.Pieces.{FitAll, passIn, passFinite, blockIn, blockFinite};
-ghost use Rattle.pieces.specs.Requests.{requestRun, requestPieces, listPieces, listFinite, Asks, AskAll, RoomFor, Passed};
+ghost use Rattle.pieces.specs.Passes.{requestRun, requestPieces, listPieces, listFinite, Asks, AskAll, RoomFor, Passed};
 use crate::Totals;
-use crate::request::LineRequest;
-use crate::request::request_at;
-use crate::request::requests_from;
 use crate::tally;
 use order::at;
+use requests::request::LineRequest;
+use requests::request::request_at;
+use requests::request::requests_from;
 use runs::run::run_line;
 
 // Leads the line that a request asks for, and adds its run to the totals.

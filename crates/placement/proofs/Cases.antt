@@ -12,9 +12,9 @@ use Rattle.order.specs.Order.{insertBy, sortBy, upFrom}
 use Rattle.order.specs.Table.{tableFrom}
 use Rattle.geometry.specs.declared.Point.{Point}
 use Rattle.geometry.specs.Plane.{origin}
-use Rattle.neighbours.specs.Overlap.{meet, overlap}
-use Rattle.placement.specs.declared.offset.Offset.{Offset}
-use Rattle.placement.specs.Offset.{offsetNumber, offsetOf, gridNumber, offsetGrid, offsets}
+use Rattle.proximity.specs.Overlap.{meet, overlap}
+use Rattle.offsets.specs.declared.offset.Offset.{Offset}
+use Rattle.offsets.specs.Offset.{offsetNumber, offsetOf, gridNumber, offsetGrid, offsets}
 use Rattle.placement.specs.Place.{frameFor, frames, boxOn, buffered, free, place, firstFree, placeFor, boxOf, nextPlace, placesTo, places}
 
 abbrev offset : ℤ → ℤ → Offset

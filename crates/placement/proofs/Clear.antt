@@ -12,7 +12,7 @@ use Rattle.float.specs.Ops.{_⊕_, _⊖_, _⊗_}
 use Rattle.geometry.specs.declared.Point.{Point}
 use Rattle.geometry.specs.declared.Box.{Box}
 use Rattle.geometry.specs.Plane.{edge, shrunk}
-use Rattle.neighbours.specs.Overlap.{meet, overlap}
+use Rattle.proximity.specs.Overlap.{meet, overlap}
 use Rattle.network.specs.Options.{buffer}
 use Rattle.placement.specs.Place.{Frame, boxOn, buffered}
 use Rattle.placement.proofs.Rank.{rank, Number, Plus, lt-rank, add-up, sub-down, add-number, sub-number, finite-number}

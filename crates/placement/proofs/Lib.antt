@@ -1,12 +1,9 @@
-pub mod Sorting
-pub mod Grids
-pub mod Queue
 pub mod Rest
 pub mod Sizing
 pub mod Searching
 pub mod Placing
-pub mod OffsetLaw
 pub mod PlaceLaw
+pub mod PlaceSizes
 pub mod Cases
 pub mod Rank
 pub mod Clear

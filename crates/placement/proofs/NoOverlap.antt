@@ -20,16 +20,17 @@ use Rattle.order.proofs.Tables.{getD-table}
 use Rattle.geometry.specs.declared.Point.{Point}
 use Rattle.geometry.specs.declared.Box.{Box}
 use Rattle.geometry.specs.Plane.{shrunk}
-use Rattle.neighbours.specs.Overlap.{overlap}
+use Rattle.proximity.specs.Overlap.{overlap}
 use Rattle.network.specs.Options.{buffer}
 use Rattle.network.specs.Words.{isOccupied, occupied}
 use Rattle.network.specs.Seed.{placeAt}
 use Rattle.stations.specs.Column.{falling}
 use Rattle.units.specs.Size.{Size}
-use Rattle.placement.specs.declared.offset.Offset.{Offset}
-use Rattle.placement.specs.Place.{topTo, placementOrder, Frame, frameAt, boxOn, boxOf, buffered, places, foundFree, noBox, boxes, boxIn}
-use Rattle.placement.specs.Views.{Turns}
-use Rattle.placement.proofs.Queue.{order-turns}
+use Rattle.offsets.specs.declared.offset.Offset.{Offset}
+use Rattle.placement.specs.Place.{Frame, frameAt, boxOn, boxOf, buffered, places, foundFree, noBox, boxes, boxIn}
+use Rattle.turns.specs.Turns.{topTo, placementOrder}
+use Rattle.turns.specs.Listed.{Turns}
+use Rattle.turns.proofs.Queue.{order-turns}
 use Rattle.placement.proofs.Rank.{Plus}
 use Rattle.placement.proofs.Clear.{Whole, over-own, over-other}
 use Rattle.placement.proofs.PlaceLaw.{clear-of}

@@ -18,14 +18,14 @@ use Rattle.order.specs.Order.{pick}
 use Rattle.geometry.specs.declared.Point.{Point}
 use Rattle.geometry.specs.declared.Box.{Box}
 use Rattle.geometry.specs.Plane.{origin}
-use Rattle.neighbours.specs.Overlap.{overlap}
+use Rattle.proximity.specs.Overlap.{overlap}
 use Rattle.network.specs.Seed.{placeAt}
 use Rattle.units.specs.Size.{Size}
-use Rattle.placement.specs.declared.offset.Offset.{Offset}
+use Rattle.offsets.specs.declared.offset.Offset.{Offset}
 use Rattle.placement.specs.declared.search.Found.the-variants.{At}
 use Rattle.placement.specs.Place.{Frame, free, buffered, place, firstFree, orNext, placeFor, boxOn, frameAt, boxOf, nextPlace, placesTo, places, foundFree}
-use Rattle.placement.specs.Views.{Turns}
-use Rattle.placement.proofs.Sorting.{map-agree}
+use Rattle.turns.specs.Listed.{Turns}
+use Rattle.order.proofs.Sorting.{map-agree}
 use Rattle.placement.proofs.Placing.{all-of}
 
 -- ---- the search

@@ -25,10 +25,11 @@ use Rattle.network.proofs.Views.{length-points, getD-points, points-set, boxes-
 use Rattle.units.specs.Size.{Size, sizeAt}
 use Rattle.units.specs.Views.{sizeIn, sizesIn, scalesIn}
 use Rattle.units.proofs.Occupied.{is-occupied, not-occupied}
-use Rattle.placement.specs.declared.offset.Offset.{Offset}
+use Rattle.offsets.specs.declared.offset.Offset.{Offset}
 use Rattle.placement.specs.Place.{Frame, frameFor, frames, frameAt, boxOn, boxOf, placeFor, nextPlace, placesTo, places, noBox, boxes}
-use Rattle.placement.specs.Views.{frameIn, framesIn, putBox, Turns, Stood}
-use Rattle.placement.proofs.Sorting.{map-agree}
+use Rattle.placement.specs.Views.{frameIn, framesIn, putBox, Stood}
+use Rattle.turns.specs.Listed.{Turns}
+use Rattle.order.proofs.Sorting.{map-agree}
 
 pub all-of : (P : ℕ → Type 0) (l : List ℕ) → ((i : ℕ) → i < length l → P (getD l i 0)) → All P l
 all-of P [] h = tt

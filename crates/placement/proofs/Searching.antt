@@ -9,13 +9,13 @@ use Rattle.order.specs.Order.{pick}
 use Rattle.geometry.specs.declared.Point.{Point}
 use Rattle.geometry.specs.declared.Box.{Box}
 use Rattle.geometry.specs.Plane.{boxAt}
-use Rattle.neighbours.specs.Overlap.{overlap}
+use Rattle.proximity.specs.Overlap.{overlap}
 use Rattle.network.specs.Views.{boxesIn}
-use Rattle.placement.specs.declared.offset.Offset.{Offset}
+use Rattle.offsets.specs.declared.offset.Offset.{Offset}
 use Rattle.placement.specs.declared.search.Found.{Found}
 use Rattle.placement.specs.declared.search.Found.the-variants.{At, Nowhere}
 use Rattle.placement.specs.Place.{Frame, free, place, buffered, firstFree, orNext, placeFor}
-use Rattle.placement.specs.Views.{offsetAt, offsetsIn}
+use Rattle.offsets.specs.OffsetList.{offsetAt, offsetsIn}
 use Rattle.placement.proofs.Rest.{rest, rest-start, rest-more, rest-end}
 
 -- ---- whether p overlaps none of the first n boxes

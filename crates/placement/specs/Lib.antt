@@ -1,4 +1,3 @@
-pub mod Offset
 pub mod Place
 pub mod Views
 pub mod Modest

@@ -1,35 +1,23 @@
--- 5. Stations are placed by top `kv` falling, bus count falling, number; each at the first free place. Definitions only.
-use Prim.Native.Nat.{ℕ, zero, suc, _+_, _-_, max}
+-- 5. Each station stands at the first free place. Definitions only.
+use Prim.Native.Nat.{ℕ, zero, suc}
 use mathlib.Core.Bool.{Bool, true, not, _&&_}
 use mathlib.Core.List.{List, [], _∷_, map}
-use lib.Dec.{eqb}
 use lib.ListN.{length, getD, take, set}
 use lib.Ieee.{Float}
 use Rattle.float.specs.Ops.{int, f0, f1, f2, f4, _⊕_, _⊖_, _⊗_, _⊘_}
-use Rattle.order.specs.Order.{pick, sortBy}
+use Rattle.order.specs.Order.{pick}
 use Rattle.order.specs.Table.{table}
 use Rattle.geometry.specs.declared.Point.{Point}
 use Rattle.geometry.specs.declared.Box.{Box}
 use Rattle.geometry.specs.Plane.{point}
-use Rattle.neighbours.specs.Overlap.{overlap}
+use Rattle.proximity.specs.Overlap.{overlap}
 use Rattle.network.specs.Options.{buffer}
-use Rattle.network.specs.Words.{stationOf, isOccupied, occupied}
+use Rattle.network.specs.Words.{isOccupied}
 use Rattle.network.specs.Seed.{placeAt}
-use Rattle.stations.specs.Column.{voltage, falling}
 use Rattle.units.specs.Size.{Size, sizeAt, larger}
-use Rattle.placement.specs.declared.offset.Offset.{Offset}
+use Rattle.offsets.specs.declared.offset.Offset.{Offset}
 use Rattle.placement.specs.declared.search.Found.{Found}
 use Rattle.placement.specs.declared.search.Found.the-variants.{At, Nowhere}
-
--- the highest voltage of station s's buses among the first i
-unfoldable pub topTo : List ℕ → List ℕ → ℕ → ℕ → ℕ
-topTo sub kv s zero = 0
-topTo sub kv s (suc i) = let t = topTo sub kv s i in pick (eqb (stationOf sub i) s) (max t (voltage kv i)) t
-
--- the occupied stations in the order of their placement: each sort keeps the order before it among equals
-unfoldable pub placementOrder : List ℕ → List ℕ → List ℕ → List ℕ
-placementOrder sub kv counts =
-    sortBy (λ s. falling (topTo sub kv s (length sub))) (sortBy (λ s. falling (getD counts s 0)) (occupied counts))
 
 -- What a station's interior is drawn in: its half sides and its block f, unit × scale.
 pub record Frame : Type 0 where

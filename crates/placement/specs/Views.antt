@@ -1,29 +1,17 @@
--- How the lent work lists hold offsets, boxes, what the interiors are drawn in, and the order of placement. Definitions only.
-use Prim.Native.Nat.{ℕ, _+_, _*_, _<_}
+-- How the lent work lists hold boxes and what the interiors are drawn in. Definitions only.
+use Prim.Native.Nat.{ℕ, _+_, _*_}
 use mathlib.Core.Path.{_≡_}
 use mathlib.Core.List.{List}
-use lib.ListN.{length, getD, set, take}
+use lib.ListN.{getD, set}
 use lib.Ieee.{Float, nan}
-use Rattle.order.specs.Order.{keyAt}
-use Rattle.order.specs.Table.{table, howMany, which}
 use Rattle.geometry.specs.declared.Point.{Point}
 use Rattle.geometry.specs.declared.Box.{Box}
 use Rattle.geometry.specs.Plane.{pointAt}
-use Rattle.network.specs.Words.{isOccupied}
 use Rattle.network.specs.Views.{boxesIn}
-use Rattle.stations.specs.Column.{falling}
 use Rattle.units.specs.Size.{Size}
 use Rattle.units.specs.Views.{sizeIn, sizesIn, scalesIn}
-use Rattle.placement.specs.declared.offset.Offset.{Offset}
-use Rattle.placement.specs.Offset.{offsetOf}
+use Rattle.offsets.specs.declared.offset.Offset.{Offset}
 use Rattle.placement.specs.Place.{Frame, frameFor, frames, boxOn, placeFor}
-
--- the j-th offset: `sorted` holds places of `keys`, which holds offsets' numbers
-unfoldable pub offsetAt : List ℕ → List ℕ → ℕ → Offset
-offsetAt keys sorted j = offsetOf (getD keys (getD sorted j 0) 0)
-
-unfoldable pub offsetsIn : ℕ → List ℕ → List ℕ → List Offset
-offsetsIn c keys sorted = table (offsetAt keys sorted) c
 
 -- half sides, and with them the block f
 abbrev pub half : Float → Float → Size
@@ -42,17 +30,6 @@ frameIn unit l s = frameFor unit (getD l (3 * s + 2) nan) (sizeIn l s)
 
 abbrev pub framesIn : Float → ℕ → List Float → List Frame
 framesIn unit k l = frames unit (scalesIn k l) (sizesIn k l)
-
--- the c occupied stations lead the list o, and each station has its bus count's key
-pub record Listed (counts : List ℕ) (k : ℕ) (ks o : List ℕ) (c : ℕ) : Type 0 where
-  pub count : c ≡ howMany (isOccupied counts) k
-  pub listed : take c o ≡ which (isOccupied counts) k
-  pub keyed : (s : ℕ) → s < k → keyAt ks s ≡ falling (getD counts s 0)
-
--- an order of stations below k: each at most once
-pub record Turns (k : ℕ) (order : List ℕ) : Type 0 where
-  pub below : (i : ℕ) → i < length order → getD order i 0 < k
-  pub once : (i j : ℕ) → i < length order → j < length order → getD order i 0 ≡ getD order j 0 → i ≡ j
 
 -- Station s was placed as the p-th, by the boxes of those before it: its place stands in the list of places, its box in that of boxes, and all else is as it was.
 pub record Stood (unit : Float) (blocks : List Float) (os : List Offset) (s p : ℕ) (places₀ frames₀ places frames : List Float) : Type 0 where

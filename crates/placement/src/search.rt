@@ -3,17 +3,19 @@ ghost use mathlib.Core.Path.{_≡_};
 ghost use Prim.Native.Nat.{_+_, _*_, _≤_, _<_};
 ghost use lib.ListN.{length};
 ghost use Rattle.geometry.specs.Plane.{pointAt, boxAt};
-ghost use Rattle.neighbours.specs.Overlap.{overlap};
+ghost use Rattle.proximity.specs.Overlap.{overlap};
 ghost use Rattle.network.specs.Views.{countsIn, orderIn, pointsIn, boxesIn};
 ghost use Rattle.placement.specs.Place as Place;
 ghost use Rattle.placement.specs.Place.{free, boxOn, buffered, firstFree, placeFor};
-ghost use Rattle.placement.specs.Views.{half, frame, frameIn, framesIn, offsetsIn, putBox, Turns, Stood};
-use crate::offset::Offset;
-use crate::offset::offset_at;
+ghost use Rattle.placement.specs.Views.{half, frame, frameIn, framesIn, putBox, Stood};
+ghost use Rattle.offsets.specs.OffsetList.{offsetsIn};
+ghost use Rattle.turns.specs.Listed.{Turns};
 use float::small::max;
 use geometry::Box;
 use geometry::Point;
 use network::options::Options;
+use offsets::offset::Offset;
+use offsets::offset::offset_at;
 
 // A free place, or none.
 pub enum Found {

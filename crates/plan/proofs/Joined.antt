@@ -22,10 +22,12 @@ use Rattle.units.specs.Unit as Unit
 use Rattle.units.specs.Scale as Scale
 use Rattle.units.specs.Views.{sizesIn, scalesIn, rowCountsIn}
 use Rattle.units.proofs.Blocks.{sizes-view}
-use Rattle.placement.specs.declared.offset.Offset.{Offset}
-use Rattle.placement.specs.Offset.{offsets}
+use Rattle.offsets.specs.declared.offset.Offset.{Offset}
+use Rattle.offsets.specs.Offset.{offsets}
+use Rattle.turns.specs.Turns.{placementOrder}
 use Rattle.placement.specs.Place as Place
-use Rattle.placement.specs.Views.{offsetsIn, framesIn}
+use Rattle.placement.specs.Views.{framesIn}
+use Rattle.offsets.specs.OffsetList.{offsetsIn}
 use Rattle.plan.specs.Stages.{Interiors, Settled}
 
 module _ (o : Options) (sub kv : List ℕ) (from to : List ℤ) (service : List ℕ) (xy : List Float) (k : ℕ) where
@@ -67,7 +69,7 @@ module _ (o : Options) (sub kv : List ℕ) (from to : List ℤ) (service : List 
 
 pub settled-joined : (sub kv : List ℕ) (k r c : ℕ) (unit : Float) (search : ℕ) (blocks : List Float) (seeds : List Point) (st keys sorted : List ℕ) (places frames : List Float)
     → countsIn k st ≡ busCounts sub
-    → orderIn r st ≡ Place.placementOrder sub kv (busCounts sub)
+    → orderIn r st ≡ placementOrder sub kv (busCounts sub)
     → offsetsIn c keys sorted ≡ offsets search
     → pointsIn k places ≡ Place.places (framesIn unit k blocks) (offsetsIn c keys sorted) seeds (orderIn r st)
     → boxesIn k frames ≡ Place.boxes (framesIn unit k blocks) (countsIn k st) (pointsIn k places)

@@ -19,7 +19,8 @@ use Rattle.units.specs.Size as Size
 use Rattle.units.specs.Unit as Unit
 use Rattle.units.specs.Scale as Scale
 use Rattle.units.specs.Views.{sizesIn, scalesIn}
-use Rattle.placement.specs.Offset.{offsets}
+use Rattle.offsets.specs.Offset.{offsets}
+use Rattle.turns.specs.Turns.{placementOrder}
 use Rattle.placement.specs.Place as Place
 use Rattle.placement.specs.Views.{framesIn}
 
@@ -42,5 +43,5 @@ pub record Interiors (o : Options) (sub kv : List ℕ) (from to : List ℤ) (ser
 -- The stations' places and boxes, by their frames and seeds.
 pub record Settled (sub kv : List ℕ) (k : ℕ) (unit : Float) (search : ℕ) (blocks : List Float) (seeds : List Point) (stations : List ℕ) (places frames : List Float) : Type 0 where
   pub counts : countsIn k stations ≡ busCounts sub
-  pub placed : pointsIn k places ≡ Place.places (framesIn unit k blocks) (offsets search) seeds (Place.placementOrder sub kv (busCounts sub))
+  pub placed : pointsIn k places ≡ Place.places (framesIn unit k blocks) (offsets search) seeds (placementOrder sub kv (busCounts sub))
   pub boxes : boxesIn k frames ≡ Place.boxes (framesIn unit k blocks) (busCounts sub) (pointsIn k places)

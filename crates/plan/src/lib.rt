@@ -9,12 +9,12 @@ use network::options::Options;
 use network::refuse::finite_to;
 use network::seed::seeds;
 use network::words::bus_counts;
-use placement::offset::offset_order;
+use offsets::offset::offset_order;
 use placement::search::place_all;
 use placement::search::station_boxes;
-use placement::turns::placement_order;
 use stations::columns::columns;
 use stations::rows::rows;
+use turns::turns::placement_order;
 use units::units;
 
 // The unit of a drawing, and whether all seeds are finite.

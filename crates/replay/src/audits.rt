@@ -16,9 +16,9 @@ use crate::words::length_at;
 use crate::words::of_u32;
 use crate::words::past;
 use crate::words::word_at;
-use audit::answer::Audit;
-use audit::answer::Figures;
 use audit::quality::tx_layout_quality;
+use findings::answer::Audit;
+use findings::answer::Figures;
 
 fn figures_same(f: Figures, w: &[u64]) -> bool {
     word_at(w, 13) == 0
@@ -66,21 +66,12 @@ fn audit_agrees(
     let mut spacing = [0f64; 32];
     let mut relative = [0f64; 256];
     let mut stations = [0u32; 32];
-    let mut index = [0u32; 32];
+    let mut index = [0u32; 320];
     let mut spare = [0u32; 32];
     let mut keys = [0u64; 32];
     let mut points = [0f64; 32];
     let mut path = [0f64; 32];
     match tx_layout_quality(
-        sub,
-        kv,
-        from,
-        to,
-        xy,
-        boxes,
-        roles,
-        pieces,
-        branches,
         &mut displacement[0..displacement_end],
         &mut spacing[0..spacing_end],
         &mut relative[0..relative_end],
@@ -90,6 +81,15 @@ fn audit_agrees(
         &mut keys,
         &mut points,
         &mut path,
+        sub,
+        kv,
+        from,
+        to,
+        xy,
+        boxes,
+        roles,
+        pieces,
+        branches,
     ) {
         Audit::Audited(f) => figures_same(f, w)
             && lists_same(w, at, &displacement, &spacing, &relative),

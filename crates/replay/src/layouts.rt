@@ -24,8 +24,8 @@ use crate::words::u32_at;
 use crate::words::word_at;
 use drawing::answer::Answer;
 use drawing::answer::Plot;
-use layout::call::tx_schematic_layout;
 use network::options::Options;
+use small::held::draw_small;
 
 fn options(w: &[u64]) -> Options {
     Options {
@@ -38,73 +38,6 @@ fn options(w: &[u64]) -> Options {
         search: search_at(w, 6),
         route_iterations: u32_at(w, 7),
     }
-}
-
-// Draws with work lists of its own.
-fn with_work(
-    w: &[u64],
-    sub: &[u32],
-    kv: &[u64],
-    from: &[i64],
-    to: &[i64],
-    service: &[u8],
-    xy: &[f64],
-    corners: &[u32],
-    twins: &[u32],
-    positions: &mut [f64],
-    bars: &mut [f64],
-    boxes: &mut [f64],
-    scales: &mut [f64],
-    roles: &mut [u8],
-    pieces: &mut [f64],
-    branches: &mut [u32],
-) -> Answer {
-    let s = length_at(w, 24, 32);
-    let c = length_at(w, 23, 128);
-    let mut stations = [0u32; 32];
-    let mut buses = [0u32; 32];
-    let mut ends = [0u32; 320];
-    let mut sorted = [0u32; 1792];
-    let mut spare = [0u32; 1792];
-    let mut keys = [0u64; 1792];
-    let mut places = [0f64; 32];
-    let mut blocks = [0f64; 32];
-    let mut frames = [0f64; 32];
-    let mut path = [0f64; 160];
-    let mut numbers = [0u32; 384];
-    let mut crossings = [0f64; 128];
-    let mut ways = [0f64; 256];
-    tx_schematic_layout(
-        options(w),
-        sub,
-        kv,
-        from,
-        to,
-        service,
-        xy,
-        corners,
-        twins,
-        positions,
-        bars,
-        boxes,
-        scales,
-        roles,
-        pieces,
-        branches,
-        &mut stations[0..s],
-        &mut buses,
-        &mut ends,
-        &mut sorted,
-        &mut spare,
-        &mut keys,
-        &mut places,
-        &mut blocks,
-        &mut frames,
-        &mut path,
-        &mut numbers,
-        &mut crossings[0..c],
-        &mut ways,
-    )
 }
 
 fn plot_same(p: Plot, w: &[u64]) -> bool {
@@ -172,8 +105,17 @@ fn drawn_agrees(
     let mut roles = [0u8; 64];
     let mut pieces = [0f64; 1024];
     let mut branches = [0u32; 256];
-    match with_work(
-        w,
+    match draw_small(
+        &mut positions[0..positions_end],
+        &mut bars[0..bars_end],
+        &mut boxes[0..boxes_end],
+        &mut scales[0..scales_end],
+        &mut roles[0..roles_end],
+        &mut pieces[0..pieces_end],
+        &mut branches[0..branches_end],
+        options(w),
+        length_at(w, 24, 128),
+        length_at(w, 23, 128),
         sub,
         kv,
         from,
@@ -182,13 +124,6 @@ fn drawn_agrees(
         xy,
         corners,
         twins,
-        &mut positions[0..positions_end],
-        &mut bars[0..bars_end],
-        &mut boxes[0..boxes_end],
-        &mut scales[0..scales_end],
-        &mut roles[0..roles_end],
-        &mut pieces[0..pieces_end],
-        &mut branches[0..branches_end],
     ) {
         Answer::Drawn(p) => plot_same(p, w)
             && lists_same(

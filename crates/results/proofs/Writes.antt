@@ -10,7 +10,8 @@ use lib.ListN.{length, set, drop, take, replicate, length-append, length-set, le
 use lib.Seq.{sets, sets-eq, length-sets, take-at, drop-append-add, drop-drop}
 use Rattle.order.specs.Table.{table}
 use Rattle.order.proofs.Tables.{table-zero, table-suc}
-use Rattle.runs.specs.Lists.{flat, over, after}
+use Rattle.runs.specs.Lists.{flat, after}
+use Rattle.order.specs.Over.{over}
 
 module _ {A : Type 0} where
   -- the first n elements of l are new, the others those of old

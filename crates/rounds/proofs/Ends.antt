@@ -14,9 +14,10 @@ use Rattle.order.proofs.Tables.{table-ext}
 use Rattle.network.specs.Views.{pointsIn, fromRowsIn, toRowsIn}
 use Rattle.network.specs.Refusal.{everyFinite}
 use Rattle.runs.specs.Finite.{allOf}
-use Rattle.routing.specs.Route.{Scene, Routing, Crossing, pointOf, roundsTo, routing}
-use Rattle.routing.specs.Views.{grid, sceneIn, Stored}
-use Rattle.rounds.specs.Held.{Held, held, pointHeld, pointIn, roundsIn, stationIn, Ready, Grouped, Entered}
+use Rattle.crossings.specs.Route.{Scene, Routing, Crossing, pointOf, roundsTo, routing}
+use Rattle.crossings.specs.Views.{grid, sceneIn, Stored}
+use Rattle.wishes.specs.Held.{Held, held, pointHeld, pointIn, roundsIn, stationIn, Ready, Entered}
+use Rattle.grouping.specs.Grouped.{Grouped}
 use Rattle.rounds.proofs.Meaning.{Means, point-is, rounds-are}
 use Rattle.rounds.proofs.Holding.{G, S, R, H, means, ready}
 

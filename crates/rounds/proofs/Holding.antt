@@ -27,10 +27,12 @@ use Rattle.network.specs.Words.{kindOf}
 use Rattle.network.specs.Views.{boxesIn}
 use Rattle.network.proofs.Views.{getD-boxes}
 use Rattle.placement.specs.Place.{boxIn, noBox}
-use Rattle.routing.specs.Route as Route
-use Rattle.routing.specs.Route.{Scene, Routing, Keyed, Crossing, Path, noChannel, noCrossing, noPath, routing, makeChannel, crossingAt, channelAt, pathAt, centreAt, stationAt, members}
-use Rattle.routing.specs.Views.{Grid, grid, gapOf, exitAt, lineBetween, lineFor, lineIn, linesIn, sceneIn, Edged, Stored}
-use Rattle.rounds.specs.Held.{Held, held, edgeIn, startIn, edgeHeld, startHeld, lowIn, highIn, stationIn, memberIn, rangeIn, Boxed, exitFrom, lineExit, exitFor, exitIn, Ready, Grouped, Entered}
+use Rattle.crossings.specs.Route as Route
+use Rattle.crossings.specs.Route.{Scene, Routing, Keyed, Crossing, Path, noChannel, noCrossing, noPath, routing, makeChannel, crossingAt, channelAt, pathAt, centreAt, stationAt, members}
+use Rattle.crossings.specs.Views.{Grid, grid, exitAt, lineBetween, lineFor, lineIn, linesIn, sceneIn, Edged, Stored}
+use Rattle.crossings.specs.Gap.{gapOf}
+use Rattle.wishes.specs.Held.{Held, held, edgeIn, edgeHeld, startHeld, lowIn, highIn, stationIn, rangeIn, Boxed, exitFrom, lineExit, exitFor, exitIn, Ready, Entered}
+use Rattle.grouping.specs.Grouped.{startIn, memberIn, Grouped}
 use Rattle.rounds.proofs.Routed.{Traced, routed}
 use Rattle.rounds.proofs.Meaning.{Means}
 

@@ -1,8 +1,4 @@
 -- Laws of the rounds of spacing.
-mod Exits
-mod Wishes
-mod Tabling
-mod Grouping
 mod Ranges
 mod Putting
 mod Pointing

@@ -11,7 +11,8 @@ use Rattle.order.proofs.Tables.{length-table}
 use Rattle.channel.specs.declared.Channel.{Channel}
 use Rattle.channel.specs.Space.{wishOrder, inOrder, spaced, putAll}
 use Rattle.channel.proofs.Spacing.{length-spaced, length-order, length-inOrder}
-use Rattle.rounds.specs.Held.{Held, edgeHeld, startHeld, memberIn, wishIn, rangeIn, spaceBy, spaceIn, spacedIn, roundsIn}
+use Rattle.wishes.specs.Held.{Held, edgeHeld, startHeld, wishIn, rangeIn, spaceBy, spaceIn, spacedIn, roundsIn}
+use Rattle.grouping.specs.Grouped.{memberIn}
 
 -- by its wishes, taken before any place changes
 made-by : (range : Channel) (at : ℕ → ℕ) (n : ℕ) (wish : ℕ → Float) (ps ps′ ways ways₁ ways₂ : List Float) (sorted sorted₂ : List ℕ)

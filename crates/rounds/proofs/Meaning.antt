@@ -23,8 +23,9 @@ use Rattle.geometry.specs.Cross.{param, placeOr}
 use Rattle.channel.specs.declared.Channel.{Channel}
 use Rattle.channel.specs.Space.{wishOrder, inOrder, spaced, putAll}
 use Rattle.channel.proofs.Spacing.{length-order, wish-below}
-use Rattle.routing.specs.Route.{Scene, Line, Routing, Keyed, Crossing, Path, crossingAt, channelAt, pathAt, centreAt, pointOn, pointOf, members, exitOf, wish, spaceOne, spacedTo, roundsTo}
-use Rattle.rounds.specs.Held.{Held, edgeHeld, startHeld, pointHeld, lowIn, highIn, between, memberIn, rangeIn, pointIn, exitIn, beforeIn, behindIn, wishIn, spaceBy, spaceIn, spacedIn, roundsIn}
+use Rattle.crossings.specs.Route.{Scene, Line, Routing, Keyed, Crossing, Path, crossingAt, channelAt, pathAt, centreAt, pointOn, pointOf, members, exitOf, wish, spaceOne, spacedTo, roundsTo}
+use Rattle.wishes.specs.Held.{Held, edgeHeld, startHeld, pointHeld, lowIn, highIn, between, rangeIn, pointIn, exitIn, beforeIn, behindIn, wishIn, spaceBy, spaceIn, spacedIn, roundsIn}
+use Rattle.grouping.specs.Grouped.{memberIn}
 
 -- what the lists say of the routing, crossing by crossing and channel by channel
 pub record Means (S : Scene) (r : Routing) (stations : List ℕ) (H : Held) : Type 0 where

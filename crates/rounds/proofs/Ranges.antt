@@ -13,8 +13,8 @@ use Rattle.geometry.specs.Plane.{pointAt, boxAt}
 use Rattle.channel.specs.declared.Channel.{Channel}
 use Rattle.channel.specs.Channel.{channelOf}
 use Rattle.mesh.specs.Mesh.{lowAt, highAt}
-use Rattle.routing.specs.Views.{gapOf}
-use Rattle.rounds.specs.Held.{lowIn, highIn, stationIn, rangeIn, Boxed}
+use Rattle.crossings.specs.Gap.{gapOf}
+use Rattle.wishes.specs.Held.{lowIn, highIn, stationIn, rangeIn, Boxed}
 
 part-at : (l : List Float) (a n i : ℕ) → i < n → getD (take n (drop a l)) i nan ≡ getD l (a + i) nan
 part-at l a n i h = getD-take n (drop a l) i nan h ∙ getD-drop a l i nan

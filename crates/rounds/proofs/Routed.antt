@@ -15,7 +15,7 @@ use Rattle.order.proofs.Merging.{le-or-lt}
 use Rattle.geometry.specs.Plane.{pointAt}
 use Rattle.mesh.specs.Mesh.{lowAt, highAt}
 use Rattle.walk.specs.Trace.{Walk, traced}
-use Rattle.routing.specs.Route.{Scene, Line, Routing, Keyed, Crossing, Path, noChannel, noCrossing, noPath, noRouting, placeIn, numberOf, makeChannel, withChannel, crossingOf, cross, crossAll, addWalk, addBranch, tracedTo, routing}
+use Rattle.crossings.specs.Route.{Scene, Line, Routing, Keyed, Crossing, Path, noChannel, noCrossing, noPath, noRouting, placeIn, numberOf, makeChannel, withChannel, crossingOf, cross, crossAll, addWalk, addBranch, tracedTo, routing}
 
 -- ---- one element more
 

@@ -1,7 +1,5 @@
 // The rounds of spacing: crossings move along their channels towards their wishes.
-pub mod group;
 pub mod space;
-pub mod wish;
 
 ghost use mathlib.Core.Path.{_≡_};
 ghost use Prim.Native.Nat.{_+_, _*_, _^_, _≤_, _<_};
@@ -10,12 +8,12 @@ ghost use Rattle.float.specs.Small.{isFinite};
 ghost use Rattle.order.specs.Table.{table, strided};
 ghost use Rattle.network.specs.Views.{pointsIn, fromRowsIn, toRowsIn};
 ghost use Rattle.runs.specs.Finite.{allOf};
-ghost use Rattle.routing.specs.Route.{pointOf, roundsTo, routing};
-ghost use Rattle.routing.specs.Views.{grid, sceneIn};
-ghost use Rattle.rounds.specs.Held.{Entered};
-use crate::group::group;
+ghost use Rattle.crossings.specs.Route.{pointOf, roundsTo, routing};
+ghost use Rattle.crossings.specs.Views.{grid, sceneIn};
+ghost use Rattle.wishes.specs.Held.{Entered};
 use crate::space::put_points;
 use crate::space::rounds;
+use grouping::group::group;
 use network::refuse::finite_to;
 
 // Spaces all crossings of the routing that the lists hold, so many rounds, and puts their points into `ways`; whether all their places are finite. `sorted`, `spare` and `keys` are work lists.

@@ -6,13 +6,10 @@ ghost use lib.ListN.{length, getD, take, drop};
 ghost use Rattle.order.specs.Table.{table};
 ghost use Rattle.channel.specs.Space.{putAll};
 ghost use Rattle.network.specs.Views.{pointsIn};
-ghost use Rattle.routing.specs.Views.{grid, gapOf};
-ghost use Rattle.rounds.specs.Held.{held, edgeIn, startIn, stationIn, memberIn, pointIn, wishIn, rangeIn, Boxed, Ready, spaceIn, spacedIn, roundsIn};
-use crate::wish::edge_of;
-use crate::wish::high_at;
-use crate::wish::low_at;
-use crate::wish::point_of;
-use crate::wish::wish_of;
+ghost use Rattle.crossings.specs.Views.{grid};
+ghost use Rattle.crossings.specs.Gap.{gapOf};
+ghost use Rattle.wishes.specs.Held.{held, edgeIn, stationIn, pointIn, wishIn, rangeIn, Boxed, Ready, spaceIn, spacedIn, roundsIn};
+ghost use Rattle.grouping.specs.Grouped.{startIn, memberIn};
 use channel::Channel;
 use channel::ends::channel;
 use channel::space::space_sorted;
@@ -20,6 +17,11 @@ use geometry::number_at;
 use geometry::point_at;
 use order::at;
 use runs::run::put_point;
+use wishes::wish::edge_of;
+use wishes::wish::high_at;
+use wishes::wish::low_at;
+use wishes::wish::point_of;
+use wishes::wish::wish_of;
 
 // Where channel c's crossings begin among those grouped by channel.
 fn start_of(m: usize, ends: &[u32], c: usize) -> usize

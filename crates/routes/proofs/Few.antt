@@ -13,7 +13,7 @@ use Rattle.order.proofs.Merging.{le-or-lt}
 use Rattle.channel.proofs.Spacing.{length-put}
 use Rattle.walk.specs.Trace.{Walk, traced}
 use Rattle.walk.proofs.Walks.{traced-short}
-use Rattle.routing.specs.Route.{Scene, Routing, Crossing, Path, Line, noPath, placeIn, centreAt, crossAll, addWalk, addBranch, tracedTo, routing, spaceOne, spacedTo, roundsTo}
+use Rattle.crossings.specs.Route.{Scene, Routing, Crossing, Path, Line, noPath, placeIn, centreAt, crossAll, addWalk, addBranch, tracedTo, routing, spaceOne, spacedTo, roundsTo}
 use Rattle.routing.proofs.Tracing.{cross-long}
 
 -- ---- places after the rounds

@@ -27,14 +27,15 @@ use Rattle.network.specs.Views.{fromRowsIn, toRowsIn, pointsIn, orderIn}
 use Rattle.detour.specs.Paths.{pathIn}
 use Rattle.runs.specs.Finite.{allOf}
 use Rattle.runs.specs.Views.{wayOf, waysOf}
-use Rattle.routing.specs.Route as Route
-use Rattle.routing.specs.Route.{Scene, Path, noPath, pathAt, pointOf, routing, roundsTo, waypoints}
-use Rattle.routing.specs.Views.{Grid, grid, exitAt, lineBetween, lineFor, lineIn, linesIn, sceneIn}
-use Rattle.routing.specs.Store.{SameRows, Traced, Pathless, lined}
+use Rattle.crossings.specs.Route as Route
+use Rattle.crossings.specs.Route.{Scene, Path, noPath, pathAt, pointOf, routing, roundsTo, waypoints}
+use Rattle.crossings.specs.Views.{Grid, grid, exitAt, lineBetween, lineFor, lineIn, linesIn, sceneIn}
+use Rattle.crossings.specs.Store.{SameRows}
+use Rattle.routing.specs.Traced.{Traced, Pathless, lined}
 use Rattle.routing.specs.declared.routes.Routed.{Routed}
 use Rattle.routing.proofs.Rows.{path-count, path-row}
 use Rattle.routing.proofs.Known.{routing-few}
-use Rattle.rounds.specs.Held.{stationIn, Entered}
+use Rattle.wishes.specs.Held.{stationIn, Entered}
 use Rattle.routes.specs.Routes.{crossingsOf, routeRefusal}
 use Rattle.routes.specs.Led.{Led}
 use Rattle.routes.proofs.Few.{length-rounds, routing-short}

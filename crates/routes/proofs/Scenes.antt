@@ -15,12 +15,14 @@ use Rattle.mesh.specs.Mesh.{meshOk}
 use Rattle.network.specs.Words.{occupied, isOccupied}
 use Rattle.network.specs.Views.{countsIn, orderIn, pointsIn}
 use Rattle.units.specs.Unit.{coordinates}
-use Rattle.routing.specs.Route.{Scene}
-use Rattle.routing.specs.Views.{Grid, lineIn, linesIn, sceneIn}
-use Rattle.routing.specs.Store.{Rising, Pathless}
-use Rattle.routing.proofs.Occupied.{occupied-rises}
-use Rattle.rounds.specs.Held.{stationIn}
-use Rattle.routes.specs.Routes.{meshUsed, meshFits, routedIn, Routes}
+use Rattle.crossings.specs.Route.{Scene}
+use Rattle.crossings.specs.Views.{Grid, lineIn, linesIn, sceneIn}
+use Rattle.crossings.specs.Store.{Rising}
+use Rattle.routing.specs.Traced.{Pathless}
+use Rattle.crossings.proofs.Occupied.{occupied-rises}
+use Rattle.wishes.specs.Held.{stationIn}
+use Rattle.routes.specs.Routes.{meshUsed, meshFits}
+use Rattle.routes.specs.Routed.{routedIn, Routes}
 use Rattle.routes.specs.Led.{Led}
 use Rattle.routes.proofs.Leading.{led-none}
 

@@ -10,7 +10,7 @@ use Rattle.network.specs.Views.{fromRowsIn, toRowsIn}
 use Rattle.detour.specs.Paths.{pathIn}
 use Rattle.runs.specs.Finite.{allOf}
 use Rattle.runs.specs.Views.{wayOf, waysOf}
-use Rattle.routing.specs.Route.{Scene, routing, waypoints}
+use Rattle.crossings.specs.Route.{Scene, routing, waypoints}
 use Rattle.routes.specs.Routes.{crossingsOf, routeRefusal}
 
 -- Of m branches, where `fits` says that the mesh passes: 9, 10 or 0; the rows are as before; and, where nothing is refused, each branch's waypoints.

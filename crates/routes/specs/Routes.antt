@@ -1,24 +1,12 @@
--- What lines are routed through, read from the lent lists, and what routing leaves in them. Definitions only.
-use Prim.Native.Nat.{ℕ, _+_, _^_, _≤_, _<_, min}
-use mathlib.Core.Path.{_≡_}
+-- Where the mesh is looked at, refusals 9 and 10, and the places of crossings after the iterations. Definitions only.
+use Prim.Native.Nat.{ℕ}
 use mathlib.Core.Bool.{Bool, not, _&&_, _||_}
-use mathlib.Core.List.{List, []}
+use mathlib.Core.List.{List}
 use lib.Dec.{leb, ltb}
-use lib.ListN.{length}
 use lib.Ieee.{Float}
-use Rattle.float.specs.Small.{isFinite}
-use Rattle.order.specs.Order.{pick}
 use Rattle.network.specs.Refusal.{refuse}
-use Rattle.network.specs.Words.{occupied}
-use Rattle.network.specs.Views.{countsIn, fromRowsIn, toRowsIn, pointsIn, boxesIn}
-use Rattle.units.specs.Unit.{coordinates}
-use Rattle.units.specs.Views.{scalesIn}
 use Rattle.mesh.specs.Mesh.{meshOk}
-use Rattle.detour.specs.Paths.{pathIn}
-use Rattle.runs.specs.Finite.{allOf}
-use Rattle.runs.specs.Views.{wayOf, waysOf}
-use Rattle.routing.specs.Route.{Scene, routing, roundsTo, waypoints}
-use Rattle.routing.specs.Views.{Grid, linesIn, gapOf}
+use Rattle.crossings.specs.Route.{Scene, routing, roundsTo}
 
 -- The mesh is looked at only with three occupied stations or more and at least one iteration.
 unfoldable pub meshUsed : ℕ → ℕ → Bool
@@ -28,22 +16,6 @@ meshUsed stations iterations = leb 3 stations && ltb 0 iterations
 unfoldable pub meshFits : List ℕ → List ℕ → ℕ → ℕ → Bool
 meshFits corners twins stations iterations = not (meshUsed stations iterations) || meshOk corners twins stations
 
--- the scene that the lists of k stations hold, without a mesh where that isn't looked at
-unfoldable pub routedIn : Grid → ℕ → List ℕ → List ℕ → List ℕ → ℕ → Scene
-routedIn G k stations corners twins iterations =
-    let occ = occupied (countsIn k stations) in
-    let used = meshUsed (length occ) iterations in
-    record {
-      occupied = occ;
-      centres = coordinates (pointsIn k (G .places)) occ;
-      boxes = boxesIn k (G .frames);
-      scales = scalesIn k (G .blocks);
-      gap = gapOf (G .unit);
-      corners = pick used corners [];
-      twins = pick used twins [];
-      lines = linesIn G;
-    }
-
 -- the places of a scene's crossings after the iterations
 unfoldable pub crossingsOf : Scene → ℕ → List Float
 crossingsOf S iterations = roundsTo S (routing S) iterations
@@ -51,24 +23,3 @@ crossingsOf S iterations = roundsTo S (routing S) iterations
 -- 9 or 10, 0 where neither applies, where the crossing list holds so many
 unfoldable pub routeRefusal : Bool → ℕ → ℕ → ℕ
 routeRefusal fits crossings room = refuse (not fits) 9 (refuse (ltb room crossings) 10 0)
-
--- What routing leaves: bus counts and rows are as before; where nothing is refused, each branch's waypoints stand in a list, and `finite` says whether all crossing places are finite.
-pub record Routes (G : Grid) (k : ℕ) (stations corners twins : List ℕ) (iterations room late : ℕ) (finite : Bool) (stations' ends' : List ℕ) (ways : List Float) : Type 0 where
-  pub lateIs :
-      late
-      ≡ routeRefusal
-      (meshFits corners twins (length (occupied (countsIn k stations))) iterations)
-      (length (crossingsOf (routedIn G k stations corners twins iterations) iterations))
-      room
-  pub counts : countsIn k stations' ≡ countsIn k stations
-  pub fromRows : fromRowsIn (length (G .from)) ends' ≡ fromRowsIn (length (G .from)) (G .ends)
-  pub toRows : toRowsIn (length (G .from)) ends' ≡ toRowsIn (length (G .from)) (G .ends)
-  pub finiteIs : late ≡ 0 → finite ≡ allOf isFinite (crossingsOf (routedIn G k stations corners twins iterations) iterations)
-  pub along : late ≡ 0 → (e : ℕ) → e < length (G .from)
-      → pathIn (wayOf ends' e) (waysOf ends' e) ways
-      ≡ waypoints
-      (routedIn G k stations corners twins iterations)
-      (routing (routedIn G k stations corners twins iterations))
-      (crossingsOf (routedIn G k stations corners twins iterations) iterations)
-      e
-  pub short : late ≡ 0 → (e : ℕ) → e < length (G .from) → (waysOf ends' e ≤ min (length corners) 24576) × (wayOf ends' e + waysOf ends' e < 2 ^ 31)

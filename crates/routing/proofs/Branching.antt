@@ -20,9 +20,9 @@ use Rattle.mesh.proofs.Meshes.{Sound, mesh-sound}
 use Rattle.walk.specs.Trace.{Walk, traced, Trailed}
 use Rattle.walk.proofs.Walks.{traced-short, trail-short, trail-in}
 use Rattle.network.specs.Views.{fromRowsIn, toRowsIn}
-use Rattle.routing.specs.Route.{Scene, Routing, Keyed, Crossing, Path, noRouting, noChannel, numberOf, centreAt, crossAll, addWalk, addBranch, tracedTo}
-use Rattle.routing.specs.Store.{Marked, markOf, Stock, stock, Held, meshed, Grown, walkOf, walkAt, crossingsTo, addWay, firstFor, countFor, SameRows, Fits, Branched, Filled, Unmarked}
-use Rattle.routing.proofs.Written.{putPair, pair-other, pair-rows, pair-first, pair-second, length-pair, rows-then, rows-same}
+use Rattle.crossings.specs.Route.{Scene, Routing, Keyed, Crossing, Path, noRouting, noChannel, numberOf, centreAt, crossAll, addWalk, addBranch, tracedTo}
+use Rattle.crossings.specs.Store.{Marked, markOf, Stock, stock, Held, meshed, Grown, walkOf, walkAt, crossingsTo, addWay, firstFor, countFor, SameRows, Fits, Branched, Filled, Unmarked}
+use Rattle.crossings.proofs.Written.{putPair, pair-other, pair-rows, pair-first, pair-second, length-pair, rows-then, rows-same}
 
 -- ---- walks
 

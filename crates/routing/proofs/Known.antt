@@ -14,9 +14,9 @@ use Rattle.mesh.proofs.Meshes.{Sound, mesh-sound}
 use Rattle.mesh.proofs.Pigeons.{channels-few}
 use Rattle.walk.specs.Trace.{traced}
 use Rattle.walk.proofs.Walks.{traced-in}
-use Rattle.routing.specs.Route.{Scene, Routing, Keyed, Line, noChannel, numberOf, placeIn, centreAt, makeChannel, withChannel, cross, crossAll, addWalk, addBranch, tracedTo, routing}
-use Rattle.routing.specs.Views.{Edged}
-use Rattle.routing.proofs.Numbers.{same-key, number-le, number-front, number-new, number-keyed, with-old, with-new, made-low, made-high}
+use Rattle.crossings.specs.Route.{Scene, Routing, Keyed, Line, noChannel, numberOf, placeIn, centreAt, makeChannel, withChannel, cross, crossAll, addWalk, addBranch, tracedTo, routing}
+use Rattle.crossings.specs.Views.{Edged}
+use Rattle.crossings.proofs.Numbers.{same-key, number-le, number-front, number-new, number-keyed, with-old, with-new, made-low, made-high}
 
 module _ (S : Scene) where
   abbrev lowOf : ℕ → ℕ

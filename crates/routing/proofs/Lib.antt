@@ -1,10 +1,3 @@
-pub mod Occupied
-pub mod Marking
-pub mod Written
-pub mod Numbers
-pub mod Stamps
-pub mod Marks
-pub mod Growing
 pub mod Branching
 pub mod Filling
 pub mod Tracing

@@ -12,8 +12,8 @@ use lib.Seq.{getD-append-add, getD-append-seam}
 use Rattle.order.proofs.Merging.{le-or-lt}
 use Rattle.mesh.specs.Mesh.{lowAt, highAt}
 use Rattle.walk.specs.Trace.{Walk, traced}
-use Rattle.routing.specs.Route.{Scene, Routing, Keyed, Crossing, Path, Line, noCrossing, noPath, numberOf, placeIn, centreAt, makeChannel, withChannel, crossingOf, cross, crossAll, addWalk, addBranch, tracedTo, routing}
-use Rattle.routing.proofs.Numbers.{number-le, with-old, with-new}
+use Rattle.crossings.specs.Route.{Scene, Routing, Keyed, Crossing, Path, Line, noCrossing, noPath, numberOf, placeIn, centreAt, makeChannel, withChannel, crossingOf, cross, crossAll, addWalk, addBranch, tracedTo, routing}
+use Rattle.crossings.proofs.Numbers.{number-le, with-old, with-new}
 
 -- crossings of branch e from its number k on
 abbrev Row : ℕ → ℕ → List Crossing → Type 0

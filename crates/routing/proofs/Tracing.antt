@@ -23,13 +23,14 @@ use Rattle.network.specs.declared.words.Kind.{Kind}
 use Rattle.network.specs.declared.words.Kind.the-variants.{Undrawn, Open, Internal, Line}
 use Rattle.network.specs.Words.{kindOf}
 use Rattle.network.specs.Views.{orderIn}
-use Rattle.routing.specs.Route as Route
-use Rattle.routing.specs.declared.ways.Way.{Way}
-use Rattle.routing.specs.Route.{Scene, Routing, Crossing, Path, centreAt, cross, crossAll, addWalk, addBranch, tracedTo, routing}
-use Rattle.routing.specs.Views.{Grid, sceneIn, linesIn, lineIn, lineFor, lineBetween, Stored}
-use Rattle.routing.specs.Store.{stock, Held, meshed, walkOf, walkAt, crossingsTo, addWay, wayFor, wayOf, SameRows, Fits, Filled, Unmarked, Wayed, Settled, lined, Traced, Pathless}
+use Rattle.crossings.specs.Route as Route
+use Rattle.crossings.specs.declared.ways.Way.{Way}
+use Rattle.crossings.specs.Route.{Scene, Routing, Crossing, Path, centreAt, cross, crossAll, addWalk, addBranch, tracedTo, routing}
+use Rattle.crossings.specs.Views.{Grid, sceneIn, linesIn, lineIn, lineFor, lineBetween, Stored}
+use Rattle.crossings.specs.Store.{stock, Held, meshed, walkOf, walkAt, crossingsTo, addWay, wayFor, wayOf, SameRows, Fits, Filled, Unmarked, Wayed}
+use Rattle.routing.specs.Traced.{Settled, lined, Traced, Pathless}
 use Rattle.routing.specs.declared.routes.Routed.{Routed}
-use Rattle.routing.proofs.Written.{putPair, pair-other, pair-rows, pair-first, pair-second, length-pair, rows-then, rows-same}
+use Rattle.crossings.proofs.Written.{putPair, pair-other, pair-rows, pair-first, pair-second, length-pair, rows-then, rows-same}
 use Rattle.routing.proofs.Filling.{front-read, front-rows}
 
 -- ---- how many crossings

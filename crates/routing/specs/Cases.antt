@@ -8,7 +8,7 @@ use Rattle.geometry.specs.Plane.{point}
 use Rattle.geometry.specs.Cross.{orient, crosses}
 use Rattle.mesh.specs.Mesh.{noTwin, next, endAt, lowAt, highAt}
 use Rattle.walk.specs.Trace.{crossesEdge, leave, outBy, passOn, traced}
-use Rattle.routing.specs.Route.{Line, Scene, Keyed, Crossing, Path, Routing, placeIn, numberOf, makeChannel, withChannel, crossingOf, cross, crossAll, addWalk, addBranch, tracedTo, routing}
+use Rattle.crossings.specs.Route.{Line, Scene, Keyed, Crossing, Path, Routing, placeIn, numberOf, makeChannel, withChannel, crossingOf, cross, crossAll, addWalk, addBranch, tracedTo, routing}
 
 -- (0, 0), (1, 1), (1, -1), (2, 0) and (4, 0)
 abbrev points : List Float

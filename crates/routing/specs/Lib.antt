@@ -1,4 +1,2 @@
-pub mod Route
-pub mod Views
-pub mod Store
+pub mod Traced
 pub mod Cases

@@ -1,7 +1,3 @@
-// Lines through the mesh: the corners, the channels that lines cross, their crossings and paths.
-pub mod channels;
-pub mod corners;
-pub mod crossings;
+// Lines through the mesh: all branches traced, their crossings and paths.
 pub mod lines;
 pub mod routes;
-pub mod ways;

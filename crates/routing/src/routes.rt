@@ -6,12 +6,13 @@ ghost use lib.ListN.{length, take};
 ghost use Rattle.mesh.specs.Mesh.{meshOk};
 ghost use Rattle.walk.specs.Round.{roundOf};
 ghost use Rattle.network.specs.Views.{orderIn};
-ghost use Rattle.routing.specs.Views.{sceneIn};
-ghost use Rattle.routing.specs.Store.{Rising, Unmarked, Settled, Traced, Pathless, lined};
+ghost use Rattle.crossings.specs.Views.{sceneIn};
+ghost use Rattle.crossings.specs.Store.{Rising, Unmarked};
+ghost use Rattle.routing.specs.Traced.{Settled, Traced, Pathless, lined};
 use crate::lines::clear_marks;
 use crate::lines::count_all;
 use crate::lines::store_all;
-use crate::ways::write_ways;
+use crossings::ways::write_ways;
 use walk::round::go_round;
 
 // The crossings of all lines, whether they outnumber the room for them, and, where not, the channels.

@@ -21,7 +21,7 @@ use Rattle.network.specs.Views.{countsIn, pointsIn, boxesIn}
 use Rattle.network.proofs.Views.{getD-points, getD-boxes}
 use Rattle.network.proofs.Branches.{kind-safe}
 use Rattle.placement.specs.Place.{noBox}
-use Rattle.detour.specs.Cells.{cellSize}
+use Rattle.cells.specs.Cells.{cellSize}
 use Rattle.detour.specs.Detour.{detour}
 use Rattle.detour.specs.Paths.{pathIn}
 use Rattle.detour.proofs.Detours.{Leads, leads}

@@ -1,12 +1,12 @@
 -- The drawing as lists of numbers, and a lent list after it. Definitions only.
 use Prim.Native.Nat.{ℕ, zero, suc}
 use mathlib.Core.List.{List, [], _∷_, _++_}
-use lib.ListN.{length, drop}
 use lib.Ieee.{Float}
 use Rattle.geometry.specs.declared.Point.{Point}
 use Rattle.geometry.specs.declared.Box.{Box}
 use Rattle.bars.specs.declared.Bar.{Bar}
 use Rattle.runs.specs.Run.{Piece}
+use Rattle.order.specs.Over.{over}
 
 unfoldable pub flat : {A B : Type 0} → (A → List B) → List A → List B
 flat f [] = []
@@ -23,10 +23,6 @@ barNumbers b = b .x ∷ b .y0 ∷ b .x ∷ b .y1 ∷ []
 
 abbrev pub pieceNumbers : Piece → List Float
 pieceNumbers p = p .start .x ∷ p .start .y ∷ p .end .x ∷ p .end .y ∷ []
-
--- Result elements past the drawing's length keep their old content.
-unfoldable pub over : {A : Type 0} → List A → List A → List A
-over new old = new ++ drop (length new) old
 
 -- A refusal changes no result list.
 unfoldable pub after : {A : Type 0} → ℕ → List A → List A → List A

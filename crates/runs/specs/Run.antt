@@ -14,7 +14,7 @@ use Rattle.geometry.specs.declared.Box.{Box}
 use Rattle.network.specs.declared.words.Kind.{Kind}
 use Rattle.network.specs.declared.words.Kind.the-variants.{Undrawn, Open, Internal, Line}
 use Rattle.network.specs.Words.{kindAt, stationOf}
-use Rattle.detour.specs.Cells.{cellSize}
+use Rattle.cells.specs.Cells.{cellSize}
 use Rattle.detour.specs.Detour.{detour}
 use Rattle.bars.specs.declared.Bar.{Bar}
 use Rattle.bars.specs.Bar.{barAt, position, rowEnd}

@@ -14,7 +14,7 @@ use Rattle.network.specs.declared.words.Kind.the-variants.{Undrawn, Open, Inter
 use Rattle.network.specs.Words.{stationOf, occupied}
 use Rattle.network.specs.Views.{countsIn, fromRowsIn, toRowsIn, pointsIn, boxesIn}
 use Rattle.detour.specs.Detour.{detour}
-use Rattle.detour.specs.Index.{Indexed}
+use Rattle.cells.specs.Index.{Indexed}
 use Rattle.detour.specs.Paths.{pathIn}
 use Rattle.bars.specs.declared.Bar.{Bar}
 use Rattle.bars.specs.Bar.{rowY, barFor, spanOf, position}

@@ -8,3 +8,6 @@ mod Ends
 mod Entries
 mod Rowing
 pub mod RowLaw
+pub mod Orders
+pub mod Falls
+pub mod RowOrder

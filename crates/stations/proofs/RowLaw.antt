@@ -40,7 +40,7 @@ module _ (key : ℕ → ℕ) (p : ℕ → Bool) (n : ℕ) where
   abbrev kept : List ℕ
   kept = keep p (upFrom 0 n)
 
-  has-place : (i : ℕ) → i < n → p i ≡ true → (place i < total) × (getD (sortBy key kept) (place i) 0 ≡ i)
+  pub has-place : (i : ℕ) → i < n → p i ≡ true → (place i < total) × (getD (sortBy key kept) (place i) 0 ≡ i)
   has-place i h e =
       let u : getD (upFrom 0 n) i 0 ≡ i = getD-up 0 n i h ∙ zero-add i in
       let l : i < length (upFrom 0 n) = rw (length-up 0 n) h in

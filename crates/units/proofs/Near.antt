@@ -15,7 +15,7 @@ use Rattle.order.specs.Median.{medianOf, orElse}
 use Rattle.order.proofs.Tables.{length-table, table-ext, howMany-ext, howMany-yes, howMany-mono, length-which}
 use Rattle.geometry.specs.declared.Point.{Point}
 use Rattle.geometry.specs.Plane.{point, pointAt}
-use Rattle.neighbours.specs.Near.{distance, nearer, nearestTo, nearest, near, within, neighbours}
+use Rattle.proximity.specs.Near.{distance, nearer, nearestTo, nearest, near, within, neighbours}
 use Rattle.network.specs.declared.options.Options.{Options}
 use Rattle.network.specs.Words.{isOccupied, occupied}
 use Rattle.units.specs.Unit.{coordinates, spacingOf, spacing}

@@ -13,7 +13,7 @@ use Rattle.order.specs.Order.{pick}
 use Rattle.order.specs.Table.{tableFrom, table, strided}
 use Rattle.order.proofs.Tables.{length-table, getD-table, table-suc}
 use Rattle.order.proofs.Strides.{strided-push, length-strided}
-use Rattle.neighbours.specs.Near.{neighbours}
+use Rattle.proximity.specs.Near.{neighbours}
 use Rattle.network.specs.declared.options.Options.{Options}
 use Rattle.network.specs.Words.{occupied}
 use Rattle.network.specs.Views.{countsIn}

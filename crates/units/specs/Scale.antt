@@ -9,7 +9,7 @@ use Rattle.float.specs.Ops.{f1, _⊗_}
 use Rattle.order.specs.Order.{pick}
 use Rattle.order.specs.Table.{table, howMany}
 use Rattle.geometry.specs.declared.Point.{Point}
-use Rattle.neighbours.specs.Near.{neighbours}
+use Rattle.proximity.specs.Near.{neighbours}
 use Rattle.network.specs.declared.options.Options.{Options}
 use Rattle.network.specs.Words.{isOccupied, occupied}
 use Rattle.units.specs.Unit.{coordinates}

@@ -8,7 +8,7 @@ use Rattle.float.specs.Ops.{f1, _⊗_, _⊘_}
 use Rattle.order.specs.Table.{table}
 use Rattle.order.specs.Median.{medianOf, orElse}
 use Rattle.geometry.specs.declared.Point.{Point}
-use Rattle.neighbours.specs.Near.{nearest}
+use Rattle.proximity.specs.Near.{nearest}
 use Rattle.network.specs.Words.{occupied}
 use Rattle.network.specs.Seed.{placeAt}
 use Rattle.units.specs.Size.{Size, sides}

@@ -19,10 +19,11 @@ use Rattle.geometry.specs.Plane.{origin}
 use Rattle.network.specs.Words.{isOccupied, occupied}
 use Rattle.network.specs.Seed.{placeAt}
 use Rattle.stations.specs.Column.{falling}
-use Rattle.placement.specs.declared.offset.Offset.{Offset}
-use Rattle.placement.specs.Place.{Frame, topTo, placementOrder, frameAt, boxOn, boxOf, buffered, free, placeFor, placesTo, places, foundFree}
-use Rattle.placement.specs.Views.{Turns}
-use Rattle.placement.proofs.Sorting.{map-agree}
+use Rattle.offsets.specs.declared.offset.Offset.{Offset}
+use Rattle.placement.specs.Place.{Frame, frameAt, boxOn, boxOf, buffered, free, placeFor, placesTo, places, foundFree}
+use Rattle.turns.specs.Turns.{topTo, placementOrder}
+use Rattle.turns.specs.Listed.{Turns}
+use Rattle.order.proofs.Sorting.{map-agree}
 use Rattle.placement.proofs.Placing.{all-of}
 use Rattle.placement.proofs.PlaceLaw.{first-free-of}
 use Rattle.wall.specs.Wall.{FirstOf, tries}

@@ -13,15 +13,15 @@ use Rattle.geometry.specs.declared.Point.{Point}
 use Rattle.geometry.specs.declared.Box.{Box}
 use Rattle.geometry.specs.Plane.{point}
 use Rattle.network.specs.declared.options.Options.{Options}
-use Rattle.placement.specs.declared.offset.Offset.{Offset}
+use Rattle.offsets.specs.declared.offset.Offset.{Offset}
 use Rattle.drawing.specs.declared.answer.Plot.{Plot}
 use Rattle.drawing.specs.declared.answer.Answer.{Answer}
 use Rattle.drawing.specs.declared.answer.Answer.the-variants.{Drawn, Refused}
 use Rattle.drawing.specs.Network as Net
 use Rattle.drawing.specs.Network.{Network, network}
-use Rattle.audit.specs.declared.answer.Audit.{Audit}
-use Rattle.audit.specs.declared.answer.Audit.the-variants as Audits
-use Rattle.audit.specs.Drawn as AuditLists
+use Rattle.findings.specs.declared.answer.Audit.{Audit}
+use Rattle.findings.specs.declared.answer.Audit.the-variants as Audits
+use Rattle.findings.specs.Drawn as AuditLists
 use Rattle.float.specs.Small as FloatSmall
 use Rattle.float.specs.Hypot as FloatHypot
 use Rattle.float.specs.Floor as FloatFloor
@@ -31,8 +31,8 @@ use Rattle.order.specs.Table as OrderTable
 use Rattle.order.specs.Median as OrderMedian
 use Rattle.geometry.specs.Clip as GeometryClip
 use Rattle.geometry.specs.Cross as GeometryCross
-use Rattle.neighbours.specs.Near as NeighboursNear
-use Rattle.neighbours.specs.Overlap as NeighboursOverlap
+use Rattle.proximity.specs.Near as NeighboursNear
+use Rattle.proximity.specs.Overlap as NeighboursOverlap
 use Rattle.channel.specs.Space as ChannelSpace
 use Rattle.channel.specs.Channel as ChannelChannel
 use Rattle.mesh.specs.Mesh as MeshMesh
@@ -48,33 +48,42 @@ use Rattle.stations.specs.Row as StationsRow
 use Rattle.units.specs.Size as UnitsSize
 use Rattle.units.specs.Unit as UnitsUnit
 use Rattle.units.specs.Scale as UnitsScale
-use Rattle.placement.specs.Offset as PlacementOffset
+use Rattle.offsets.specs.Offset as PlacementOffset
 use Rattle.placement.specs.Place as PlacementPlace
+use Rattle.turns.specs.Turns as TurnsTurns
 use Rattle.placement.specs.Modest as PlacementModest
-use Rattle.detour.specs.Cells as DetourCells
+use Rattle.cells.specs.Cells as DetourCells
+use Rattle.cells.specs.Index as DetourIndex
 use Rattle.detour.specs.Detour as DetourDetour
 use Rattle.bars.specs.Bar as BarsBar
 use Rattle.bars.specs.Exit as BarsExit
 use Rattle.runs.specs.Run as RunsRun
 use Rattle.runs.specs.Finite as RunsFinite
 use Rattle.runs.specs.Lists as RunsLists
-use Rattle.routing.specs.Route as RoutingRoute
-use Rattle.routing.specs.Views as RoutingViews
+use Rattle.order.specs.Over as OrderOver
+use Rattle.crossings.specs.Route as RoutingRoute
+use Rattle.crossings.specs.Views as RoutingViews
+use Rattle.crossings.specs.Gap as CrossingsGap
 use Rattle.routes.specs.Routes as RoutesRoutes
+use Rattle.routes.specs.Routed as RoutesRouted
 use Rattle.results.specs.Bounds as ResultsBounds
 use Rattle.drawing.specs.Drawing as LayoutDrawing
 use Rattle.drawing.specs.Answer as LayoutAnswer
-use Rattle.figures.specs.Fit as FiguresFit
-use Rattle.figures.specs.Scale as FiguresScale
-use Rattle.figures.specs.Overlaps as FiguresOverlaps
+use Rattle.fit.specs.Fit as FiguresFit
+use Rattle.fit.specs.Scale as FiguresScale
+use Rattle.overlaps.specs.Overlaps as FiguresOverlaps
 use Rattle.figures.specs.Figure as FiguresFigure
-use Rattle.figures.specs.Relative as FiguresRelative
-use Rattle.audit.specs.Through as AuditThrough
-use Rattle.audit.specs.Answer as AuditAnswer
-use Rattle.listing.specs.Field as ListingField
+use Rattle.stretches.specs.Relative as FiguresRelative
+use Rattle.through.specs.Through as AuditThrough
+use Rattle.findings.specs.Answer as AuditAnswer
+use Rattle.fields.specs.Field as ListingField
 use Rattle.listing.specs.Line as ListingLine
 use Rattle.listing.specs.Input as ListingInput
 use Rattle.listing.specs.Output as ListingOutput
+use Rattle.fields.specs.Spell as FieldsSpell
+use Rattle.listed.specs.Output as Listed
+use Rattle.listing.specs.LinePlaces as ListingLinePlaces
+use Rattle.small.specs.Held as SmallHeld
 use Rattle.wall.specs.Wall.{auditParts, audited}
 
 -- ---- floats and results as numbers
@@ -137,12 +146,6 @@ text =
     ∷ 48 ∷ 48 ∷ 48 ∷ 48 ∷ 48 ∷ 48 ∷ 48 ∷ 10 ∷ 102 ∷ 114 ∷ 111 ∷ 109 ∷ 32 ∷ 116 ∷ 111 ∷ 32 ∷ 108 ∷ 105 ∷ 118 ∷ 101
     ∷ 10 ∷ 48 ∷ 32 ∷ 49 ∷ 32 ∷ 49 ∷ 10 ∷ []
 
--- its network
-abbrev example : Network
-example =
-    let p = ListingInput.parsed text in
-    network (p .buses .sub) (p .buses .kv) (p .branches .from) (p .branches .to) (p .branches .live) (p .buses .xy) [] []
-
 -- ---- the calls, with lists long enough for two buses and one branch
 
 abbrev zeros : ℕ → List Float
@@ -163,11 +166,6 @@ abbrev answerBits : Answer → List ℕ
 answerBits (Drawn p) = bitsOf (p .unit) ∷ boxBits (p .bounds)
 answerBits (Refused r) = r ∷ []
 
--- what `drawlist` writes of it
-abbrev written : Answer → Net.Lists → List ℕ
-written (Drawn p) L = ListingOutput.listing (L .roles) (L .pieces) (L .branches) (p .pieces)
-written (Refused r) L = ListingOutput.refusal r
-
 -- the overlaps that an audit of it counts
 abbrev counted : Audit → List ℕ
 counted (Audits.Audited f) = f .overlaps ∷ []
@@ -176,7 +174,7 @@ counted (Audits.Refused r) = 100 ∷ r ∷ []
 abbrev overlapsBy : Network → Answer → Net.Lists → List ℕ
 overlapsBy N (Drawn p) L =
     counted
-    (AuditAnswer.auditOf (audited N L (p .pieces)) (AuditLists.lists (zeros 2) (zeros 2) (zeros 1)) (AuditLists.work (noughts 4) (noughts 2) (noughts 2) (noughts 2) (zeros 4) (zeros 4)) .answer)
+    (AuditAnswer.auditOf (audited N L (p .pieces)) (AuditLists.lists (zeros 2) (zeros 2) (zeros 1)) (AuditLists.work (noughts 4) (noughts 265) (noughts 2) (noughts 2) (zeros 4) (zeros 4)) .answer)
 overlapsBy N (Refused r) L = r ∷ []
 
 -- two stations on one seed: the overlaps, and the places of both
@@ -187,9 +185,23 @@ two s =
     let d = LayoutDrawing.drawing (searching s) N in
     overlapsBy N (c .answer) (c .lists) ++ (pointBits (NetworkSeed.placeAt (d .places) 0) ++ pointBits (NetworkSeed.placeAt (d .places) 1))
 
--- three wishes 0.5 on 0 to 1, by their gap
+-- three crossings of a cleared path, each at 0.5 of one channel from 0 to 1, so that 0.5 is what each wishes: their places after one round of spacing, by the gap
+abbrev crossing : ℕ → RoutingRoute.Crossing
+crossing k = record { channel = 0; branch = 0; step = k; place = f½ }
+
+abbrev routes : ℕ → RoutingRoute.Routing
+routes gap =
+    record {
+      channels = record { low = 0; high = 1; range = record { lo = f0; hi = f1; gap = bits gap } } ∷ [];
+      crossings = crossing 0 ∷ crossing 1 ∷ crossing 2 ∷ [];
+      paths = [];
+    }
+
+abbrev scene : RoutingRoute.Scene
+scene = record { occupied = []; centres = []; boxes = []; scales = []; gap = f0; corners = []; twins = []; lines = [] }
+
 abbrev wishes : ℕ → List ℕ
-wishes gap = map bitsOf (ChannelSpace.placed (record { lo = f0; hi = f1; gap = bits gap }) (f½ ∷ f½ ∷ f½ ∷ []))
+wishes gap = map bitsOf (RoutingRoute.roundsTo scene (routes gap) 1)
 
 abbrev box : Float → Float → Float → Float → Box
 box a b c d = record { left = a; top = b; right = c; bottom = d }
@@ -201,11 +213,11 @@ pub record Row : Type 0 where
   pub says : List ℕ
 
 unfoldable pub table : List Row
-unfolding add sub mul div neg sum round units odd size span climb lt le eq ofInt ofBits ofFields toBits isNan trailingZeros audited auditParts FloatSmall.maxOf FloatSmall.minOf FloatSmall.absOf FloatSmall.isFinite FloatSmall.clampOf FloatHypot.grains FloatHypot.rootIn FloatHypot.nearestRoot FloatHypot.hypotOf FloatFloor.sizeDown FloatFloor.sizeUp FloatFloor.floorOf FloatFloor.floorInt FloatKey.keyOf OrderOrder.insertBy OrderOrder.sortBy OrderOrder.upFrom OrderOrder.count OrderOrder.keep OrderOrder.ranksOf OrderTable.tableFrom OrderTable.joined OrderTable.strided OrderMedian.finiteOf OrderMedian.insertFloat OrderMedian.sortFloats OrderMedian.middle OrderMedian.medianOf OrderMedian.orElse GeometryClip.part GeometryClip.cut GeometryClip.clipBy GeometryClip.met GeometryClip.clipped GeometryClip.hits GeometryCross.orient GeometryCross.crosses GeometryCross.parallel GeometryCross.param GeometryCross.placeOr NeighboursNear.distance NeighboursNear.nearer NeighboursNear.nearestTo NeighboursNear.nearest NeighboursNear.near NeighboursNear.within NeighboursNear.neighbours NeighboursOverlap.meet NeighboursOverlap.overlap ChannelSpace.wishKey ChannelSpace.wishOf ChannelSpace.readBack ChannelSpace.wishOrder ChannelSpace.inOrder ChannelSpace.evenAt ChannelSpace.forward ChannelSpace.forwardAll ChannelSpace.backward ChannelSpace.crowded ChannelSpace.spaced ChannelSpace.putAll ChannelSpace.placed ChannelChannel.reachOn ChannelChannel.reach ChannelChannel.held ChannelChannel.channelOf MeshMesh.next MeshMesh.endAt MeshMesh.lowAt MeshMesh.highAt MeshMesh.allTo MeshMesh.cornerOk MeshMesh.reversed MeshMesh.pairs MeshMesh.twinOk MeshMesh.edgesOk MeshMesh.meshOk WalkRound.roundOf WalkRound.firstAt WalkRound.around WalkTrace.homeOf WalkTrace.crossesEdge WalkTrace.leave WalkTrace.sought WalkTrace.started WalkTrace.outBy WalkTrace.passOn WalkTrace.after WalkTrace.walk WalkTrace.traced NetworkWords.pastTo NetworkWords.stationCount NetworkWords.busesIn NetworkWords.busCounts NetworkWords.occupied NetworkWords.known NetworkWords.live NetworkWords.kindBy NetworkWords.kindFor NetworkWords.kindOf NetworkWords.kinds NetworkSeed.pointOf NetworkSeed.busPoint NetworkSeed.sumTo NetworkSeed.mean NetworkSeed.seedOf NetworkSeed.seeds NetworkOptions.defaults NetworkOptions.between NetworkOptions.searchFits NetworkOptions.inRange NetworkOptions.searchOf NetworkRefusal.above NetworkRefusal.farOut NetworkRefusal.tooFar NetworkRefusal.shapeRefusal NetworkRefusal.everyFinite NetworkViews.pointsIn NetworkViews.boxesIn StationsColumn.falling StationsColumn.column StationsColumn.columns StationsRow.hasRow StationsRow.rowKey StationsRow.rowsIn StationsRow.row StationsRow.fromRow StationsRow.toRow StationsRow.fromRows StationsRow.toRows UnitsSize.widthFor UnitsSize.heightFor UnitsSize.sizeFor UnitsSize.sizesFor UnitsSize.sizes UnitsSize.sides UnitsUnit.coordinates UnitsUnit.spacingOf UnitsUnit.spacing UnitsUnit.typical UnitsUnit.unitFor UnitsScale.tier UnitsScale.occupiedBelow UnitsScale.scaleAt UnitsScale.scalesOf UnitsScale.scales PlacementOffset.offsetNumber PlacementOffset.offsetOf PlacementOffset.gridNumber PlacementOffset.offsetGrid PlacementOffset.offsets PlacementPlace.topTo PlacementPlace.placementOrder PlacementPlace.frameFor PlacementPlace.frames PlacementPlace.boxOn PlacementPlace.buffered PlacementPlace.free PlacementPlace.place PlacementPlace.firstFree PlacementPlace.placeFor PlacementPlace.boxOf PlacementPlace.nextPlace PlacementPlace.placesTo PlacementPlace.places PlacementPlace.foundFree PlacementPlace.boxes PlacementModest.largest PlacementModest.modest PlacementModest.modestBox PlacementModest.allModest PlacementModest.illSized DetourCells.side DetourCells.largest DetourCells.cellSize DetourCells.cellNumber DetourCells.cellOf DetourCells.atMost DetourCells.ahead DetourCells.apart DetourCells.between DetourCells.covers DetourCells.far DetourCells.nearer DetourCells.struck DetourCells.look DetourCells.sameCell DetourCells.settled DetourCells.onward DetourCells.walk DetourCells.signOf DetourCells.boundary DetourCells.firstSide DetourCells.sideStep DetourCells.rayOf DetourCells.spotOf DetourCells.cellCount DetourCells.walked DetourCells.found DetourCells.firstHit DetourDetour.cornersOf DetourDetour.cost DetourDetour.costKey DetourDetour.clears DetourDetour.clearing DetourDetour.cheaper DetourDetour.cheapest DetourDetour.orElse DetourDetour.corner DetourDetour.detourOn DetourDetour.detourTo DetourDetour.detour BarsBar.barX BarsBar.rowY BarsBar.spanOf BarsBar.include BarsBar.includeEnd BarsBar.includeBranch BarsBar.spanTo BarsBar.reach BarsBar.lengthened BarsBar.barFor BarsBar.spans BarsBar.bars BarsBar.position BarsBar.rowEnd BarsExit.exitX BarsExit.exit RunsRun.slot RunsRun.between RunsRun.linePoints RunsRun.runFor RunsRun.runOf RunsRun.runs RunsRun.apart RunsRun.pieces RunsRun.isLine RunsRun.allPieces RunsRun.role RunsFinite.allOf RunsFinite.finitePoint RunsFinite.finiteBox RunsFinite.finiteBar RunsLists.flat RunsLists.over RunsLists.after RoutingRoute.placeIn RoutingRoute.numberOf RoutingRoute.makeChannel RoutingRoute.withChannel RoutingRoute.crossingOf RoutingRoute.cross RoutingRoute.crossAll RoutingRoute.addWalk RoutingRoute.addBranch RoutingRoute.tracedTo RoutingRoute.routing RoutingRoute.pointOn RoutingRoute.pointOf RoutingRoute.members RoutingRoute.exitOf RoutingRoute.wish RoutingRoute.spaceOne RoutingRoute.spacedTo RoutingRoute.roundsTo RoutingRoute.waypoints RoutingViews.gapOf RoutingViews.exitAt RoutingViews.lineBetween RoutingViews.lineFor RoutingViews.lineIn RoutingViews.linesIn RoutingViews.sceneIn RoutesRoutes.meshUsed RoutesRoutes.meshFits RoutesRoutes.routedIn RoutesRoutes.crossingsOf RoutesRoutes.routeRefusal ResultsBounds.around ResultsBounds.aroundAll ResultsBounds.boundsOf LayoutDrawing.straightScene LayoutDrawing.planned LayoutDrawing.ledScene LayoutDrawing.lineFor LayoutDrawing.lineOf LayoutDrawing.routedScene LayoutDrawing.routedOf LayoutDrawing.waysOf LayoutDrawing.sceneOf LayoutDrawing.drawing LayoutAnswer.numberOf LayoutAnswer.shortResults LayoutAnswer.shortWork LayoutAnswer.early LayoutAnswer.pieceRoom LayoutAnswer.crossingRoom LayoutAnswer.allFinite LayoutAnswer.routedBy LayoutAnswer.lateBy LayoutAnswer.late LayoutAnswer.listsOf LayoutAnswer.listsAfter LayoutAnswer.clearedWork LayoutAnswer.clearedCrossings LayoutAnswer.answerBy LayoutAnswer.answerFor LayoutAnswer.callLate LayoutAnswer.callEarly LayoutAnswer.layoutOf FiguresFit.each FiguresFit.allNamed FiguresFit.isLine FiguresFit.endAt FiguresFit.isKnown FiguresFit.joins FiguresFit.allJoin FiguresFit.moderate FiguresFit.allModerate FiguresFit.upright FiguresFit.allUpright FiguresFit.allLocated FiguresFit.fits FiguresScale.modestEnds FiguresScale.illDrawn FiguresOverlaps.clash FiguresOverlaps.clashes FiguresOverlaps.overlaps FiguresFigure.middle FiguresFigure.middles FiguresFigure.displacements FiguresFigure.shorter FiguresFigure.spacingsFrom FiguresFigure.spacings FiguresRelative.pieceStart FiguresRelative.pieceEnd FiguresRelative.longer FiguresRelative.begun FiguresRelative.ratio FiguresRelative.ended FiguresRelative.relativeOn FiguresRelative.relatives AuditThrough.stationAt AuditThrough.isHit AuditThrough.crosses AuditThrough.runsThrough AuditThrough.through AuditAnswer.numberOf AuditAnswer.tooShort AuditAnswer.early AuditAnswer.boxesOf AuditAnswer.stationsOf AuditAnswer.lateBy AuditAnswer.late AuditAnswer.listsOf AuditAnswer.figuresOf AuditAnswer.listsAfter AuditAnswer.cleared AuditAnswer.answerBy AuditAnswer.callLate AuditAnswer.callEarly AuditAnswer.auditOf ListingField.digit ListingField.closed ListingField.digitsTo ListingField.limited ListingField.positive ListingField.whole ListingField.hexadecimal ListingField.pattern ListingField.minus ListingField.plus ListingField.busNumber ListingLine.begins ListingLine.busNames ListingLine.branchNames ListingLine.andThen ListingLine.busLine ListingLine.branchLine ListingInput.noBuses ListingInput.noBranches ListingInput.addBus ListingInput.addBranch ListingInput.linesTo ListingInput.busLines ListingInput.atEnd ListingInput.branchLines ListingInput.withBranches ListingInput.withBuses ListingInput.parsed ListingInput.over ListingInput.read ListingInput.counted ListingOutput.glyph ListingOutput.digits ListingOutput.placesIn ListingOutput.numberField ListingOutput.shown ListingOutput.floatField ListingOutput.pieceNames ListingOutput.pointFields ListingOutput.pieceLine ListingOutput.listing ListingOutput.refusal ListingOutput.putAt
+unfolding add sub mul div neg sum round units odd size span climb lt le eq ofInt ofBits ofFields toBits isNan trailingZeros audited auditParts FloatSmall.maxOf FloatSmall.minOf FloatSmall.absOf FloatSmall.isFinite FloatSmall.clampOf FloatHypot.grains FloatHypot.rootIn FloatHypot.nearestRoot FloatHypot.hypotOf FloatFloor.sizeDown FloatFloor.sizeUp FloatFloor.floorInt FloatKey.keyOf OrderOrder.insertBy OrderOrder.sortBy OrderOrder.upFrom OrderOrder.count OrderOrder.keep OrderOrder.ranksOf OrderTable.tableFrom OrderTable.joined OrderTable.strided OrderMedian.finiteOf OrderMedian.insertFloat OrderMedian.sortFloats OrderMedian.middle OrderMedian.medianOf OrderMedian.orElse GeometryClip.part GeometryClip.cut GeometryClip.clipBy GeometryClip.met GeometryClip.clipped GeometryClip.hits GeometryCross.orient GeometryCross.crosses GeometryCross.parallel GeometryCross.param GeometryCross.placeOr NeighboursNear.distance NeighboursNear.nearer NeighboursNear.nearestTo NeighboursNear.nearest NeighboursNear.near NeighboursNear.within NeighboursNear.neighbours NeighboursOverlap.meet NeighboursOverlap.overlap ChannelSpace.wishKey ChannelSpace.wishOf ChannelSpace.readBack ChannelSpace.wishOrder ChannelSpace.inOrder ChannelSpace.evenAt ChannelSpace.forward ChannelSpace.forwardAll ChannelSpace.backward ChannelSpace.crowded ChannelSpace.spaced ChannelSpace.putAll ChannelChannel.reachOn ChannelChannel.reach ChannelChannel.held ChannelChannel.channelOf MeshMesh.next MeshMesh.endAt MeshMesh.lowAt MeshMesh.highAt MeshMesh.allTo MeshMesh.cornerOk MeshMesh.reversed MeshMesh.pairs MeshMesh.twinOk MeshMesh.edgesOk MeshMesh.meshOk WalkRound.roundOf WalkRound.firstAt WalkRound.around WalkTrace.homeOf WalkTrace.crossesEdge WalkTrace.leave WalkTrace.sought WalkTrace.started WalkTrace.outBy WalkTrace.passOn WalkTrace.after WalkTrace.walk WalkTrace.traced NetworkWords.pastTo NetworkWords.stationCount NetworkWords.busesIn NetworkWords.busCounts NetworkWords.occupied NetworkWords.known NetworkWords.live NetworkWords.kindBy NetworkWords.kindFor NetworkWords.kindOf NetworkWords.kinds NetworkSeed.pointOf NetworkSeed.busPoint NetworkSeed.sumTo NetworkSeed.mean NetworkSeed.seedOf NetworkSeed.seeds NetworkOptions.defaults NetworkOptions.between NetworkOptions.searchFits NetworkOptions.inRange NetworkOptions.searchOf NetworkRefusal.above NetworkRefusal.farOut NetworkRefusal.tooFar NetworkRefusal.shapeRefusal NetworkRefusal.everyFinite NetworkViews.pointsIn NetworkViews.boxesIn StationsColumn.falling StationsColumn.column StationsColumn.columns StationsRow.hasRow StationsRow.rowKey StationsRow.rowsIn StationsRow.row StationsRow.fromRow StationsRow.toRow StationsRow.fromRows StationsRow.toRows UnitsSize.widthFor UnitsSize.heightFor UnitsSize.sizeFor UnitsSize.sizesFor UnitsSize.sizes UnitsSize.sides UnitsUnit.coordinates UnitsUnit.spacingOf UnitsUnit.spacing UnitsUnit.typical UnitsUnit.unitFor UnitsScale.tier UnitsScale.occupiedBelow UnitsScale.scaleAt UnitsScale.scalesOf UnitsScale.scales PlacementOffset.offsetNumber PlacementOffset.offsetOf PlacementOffset.gridNumber PlacementOffset.offsetGrid PlacementOffset.offsets TurnsTurns.topTo TurnsTurns.placementOrder PlacementPlace.frameFor PlacementPlace.frames PlacementPlace.boxOn PlacementPlace.buffered PlacementPlace.free PlacementPlace.place PlacementPlace.firstFree PlacementPlace.placeFor PlacementPlace.boxOf PlacementPlace.nextPlace PlacementPlace.placesTo PlacementPlace.places PlacementPlace.foundFree PlacementPlace.boxes PlacementModest.largest PlacementModest.modest PlacementModest.modestBox PlacementModest.allModest PlacementModest.illSized DetourCells.side DetourCells.largest DetourCells.cellSize DetourCells.cellNumber DetourCells.cellOf DetourCells.atMost DetourCells.ahead DetourCells.apart DetourCells.between DetourCells.covers DetourCells.far DetourCells.nearer DetourCells.struck DetourCells.look DetourCells.sameCell DetourCells.settled DetourCells.onward DetourCells.walk DetourCells.signOf DetourCells.boundary DetourCells.firstSide DetourCells.sideStep DetourCells.rayOf DetourCells.spotOf DetourCells.cellCount DetourCells.walked DetourCells.found DetourCells.firstHit DetourDetour.cornersOf DetourDetour.cost DetourDetour.costKey DetourDetour.clears DetourDetour.clearing DetourDetour.cheaper DetourDetour.cheapest DetourDetour.orElse DetourDetour.corner DetourDetour.detourOn DetourDetour.detourTo DetourDetour.detour BarsBar.barX BarsBar.rowY BarsBar.spanOf BarsBar.include BarsBar.includeEnd BarsBar.includeBranch BarsBar.spanTo BarsBar.reach BarsBar.lengthened BarsBar.barFor BarsBar.spans BarsBar.bars BarsBar.position BarsBar.rowEnd BarsExit.exitX BarsExit.exit RunsRun.slot RunsRun.between RunsRun.linePoints RunsRun.runFor RunsRun.runOf RunsRun.runs RunsRun.apart RunsRun.pieces RunsRun.isLine RunsRun.allPieces RunsRun.role RunsFinite.allOf RunsFinite.finitePoint RunsFinite.finiteBox RunsFinite.finiteBar RunsLists.flat OrderOver.over RunsLists.after RoutingRoute.placeIn RoutingRoute.numberOf RoutingRoute.makeChannel RoutingRoute.withChannel RoutingRoute.crossingOf RoutingRoute.cross RoutingRoute.crossAll RoutingRoute.addWalk RoutingRoute.addBranch RoutingRoute.tracedTo RoutingRoute.routing RoutingRoute.pointOn RoutingRoute.pointOf RoutingRoute.members RoutingRoute.exitOf RoutingRoute.wish RoutingRoute.spaceOne RoutingRoute.spacedTo RoutingRoute.roundsTo RoutingRoute.waypoints CrossingsGap.gapOf RoutingViews.exitAt RoutingViews.lineBetween RoutingViews.lineFor RoutingViews.lineIn RoutingViews.linesIn RoutingViews.sceneIn RoutesRoutes.meshUsed RoutesRoutes.meshFits RoutesRouted.routedIn RoutesRoutes.crossingsOf RoutesRoutes.routeRefusal ResultsBounds.around ResultsBounds.aroundAll ResultsBounds.boundsOf LayoutDrawing.straightScene LayoutDrawing.planned LayoutDrawing.ledScene LayoutDrawing.lineFor LayoutDrawing.lineOf LayoutDrawing.routedScene LayoutDrawing.routedOf LayoutDrawing.waysOf LayoutDrawing.sceneOf LayoutDrawing.drawing LayoutAnswer.numberOf LayoutAnswer.shortResults LayoutAnswer.shortWork LayoutAnswer.early LayoutAnswer.pieceRoom LayoutAnswer.crossingRoom LayoutAnswer.allFinite LayoutAnswer.routedBy LayoutAnswer.lateBy LayoutAnswer.late LayoutAnswer.listsOf LayoutAnswer.listsAfter LayoutAnswer.clearedWork LayoutAnswer.clearedCrossings LayoutAnswer.answerBy LayoutAnswer.answerFor LayoutAnswer.callLate LayoutAnswer.callEarly LayoutAnswer.layoutOf FiguresFit.each FiguresFit.allNamed FiguresFit.isLine FiguresFit.endAt FiguresFit.isKnown FiguresFit.joins FiguresFit.allJoin FiguresFit.moderate FiguresFit.allModerate FiguresFit.upright FiguresFit.allUpright FiguresFit.allLocated FiguresFit.fits FiguresScale.modestEnds FiguresScale.illDrawn FiguresOverlaps.clash FiguresOverlaps.clashes FiguresOverlaps.overlaps FiguresFigure.middle FiguresFigure.middles FiguresFigure.displacements FiguresFigure.shorter FiguresFigure.spacingsFrom FiguresFigure.spacings FiguresRelative.pieceStart FiguresRelative.pieceEnd FiguresRelative.longer FiguresRelative.begun FiguresRelative.ratio FiguresRelative.ended FiguresRelative.relativeOn FiguresRelative.relatives AuditThrough.stationAt AuditThrough.isHit AuditThrough.crosses AuditThrough.runsThrough AuditThrough.through AuditAnswer.numberOf AuditAnswer.tooShort AuditAnswer.early AuditAnswer.boxesOf AuditAnswer.stationsOf AuditAnswer.lateBy AuditAnswer.late AuditAnswer.listsOf AuditAnswer.figuresOf AuditAnswer.listsAfter AuditAnswer.cleared AuditAnswer.answerBy AuditAnswer.callLate AuditAnswer.callEarly AuditAnswer.auditOf ListingField.digit ListingField.closed ListingField.digitsTo ListingField.limited ListingField.positive ListingField.whole ListingField.hexadecimal ListingField.pattern ListingField.minus ListingField.plus ListingField.busNumber ListingLine.begins ListingLine.busNames ListingLine.branchNames ListingLine.andThen ListingLine.busLine ListingLine.branchLine ListingInput.noBuses ListingInput.noBranches ListingInput.addBus ListingInput.addBranch ListingInput.linesTo ListingInput.busLines ListingInput.atEnd ListingInput.branchLines ListingInput.withBranches ListingInput.withBuses ListingInput.parsed ListingInput.read ListingInput.counted FieldsSpell.glyph FieldsSpell.digits FieldsSpell.placesIn FieldsSpell.numberField FieldsSpell.shown FieldsSpell.floatField ListingOutput.pieceNames ListingOutput.pointFields ListingOutput.pieceLine ListingOutput.listing ListingOutput.refusal FieldsSpell.putAt Listed.listOptions Listed.plotted Listed.textBy Listed.textOf Listed.networkOf Listed.outputOf SmallHeld.heldCall ListingLinePlaces.answer ListingLinePlaces.numberOf DetourIndex.indexLength
 table =
     -- the worked output of `drawlist`, its bytes
     record {
-      gives = let c = called (searching (pos 10)) example in written (c .answer) (c .lists);
+      gives = Listed.outputOf text;
       says =
           98 ∷ 114 ∷ 97 ∷ 110 ∷ 99 ∷ 104 ∷ 32 ∷ 114 ∷ 111 ∷ 108 ∷ 101 ∷ 32 ∷ 120 ∷ 48 ∷ 32 ∷ 121 ∷ 48 ∷ 32 ∷ 120 ∷ 49
           ∷ 32 ∷ 121 ∷ 49 ∷ 10 ∷ 48 ∷ 32 ∷ 49 ∷ 32 ∷ 66 ∷ 70 ∷ 67 ∷ 48 ∷ 48 ∷ 48 ∷ 48 ∷ 48 ∷ 48 ∷ 48 ∷ 48 ∷ 48 ∷ 48 ∷ 48
@@ -233,7 +245,7 @@ table =
       says = 0x4014_0000_0000_0000 ∷ 0x3FF6_A09E_667F_3BCD ∷ [];
     }
     -- floor of −0.5 is −1
-    ∷ record { gives = bitsOf (FloatFloor.floorOf (bits 0xBFE0_0000_0000_0000)) ∷ []; says = 0xBFF0_0000_0000_0000 ∷ [] }
+    ∷ record { gives = code (FloatFloor.floorInt (bits 0xBFE0_0000_0000_0000)) ∷ []; says = code (negsuc 0) ∷ [] }
     -- piece (0, 0) to (1, 0) hits box 1, 0, 2, 1 and misses 1.5, 0, 2, 1
     ∷ record {
       gives =

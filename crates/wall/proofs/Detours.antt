@@ -11,11 +11,11 @@ use Rattle.float.specs.Ops.{f½, _⊗_}
 use Rattle.geometry.specs.declared.Point.{Point}
 use Rattle.geometry.specs.declared.Box.{Box}
 use Rattle.placement.specs.Place.{boxIn}
-use Rattle.detour.specs.declared.walk.FirstHit.{FirstHit}
-use Rattle.detour.specs.declared.walk.FirstHit.the-variants.{Free, At}
+use Rattle.cells.specs.declared.walk.FirstHit.{FirstHit}
+use Rattle.cells.specs.declared.walk.FirstHit.the-variants.{Free, At}
 use Rattle.detour.specs.declared.corner.Choice.{Choice}
 use Rattle.detour.specs.declared.corner.Choice.the-variants.{Nowhere, Over}
-use Rattle.detour.specs.Cells.{firstHit}
+use Rattle.cells.specs.Cells.{firstHit}
 use Rattle.detour.specs.Detour.{cornersOf, costKey, clears, clearing, cheaper, cheapest, orElse, corner, detourOn, detourTo, detour}
 use Rattle.wall.proofs.Every.{Every}
 

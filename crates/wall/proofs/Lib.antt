@@ -9,6 +9,9 @@ mod Opened
 mod Call
 mod Boxed
 mod Parts
+mod Barred
+mod Crossed
+mod Routed
 pub mod Whole
 mod Claiming
 pub mod Cases

@@ -21,7 +21,7 @@ use Rattle.order.specs.Table.{tableFrom, table}
 use Rattle.order.specs.Median.{finiteOf, insertFloat, sortFloats, middle, medianOf, orElse}
 use Rattle.geometry.specs.declared.Point.{Point}
 use Rattle.geometry.specs.Plane.{pointAt}
-use Rattle.neighbours.specs.Near.{distance, nearer, nearestTo, nearest, neighbours}
+use Rattle.proximity.specs.Near.{distance, nearer, nearestTo, nearest, neighbours}
 use Rattle.network.specs.declared.options.Options.{Options}
 use Rattle.network.specs.Options.{between, buffer}
 use Rattle.network.specs.Words.{isOccupied, occupied}

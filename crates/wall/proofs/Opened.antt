@@ -1,12 +1,12 @@
 -- The parts of a drawing, each by the definition of its step. Assumes nothing.
---     run-ends      where the run of each branch begins and ends
+--     run-points    the points of each branch's run
 --     points-fit    every point of a run is of the format
 use Prim.Native.Nat.{ℕ, zero, suc, _<_}
 use mathlib.Core.Path.{_≡_, refl, sym, ap, subst, _∙_}
 use mathlib.Core.Bool.{Bool, true, false, cond}
 use mathlib.Core.List.{List, [], _∷_, _++_, map}
-use lib.Dec.{T}
-use lib.ListN.{length, getD}
+use lib.Dec.{T, ltb}
+use lib.ListN.{length, getD, length-map, List·getD-map}
 use lib.Ieee.{Float, binary64, fits, lt, le}
 use lib.Ieee.Fits.{add-fits, sub-fits, div-fits}
 use lib.Ieee.Bits.{ofBits-fits}
@@ -20,7 +20,7 @@ use Rattle.network.specs.declared.options.Options.{Options}
 use Rattle.network.specs.Options.{searchOf, minBar}
 use Rattle.network.specs.declared.words.Kind.{Kind}
 use Rattle.network.specs.declared.words.Kind.the-variants.{Undrawn, Open, Internal, Line}
-use Rattle.network.specs.Words.{stationOf, stationCount, busCounts, isOccupied, kindOf, kinds, kindAt}
+use Rattle.network.specs.Words.{stationOf, busCounts, isOccupied, occupied, kinds, kindAt}
 use Rattle.network.specs.Seed as Seed
 use Rattle.network.specs.Seed.{placeAt}
 use Rattle.stations.specs.Column as Column
@@ -29,21 +29,24 @@ use Rattle.units.specs.Size as Sizes
 use Rattle.units.specs.Size.{Size}
 use Rattle.units.specs.Unit.{spacing, typical, unitFor}
 use Rattle.units.specs.Scale as Scale
-use Rattle.placement.specs.declared.offset.Offset.{Offset}
-use Rattle.placement.specs.Offset as Offset
-use Rattle.placement.specs.Place.{Frame, frames, placementOrder, places, boxes, boxOf, boxOn, boxIn, noBox}
+use Rattle.offsets.specs.declared.offset.Offset.{Offset}
+use Rattle.offsets.specs.Offset as Offset
+use Rattle.placement.specs.Place.{Frame, frames, places, boxes, boxOf, boxOn, boxIn, noBox}
+use Rattle.turns.specs.Turns.{placementOrder}
 use Rattle.bars.specs.declared.Bar.{Bar}
 use Rattle.bars.specs.Bar as Bars
 use Rattle.bars.specs.Bar.{Span, bare, rows, reach, lengthened, barFor, barAt, position, rowEnd, middle}
 use Rattle.bars.specs.Exit.{exitX, exit}
 use Rattle.runs.specs.Run as Run
-use Rattle.detour.specs.Cells.{cellSize}
+use Rattle.cells.specs.Cells.{cellSize}
 use Rattle.detour.specs.Detour.{detour}
-use Rattle.routing.specs.Route as Route
-use Rattle.runs.specs.Run.{Scene, slot, between, linePoints, runFor, runOf, allPieces}
+use Rattle.crossings.specs.Route as Route
+use Rattle.runs.specs.Run.{Scene, slot, between, linePoints, runFor, runOf, allPieces, role}
 use Rattle.drawing.specs.Network.{Network}
-use Rattle.drawing.specs.Drawing.{Drawing, drawing, planned, straightScene, ledScene, sceneOf, routedOf, waysOf}
-use Rattle.wall.specs.Wall.{kind, allKinds, rowNumber, order, Between, pointsOf}
+use Rattle.crossings.specs.Gap.{gapOf}
+use Rattle.routes.specs.Routes.{crossingsOf}
+use Rattle.drawing.specs.Drawing.{drawing, planned, straightScene, ledScene, sceneOf, routedOf, routedScene, waysOf}
+use Rattle.wall.specs.Wall.{kind, allKinds, rowNumber, order}
 use Rattle.wall.proofs.Every.{Every, every-at, every-table, every-append, every-map}
 use Rattle.wall.proofs.Detours.{FitsPoint, detour-fits}
 
@@ -205,14 +208,36 @@ module _ (o : Options) (N : Network) where
   abbrev pub slotAt : ℕ → ℕ → Point
   slotAt i r = rowEnd (N .station) blocks (drawing o N .boxes) (drawing o N .bars) i r
 
-  -- where the run of branch e begins and ends
+  abbrev pub stationList : List ℕ
+  stationList = occupied counts
+
+  -- what the lines are routed through, and branch e's waypoints
+  abbrev pub routed : Route.Scene
+  routed = routedOf o N (planned o N)
+
+  abbrev pub via : ℕ → List Point
+  via e = getD (waysOf routed (crossingsOf routed (o .«route_iterations»))) e []
+
+  -- a path from station s to station t, led round boxes where there are iterations
+  abbrev pub ledPath : ℕ → ℕ → List Point → List Point
+  ledPath s t path =
+      cond (ltb 0 (o .«route_iterations»)) (detour (drawing o N .boxes) stationList (cellSize (drawing o N .boxes) stationList) (gapOf unit) s t path) path
+
+  -- the points of branch e's run, and what they are by its kind
+  abbrev pub drawnPoints : ℕ → List Point
+  drawnPoints e = getD (drawing o N .runs) e []
+
   unfoldable pub Ended : ℕ → List Point → Kind → Type 0
   Ended e points Undrawn = points ≡ []
   Ended e points (Open a b) = points ≡ position (barAt (drawing o N .bars) a) ∷ position (barAt (drawing o N .bars) b) ∷ []
   Ended e points (Internal a b) =
       points ≡ slotAt a (rowNumber N (stationOf (N .station) a) e) ∷ slotAt b (rowNumber N (stationOf (N .station) b) e) ∷ []
   Ended e points (Line a b) =
-      Between (slotAt a (rowNumber N (stationOf (N .station) a) e)) (slotAt b (rowNumber N (stationOf (N .station) b) e)) points
+      let s = stationOf (N .station) a in
+      let t = stationOf (N .station) b in
+      let u = slotAt a (rowNumber N s e) in
+      let w = slotAt b (rowNumber N t e) in
+      points ≡ u ∷ (ledPath s t (exit (drawing o N .boxes) end s t (u .y) ∷ (via e ++ (exit (drawing o N .boxes) end t s (w .y) ∷ []))) ++ (w ∷ []))
 
   scene : Scene
   scene = sceneOf o N (planned o N)
@@ -229,46 +254,51 @@ module _ (o : Options) (N : Network) where
   unfolding kinds
   kind-at e h = getD-table _ (length (N .from)) e Undrawn h
 
-  run-at : (e : ℕ) → e < length (N .from) → pointsOf o N e ≡ runOf scene e
+  roles-are : drawing o N .roles ≡ map role (allKinds N)
+  unfolding drawing
+  roles-are = refl
+
+  pub roles-length : length (drawing o N .roles) ≡ length (N .from)
+  roles-length = ap (λ (l : List ℕ). length l) roles-are ∙ length-map (allKinds N) role ∙ kinds-length
+
+  pub role-at : (e : ℕ) → e < length (N .from) → getD (drawing o N .roles) e (role Undrawn) ≡ role (kind N e)
+  role-at e h = ap (λ (l : List ℕ). getD l e (role Undrawn)) roles-are ∙ List·getD-map role (allKinds N) e Undrawn ∙ ap role (kind-at e h)
+
+  run-at : (e : ℕ) → e < length (N .from) → drawnPoints e ≡ runOf scene e
   unfolding Run.runs scene sceneOf ledScene planned straightScene
   run-at e h = ap (λ (l : List (List Point)). getD l e []) runs-are ∙ getD-table (runOf scene) _ e [] (subst (λ (n : ℕ). e < n) (sym kinds-length) h)
 
-  from-row : (e : ℕ) → e < length (N .from) → getD (fromRows (N .station) seeds (allKinds N)) e 0 ≡ fromRow (N .station) seeds (allKinds N) e (kindAt (allKinds N) e)
+  pub from-row : (e : ℕ) → e < length (N .from) → getD (fromRows (N .station) seeds (allKinds N)) e 0 ≡ fromRow (N .station) seeds (allKinds N) e (kindAt (allKinds N) e)
   unfolding fromRows
   from-row e h = getD-table _ _ e 0 (subst (λ (n : ℕ). e < n) (sym kinds-length) h)
 
-  to-row : (e : ℕ) → e < length (N .from) → getD (toRows (N .station) seeds (allKinds N)) e 0 ≡ toRow (N .station) seeds (allKinds N) e (kindAt (allKinds N) e)
+  pub to-row : (e : ℕ) → e < length (N .from) → getD (toRows (N .station) seeds (allKinds N)) e 0 ≡ toRow (N .station) seeds (allKinds N) e (kindAt (allKinds N) e)
   unfolding toRows
   to-row e h = getD-table _ _ e 0 (subst (λ (n : ℕ). e < n) (sym kinds-length) h)
 
-  by-kind : (e : ℕ) (via : List Point) (k : Kind)
-      → Ended e (runFor scene (fromRow (N .station) seeds (allKinds N) e k) (toRow (N .station) seeds (allKinds N) e k) via k) k
-  unfolding Ended runFor linePoints slot fromRow toRow scene sceneOf ledScene drawing planned straightScene
-  by-kind e via Undrawn = refl
-  by-kind e via (Open a b) = refl
-  by-kind e via (Internal a b) = refl
-  by-kind e via (Line a b) =
-      let s = stationOf (N .station) a in
-      let t = stationOf (N .station) b in
-      let p = slotAt a (rowNumber N s e) in
-      let q = slotAt b (rowNumber N t e) in
-      record {
-        middle =
-            between scene s t
-            (exit (drawing o N .boxes) (drawing o N .places) s t (p .y)
-            ∷ (via ++ (exit (drawing o N .boxes) (drawing o N .places) t s (q .y) ∷ [])));
-        whole = refl;
-      }
+  by-kind : (e : ℕ) (k : Kind)
+      → Ended e (runFor scene (fromRow (N .station) seeds (allKinds N) e k) (toRow (N .station) seeds (allKinds N) e k) (getD (scene .ways) e []) k) k
+  unfolding Ended runFor linePoints between slot fromRow toRow scene sceneOf ledScene drawing planned straightScene
+  by-kind e Undrawn = refl
+  by-kind e (Open a b) = refl
+  by-kind e (Internal a b) = refl
+  by-kind e (Line a b) = refl
 
-  pub run-ends : (e : ℕ) → e < length (N .from) → Ended e (pointsOf o N e) (kind N e)
+  pub run-points : (e : ℕ) → e < length (N .from) → Ended e (drawnPoints e) (kind N e)
   unfolding runOf scene sceneOf ledScene planned straightScene
-  run-ends e h =
-      let via = getD (scene .ways) e [] in
+  run-points e h =
+      let ways = getD (scene .ways) e [] in
       subst (λ (l : List Point). Ended e l (kind N e)) (sym (run-at e h))
-      (subst (λ (r : ℕ). Ended e (runFor scene r (getD (toRows (N .station) seeds (allKinds N)) e 0) via (kindAt (allKinds N) e)) (kind N e)) (sym (from-row e h))
-      (subst (λ (r : ℕ). Ended e (runFor scene (fromRow (N .station) seeds (allKinds N) e (kindAt (allKinds N) e)) r via (kindAt (allKinds N) e)) (kind N e)) (sym (to-row e h))
-      (subst (λ (k : Kind). Ended e (runFor scene (fromRow (N .station) seeds (allKinds N) e k) (toRow (N .station) seeds (allKinds N) e k) via k) (kind N e)) (sym (kind-at e h))
-      (by-kind e via (kind N e)))))
+      (subst (λ (r : ℕ). Ended e (runFor scene r (getD (toRows (N .station) seeds (allKinds N)) e 0) ways (kindAt (allKinds N) e)) (kind N e)) (sym (from-row e h))
+      (subst (λ (r : ℕ). Ended e (runFor scene (fromRow (N .station) seeds (allKinds N) e (kindAt (allKinds N) e)) r ways (kindAt (allKinds N) e)) (kind N e)) (sym (to-row e h))
+      (subst (λ (k : Kind). Ended e (runFor scene (fromRow (N .station) seeds (allKinds N) e k) (toRow (N .station) seeds (allKinds N) e k) ways k) (kind N e)) (sym (kind-at e h))
+      (by-kind e (kind N e)))))
+
+  -- its waypoints are those of its path
+  pub via-is : (e : ℕ) → e < length (N .from) → via e ≡ Route.waypoints routed (Route.routing routed) (crossingsOf routed (o .«route_iterations»)) e
+  unfolding waysOf routedOf routedScene planned straightScene
+  via-is e h =
+      getD-table _ _ e [] (subst (λ (n : ℕ). e < n) (sym (length-table _ (length (allKinds N)) ∙ kinds-length)) h)
 
   bars-good : (i : ℕ) → FitsBar (barAt (drawing o N .bars) i)
   unfolding drawing planned
@@ -278,7 +308,7 @@ module _ (o : Options) (N : Network) where
   unfolding drawing planned
   boxes-good s = boxes-fit _ counts _ s
 
-  pub points-fit : (e : ℕ) → e < length (N .from) → Every FitsPoint (pointsOf o N e)
+  pub points-fit : (e : ℕ) → e < length (N .from) → Every FitsPoint (drawnPoints e)
   unfolding runOf scene sceneOf ledScene planned straightScene drawing
   points-fit e h =
       subst (Every FitsPoint) (sym (run-at e h))

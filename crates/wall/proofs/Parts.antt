@@ -1,7 +1,7 @@
 -- The parts of the lists after a call that draws. Assumes nothing.
-use Prim.Native.Nat.{ℕ, _*_, _<_}
+use Prim.Native.Nat.{ℕ, _+_, _*_, _<_}
 use mathlib.Core.Path.{_≡_, refl, sym, ap, subst, _∙_}
-use mathlib.Core.List.{List, [], _∷_, _++_, map}
+use mathlib.Core.List.{List, [], _∷_, _++_}
 use native.Mathlib.Omega.{arith}
 use lib.ListN.{length, getD, take, drop, List·getD-map}
 use lib.Seq.{take-append-seam}
@@ -19,22 +19,23 @@ use Rattle.network.specs.Views.{boxesIn}
 use Rattle.network.proofs.Stations.{station-below}
 use Rattle.stations.specs.Row.{rowsIn}
 use Rattle.units.specs.Size as Sizes
-use Rattle.units.specs.Size.{Size, sizeAt, sizeFor}
+use Rattle.units.specs.Size.{Size, sizeAt, sizeFor, widthFor, heightFor}
 use Rattle.units.specs.Scale as Scale
 use Rattle.placement.specs.Place.{Frame, frames, frameFor, frameAt, boxes, boxIn}
-use Rattle.bars.specs.declared.Bar.{Bar}
 use Rattle.bars.specs.Bar.{position, barAt, blockAt, rowEnd, rowY}
-use Rattle.runs.specs.Run.{Piece}
-use Rattle.runs.specs.Lists.{flat, pointNumbers, boxNumbers, barNumbers, pieceNumbers, over, after}
+use Rattle.network.specs.declared.words.Kind.the-variants.{Undrawn}
+use Rattle.runs.specs.Run.{role}
+use Rattle.runs.specs.Lists.{flat, boxNumbers, barNumbers}
 use Rattle.figures.proofs.Reading.{boxes-read}
 use Rattle.drawing.specs.declared.answer.Plot.{Plot}
 use Rattle.drawing.specs.declared.answer.Answer.the-variants.{Drawn}
 use Rattle.drawing.specs.Network.{Network, Lists, Work, Crossings}
 use Rattle.drawing.specs.Drawing.{drawing}
-use Rattle.drawing.specs.Answer.{listsOf, listsAfter, layoutOf}
-use Rattle.wall.specs.Wall.{allKinds, rowCount, positionIn, rowEndIn, frameIn, piecesIn}
-use Rattle.wall.proofs.Reading.{flat-length, read-position, read-bar, read-box, read-one, read-pieces}
-use Rattle.wall.proofs.Opened.{counts, seeds, sizes, gap, unit, scales, fs, end, blocks, unit-is, scales-is, boxes-is, bars-length, slotAt}
+use Rattle.drawing.specs.Answer.{layoutOf}
+use Rattle.drawing.proofs.Written.{Written, lists-written}
+use Rattle.wall.specs.Wall.{kind, rowCount, positionIn, barIn, rowEndIn, frameIn, piecesIn}
+use Rattle.wall.proofs.Reading.{flat-length, read-position, read-bar, read-bar-x, read-box, read-one, read-pieces}
+use Rattle.wall.proofs.Opened.{counts, seeds, sizes, gap, unit, scales, fs, end, blocks, unit-is, scales-is, boxes-is, bars-length, roles-length, role-at, slotAt}
 use Rattle.wall.proofs.Call.{plot-is, lists-are}
 
 pub counts-length : (N : Network) → length (busCounts (N .station)) ≡ stationCount (N .station)
@@ -52,76 +53,52 @@ module _ (o : Options) (N : Network) (L : Lists) (W : Work) (X : Crossings) (p :
   abbrev k : ℕ
   k = stationCount (N .station)
 
-  unit-of : p .unit ≡ unit o N
+  pub unit-of : p .unit ≡ unit o N
   unit-of = ap (λ (q : Plot). q .unit) (plot-is o N L W X p drawn) ∙ unit-is o N
 
   pieces-of : p .pieces ≡ length (drawing o N .pieces)
   pieces-of = ap (λ (q : Plot). q .pieces) (plot-is o N L W X p drawn)
 
   -- ---- each list begins with the drawing's numbers
-  positions-are : exit .positions
-      ≡ flat (λ (b : Bar). pointNumbers (position b)) (drawing o N .bars)
-      ++ drop (length (flat (λ (b : Bar). pointNumbers (position b)) (drawing o N .bars))) (L .positions)
-  unfolding listsAfter listsOf after over
-  positions-are = ap (λ (l : Lists). l .positions) (lists-are o N L W X p drawn)
-
-  bars-are : exit .bars ≡ flat barNumbers (drawing o N .bars) ++ drop (length (flat barNumbers (drawing o N .bars))) (L .bars)
-  unfolding listsAfter listsOf after over
-  bars-are = ap (λ (l : Lists). l .bars) (lists-are o N L W X p drawn)
-
-  boxes-are : exit .boxes ≡ flat boxNumbers (drawing o N .boxes) ++ drop (length (flat boxNumbers (drawing o N .boxes))) (L .boxes)
-  unfolding listsAfter listsOf after over
-  boxes-are = ap (λ (l : Lists). l .boxes) (lists-are o N L W X p drawn)
-
-  scales-are : exit .scales ≡ drawing o N .scales ++ drop (length (drawing o N .scales)) (L .scales)
-  unfolding listsAfter listsOf after over
-  scales-are = ap (λ (l : Lists). l .scales) (lists-are o N L W X p drawn)
-
-  pieces-are : exit .pieces ≡ flat pieceNumbers (drawing o N .pieces) ++ drop (length (flat pieceNumbers (drawing o N .pieces))) (L .pieces)
-  unfolding listsAfter listsOf after over
-  pieces-are = ap (λ (l : Lists). l .pieces) (lists-are o N L W X p drawn)
-
-  branches-are : exit .branches
-      ≡ map (λ (q : Piece). q .branch) (drawing o N .pieces) ++ drop (length (map (λ (q : Piece). q .branch) (drawing o N .pieces))) (L .branches)
-  unfolding listsAfter listsOf after over
-  branches-are = ap (λ (l : Lists). l .branches) (lists-are o N L W X p drawn)
+  written : Written (drawing o N) L exit
+  written = subst (Written (drawing o N) L) (sym (lists-are o N L W X p drawn)) (lists-written (drawing o N) L)
 
   -- ---- what they hold
   pub held-pieces : piecesIn exit (p .pieces) ≡ drawing o N .pieces
-  held-pieces = ap (piecesIn exit) pieces-of ∙ read-pieces (drawing o N .pieces) _ _ exit pieces-are branches-are
+  held-pieces = ap (piecesIn exit) pieces-of ∙ read-pieces (drawing o N .pieces) _ _ exit (written .pieces) (written .branches)
 
   pub held-position : (i : ℕ) → i < length (N .station) → positionIn exit i ≡ position (barAt (drawing o N .bars) i)
   held-position i h =
-      ap (λ (l : List Float). Rattle.geometry.specs.Plane.pointAt l i) positions-are
+      ap (λ (l : List Float). Rattle.geometry.specs.Plane.pointAt l i) (written .positions)
       ∙ read-position (drawing o N .bars) _ i (subst (λ (n : ℕ). i < n) (sym (bars-length o N)) h)
 
-  boxes-length : length (drawing o N .boxes) ≡ k
+  pub boxes-length : length (drawing o N .boxes) ≡ k
   unfolding boxes
   boxes-length = ap (λ (l : List Box). length l) (boxes-is o N) ∙ length-table _ (length (counts o N)) ∙ counts-length N
 
   pub held-box : (s : ℕ) → s < k → boxAt (exit .boxes) s ≡ boxIn (drawing o N .boxes) s
   held-box s h =
-      ap (λ (l : List Float). boxAt l s) boxes-are ∙ read-box (drawing o N .boxes) _ s (subst (λ (n : ℕ). s < n) (sym boxes-length) h)
+      ap (λ (l : List Float). boxAt l s) (written .boxes) ∙ read-box (drawing o N .boxes) _ s (subst (λ (n : ℕ). s < n) (sym boxes-length) h)
 
   -- the box list that an audit is handed
   pub held-boxes : boxesIn k (take (4 * k) (exit .boxes)) ≡ boxes (fs o N) (counts o N) (end o N)
   held-boxes =
       let bs = drawing o N .boxes in
       let e : 4 * k ≡ length (flat boxNumbers bs) = ap (λ (n : ℕ). 4 * n) (sym boxes-length) ∙ sym (flat-length boxNumbers 4 (λ x. refl) bs) in
-      ap (λ (l : List Float). boxesIn k (take (4 * k) l)) boxes-are
+      ap (λ (l : List Float). boxesIn k (take (4 * k) l)) (written .boxes)
       ∙ ap (λ (n : ℕ). boxesIn k (take n (flat boxNumbers bs ++ drop (length (flat boxNumbers bs)) (L .boxes)))) e
       ∙ ap (boxesIn k) (take-append-seam (flat boxNumbers bs) (drop (length (flat boxNumbers bs)) (L .boxes)))
       ∙ ap (boxesIn k) (sym (mathlib.Core.List.append-nil (flat boxNumbers bs)))
       ∙ ap (λ (n : ℕ). boxesIn n (flat boxNumbers bs ++ [])) (sym boxes-length)
       ∙ boxes-read bs [] ∙ boxes-is o N
 
-  scales-length : length (scales o N) ≡ k
+  pub scales-length : length (scales o N) ≡ k
   unfolding Scale.scales Scale.scalesOf
   scales-length = length-table _ (length (counts o N)) ∙ counts-length N
 
-  held-scale : (s : ℕ) → s < k → getD (exit .scales) s nan ≡ getD (scales o N) s f1
+  pub held-scale : (s : ℕ) → s < k → getD (exit .scales) s nan ≡ getD (scales o N) s f1
   held-scale s h =
-      ap (λ (l : List Float). getD l s nan) scales-are
+      ap (λ (l : List Float). getD l s nan) (written .scales)
       ∙ read-one (drawing o N .scales) _ s nan f1 (subst (λ (l : List Float). s < length l) (sym (scales-is o N)) (subst (λ (n : ℕ). s < n) (sym scales-length) h))
       ∙ ap (λ (l : List Float). getD l s f1) (scales-is o N)
 
@@ -140,26 +117,41 @@ module _ (o : Options) (N : Network) (L : Lists) (W : Work) (X : Crossings) (p :
       ∙ ap (λ (c : ℕ). sizeFor c (rowCount N s)) (getD-table (busesIn (N .station)) k s 0 h)
 
   pub held-frame : (s : ℕ) → s < k → frameAt (fs o N) s ≡ frameIn N p exit s
-  unfolding frameIn
+  unfolding frameIn frameFor sizeFor widthFor heightFor
   held-frame s h =
       frame-at s h ∙ ap (frameFor (unit o N) (getD (scales o N) s f1)) (size-at s h)
       ∙ ap (λ (x : Float). frameFor (unit o N) x (sizeFor (busesIn (N .station) s) (rowCount N s))) (sym (held-scale s h))
       ∙ ap (λ (u : Float). frameFor u (getD (exit .scales) s nan) (sizeFor (busesIn (N .station) s) (rowCount N s))) (sym unit-of)
 
-  block-at : (s : ℕ) → s < k → blockAt (blocks o N) s ≡ p .unit ⊗ getD (exit .scales) s nan
-  unfolding frameIn frameFor
+  pub block-at : (s : ℕ) → s < k → blockAt (blocks o N) s ≡ p .unit ⊗ getD (exit .scales) s nan
+  unfolding frameIn
   block-at s h = List·getD-map (λ (r : Frame). r .f) (fs o N) s _ ∙ ap (λ (r : Frame). r .f) (held-frame s h)
 
-  bar-at : (i : ℕ) → i < length (N .station) → getD (exit .bars) (4 * i) nan ≡ barAt (drawing o N .bars) i .x
-  bar-at i h =
-      ap (λ (l : List Float). getD l (4 * i) nan) bars-are
-      ∙ read-bar (drawing o N .bars) _ i (subst (λ (n : ℕ). i < n) (sym (bars-length o N)) h)
+  pub held-bar : (i : ℕ) → i < length (N .station) → barIn exit i ≡ barNumbers (barAt (drawing o N .bars) i)
+  held-bar i h =
+      let bs = drawing o N .bars in
+      let l : i < length (drawing o N .bars) = subst (λ (n : ℕ). i < n) (sym (bars-length o N)) h in
+      let g : List Float = flat barNumbers bs ++ drop (length (flat barNumbers bs)) (L .bars) in
+      ap (λ (m : List Float). getD m (4 * i) nan ∷ getD m (4 * i + 1) nan ∷ getD m (4 * i + 2) nan ∷ getD m (4 * i + 3) nan ∷ []) (written .bars)
+      ∙ ap (λ (x : Float). x ∷ getD g (4 * i + 1) nan ∷ getD g (4 * i + 2) nan ∷ getD g (4 * i + 3) nan ∷ []) (read-bar-x bs _ i l)
+      ∙ ap (λ (x : Float). barAt bs i .x ∷ x ∷ getD g (4 * i + 2) nan ∷ getD g (4 * i + 3) nan ∷ []) (read-bar bs _ i 1 l (omega arith))
+      ∙ ap (λ (x : Float). barAt bs i .x ∷ barAt bs i .y0 ∷ x ∷ getD g (4 * i + 3) nan ∷ []) (read-bar bs _ i 2 l (omega arith))
+      ∙ ap (λ (x : Float). barAt bs i .x ∷ barAt bs i .y0 ∷ barAt bs i .x ∷ x ∷ []) (read-bar bs _ i 3 l (omega arith))
+
+  pub bar-at : (i : ℕ) → i < length (N .station) → getD (exit .bars) (4 * i) nan ≡ barAt (drawing o N .bars) i .x
+  bar-at i h = ap (λ (l : List Float). getD l 0 nan) (held-bar i h)
+
+  pub held-role : (e : ℕ) → e < length (N .from) → getD (exit .roles) e 3 ≡ role (kind N e)
+  held-role e h =
+      let l : e < length (drawing o N .roles) = subst (λ (n : ℕ). e < n) (sym (roles-length o N)) h in
+      ap (λ (m : List ℕ). getD m e 3) (written .roles) ∙ read-one (drawing o N .roles) _ e 3 (role Undrawn) l ∙ role-at o N e h
 
   pub held-end : (i r : ℕ) → i < length (N .station) → rowEndIn N p exit i r ≡ slotAt o N i r
   unfolding rowEndIn rowEnd
   held-end i r h =
       let s = stationOf (N .station) i in
       let l : stationOf (N .station) i < k = station-below (N .station) i h in
+      unfold rowY in
       ap (λ (x : Float). point x (rowY (boxAt (exit .boxes) s) (p .unit ⊗ getD (exit .scales) s nan) r)) (bar-at i h)
       ∙ ap (λ (b : Box). point (barAt (drawing o N .bars) i .x) (rowY b (p .unit ⊗ getD (exit .scales) s nan) r)) (held-box s l)
       ∙ ap (λ (f : Float). point (barAt (drawing o N .bars) i .x) (rowY (boxIn (drawing o N .boxes) s) f r)) (sym (block-at s l))

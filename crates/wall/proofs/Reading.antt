@@ -18,7 +18,7 @@ use Rattle.bars.specs.declared.Bar.{Bar}
 use Rattle.bars.specs.Bar.{position, barAt}
 use Rattle.runs.specs.Run.{Piece}
 use Rattle.runs.specs.Lists.{flat, pointNumbers, boxNumbers, barNumbers, pieceNumbers}
-use Rattle.figures.specs.Relative.{pieceStart, pieceEnd}
+use Rattle.stretches.specs.Relative.{pieceStart, pieceEnd}
 use Rattle.drawing.specs.Network.{Lists}
 use Rattle.wall.specs.Wall.{pieceIn, piecesIn}
 
@@ -65,9 +65,12 @@ read-position bs rest i h =
     (flat-first (λ (b : Bar). pointNumbers (position b)) 2 (λ x. refl) bs rest i _ nan h (omega arith))
     (flat-at (λ (b : Bar). pointNumbers (position b)) 2 (λ x. refl) bs rest i 1 _ nan h (omega arith))
 
--- a bar's x
-pub read-bar : (bs : List Bar) (rest : List Float) (i : ℕ) → i < length bs → getD (flat barNumbers bs ++ rest) (4 * i) nan ≡ barAt bs i .x
-read-bar bs rest i h = flat-first barNumbers 4 (λ x. refl) bs rest i _ nan h (omega arith)
+-- the four numbers of a bar
+pub read-bar : (bs : List Bar) (rest : List Float) (i j : ℕ) → i < length bs → j < 4 → getD (flat barNumbers bs ++ rest) (4 * i + j) nan ≡ getD (barNumbers (barAt bs i)) j nan
+read-bar bs rest i j h k = flat-at barNumbers 4 (λ x. refl) bs rest i j _ nan h k
+
+pub read-bar-x : (bs : List Bar) (rest : List Float) (i : ℕ) → i < length bs → getD (flat barNumbers bs ++ rest) (4 * i) nan ≡ barAt bs i .x
+read-bar-x bs rest i h = flat-first barNumbers 4 (λ x. refl) bs rest i _ nan h (omega arith)
 
 -- the four numbers of a box
 pub read-box : (bs : List Box) (rest : List Float) (s : ℕ) → s < length bs → boxAt (flat boxNumbers bs ++ rest) s ≡ boxIn bs s

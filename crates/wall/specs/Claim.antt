@@ -1,5 +1,5 @@
 -- A drawing and the audit of it in one call, and what is claimed of it. Definitions only.
-use Prim.Native.Nat.{ℕ, _<_}
+use Prim.Native.Nat.{ℕ, _*_, _≤_, _<_}
 use mathlib.Core.Path.{_≡_}
 use mathlib.Core.Bool.{true}
 use lib.ListN.{length, getD}
@@ -8,54 +8,91 @@ use Rattle.drawing.specs.declared.answer.Plot.{Plot}
 use Rattle.drawing.specs.declared.answer.Answer.{Answer}
 use Rattle.drawing.specs.declared.answer.Answer.the-variants.{Drawn, Refused}
 use Rattle.drawing.specs.Network.{Network, Lists, Work, work, Crossings, crossings}
-use Rattle.drawing.specs.Answer.{Call, layoutOf}
-use Rattle.audit.specs.declared.answer.Figures.{Figures}
-use Rattle.audit.specs.declared.answer.Audit.{Audit}
-use Rattle.audit.specs.declared.answer.Audit.the-variants as Audits
-use Rattle.audit.specs.Drawn as Lent
-use Rattle.audit.specs.Answer as Audited
-use Rattle.audit.specs.Answer.{auditOf}
+use Rattle.drawing.specs.Answer.{roomOf, Call, layoutOf}
+use Rattle.drawing.specs.Number.{layoutNumber}
+use Rattle.findings.specs.declared.answer.Figures.{Figures}
+use Rattle.findings.specs.declared.answer.Audit.{Audit}
+use Rattle.findings.specs.declared.answer.Audit.the-variants as Audits
+use Rattle.findings.specs.Drawn as Lent
+use Rattle.findings.specs.Answer.{auditOf}
+use Rattle.wall.specs.declared.answer.Checked.{Checked}
+use Rattle.wall.specs.declared.answer.Checked.the-variants as Checks
+use Rattle.wall.specs.declared.answer.Checked.the-variants.{LayoutRefused, AuditRefused}
 use Rattle.wall.specs.Wall.{order, isFree, audited, Wall}
 
 -- what such a call answers, and the lists after it
 pub record Both : Type 0 where
-  pub answer : Audit
+  pub answer : Checked
   pub lists : Lists
   pub work : Work
   pub crossings : Crossings
 
-abbrev pub both : Audit → Lists → Work → Crossings → Both
+abbrev pub both : Checked → Lists → Work → Crossings → Both
 both a l w x = record { answer = a; lists = l; work = w; crossings = x }
 
--- the audit of a drawing of so many pieces as layout left it: the work lists are layout's, the figures go into `blocks`, `frames` and `ways`
-unfoldable pub auditAfter : Network → ℕ → Call → Audited.Call
-auditAfter N count C =
-    auditOf
-    (audited N (C .lists) count)
+-- 01's number of its layout, for each answer
+unfoldable pub layoutNumberOf : Checked → ℕ
+layoutNumberOf (LayoutRefused r) = r
+layoutNumberOf (AuditRefused p r) = 0
+layoutNumberOf (Checks.Audited p f) = 0
+
+-- The answer holds the plot p: layout has drawn.
+unfoldable pub Plots : Checked → Plot → Type 0
+Plots (LayoutRefused r) p = ⊥
+Plots (AuditRefused q r) p = q ≡ p
+Plots (Checks.Audited q f) p = q ≡ p
+
+-- The piece lists, of these lengths, hold a drawing's pieces.
+unfoldable pub Holds : Answer → ℕ → ℕ → Type 0
+Holds (Drawn p) numbers names = (4 * p .pieces ≤ numbers) × (p .pieces ≤ names)
+Holds (Refused r) numbers names = Unit {0}
+
+-- what is answered of a drawing, by the audit's answer
+unfoldable pub checkedBy : Plot → Audit → Checked
+checkedBy p (Audits.Audited f) = Checks.Audited p f
+checkedBy p (Audits.Refused r) = AuditRefused p r
+
+-- the answer, and the audit's lists after it
+pub record Check : Type 0 where
+  pub answer : Checked
+  pub lists : Lent.Lists
+  pub work : Lent.Work
+
+abbrev pub check : Checked → Lent.Lists → Lent.Work → Check
+check a l w = record { answer = a; lists = l; work = w }
+
+-- the audit of what layout answered, by the drawing of so many pieces that is handed to it: what layout refuses is not audited
+unfoldable pub checkBy : Answer → (ℕ → Lent.Drawn) → Lent.Lists → Lent.Work → Check
+checkBy (Drawn p) parts F U = let A = auditOf (parts (p .pieces)) F U in check (checkedBy p (A .answer)) (A .lists) (A .work)
+checkBy (Refused r) parts F U = check (LayoutRefused r) F U
+
+-- the same after a call of layout: the audit's work lists are layout's, its figures go into `blocks`, `frames` and `ways`
+unfoldable pub checkAfter : Network → Call → Check
+checkAfter N C =
+    checkBy (C .answer)
+    (audited N (C .lists))
     (Lent.lists (C .work .blocks) (C .work .frames) (C .crossings .ways))
     (Lent.work (C .work .stations) (C .work .sorted) (C .work .spare) (C .work .keys) (C .work .places) (C .work .path))
 
--- the lists after it
-unfoldable pub bothAfter : Call → Audited.Call → Both
+-- the answer, and the lists after both
+unfoldable pub bothAfter : Call → Check → Both
 bothAfter C A =
     both (A .answer) (C .lists)
     (work (A .work .stations) (C .work .buses) (C .work .ends) (A .work .index) (A .work .spare) (A .work .keys) (A .work .points) (A .lists .displacement) (A .lists .spacing) (A .work .path))
     (crossings (C .crossings .numbers) (C .crossings .places) (A .lists .relative))
 
--- by layout's answer: what it refuses is not audited
-unfoldable pub bothBy : Network → Call → Answer → Both
-bothBy N C (Drawn p) = bothAfter C (auditAfter N (p .pieces) C)
-bothBy N C (Refused r) = both (Audits.Refused r) (C .lists) (C .work) (C .crossings)
-
 unfoldable pub drawAndAudit : Options → Network → Lists → Work → Crossings → Both
-drawAndAudit o N L W X = let C = layoutOf o N L W X in bothBy N C (C .answer)
+drawAndAudit o N L W X = let C = layoutOf o N L W X in bothAfter C (checkAfter N C)
 
 -- What is claimed of it, whatever the lists held before.
 pub record Claim (o : Options) (N : Network) (L : Lists) (W : Work) (X : Crossings) (B : Both) : Type 0 where
   pub is : B ≡ drawAndAudit o N L W X
-  -- A drawing is as 01 says.
-  pub wall : (p : Plot) → layoutOf o N L W X .answer ≡ Drawn p → Wall o N (B .lists) p
-  -- Figures come of a drawing only, and count no overlap if every station found a free place.
-  pub clean : (f : Figures) → B .answer ≡ Audits.Audited f → (p : Plot)
-      × (drawn : layoutOf o N L W X .answer ≡ Drawn p)
-      × (((i : ℕ) → i < length (order N) → isFree N (B .lists) p i (wall p drawn .boxes .places (getD (order N) i 0)) ≡ true) → f .overlaps ≡ 0)
+  -- Layout's number is that of 01's table.
+  pub number : layoutNumberOf (B .answer) ≡ layoutNumber o N (roomOf L W X)
+  -- A refusal of layout changes no result list.
+  pub refused : (r : ℕ) → B .answer ≡ LayoutRefused r → B .lists ≡ L
+  -- A drawing, with the plot that is answered, is as 01 says, whether the audit takes it or not.
+  pub wall : (p : Plot) → Plots (B .answer) p → Wall o N (B .lists) p
+  -- Figures count no overlap if every station found a free place.
+  pub clean : (p : Plot) (f : Figures) (drawn : Plots (B .answer) p) → B .answer ≡ Checks.Audited p f
+      → ((i : ℕ) → i < length (order N) → isFree N (B .lists) p i (wall p drawn .boxes .places (getD (order N) i 0)) ≡ true) → f .overlaps ≡ 0

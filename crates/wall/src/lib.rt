@@ -1,2 +1,3 @@
 // A drawing and the audit of it.
+pub mod answer;
 pub mod check;

@@ -4,7 +4,7 @@ use mathlib.Core.Path.{_≡_}
 use native.Mathlib.Omega.{arith}
 use Rattle.order.specs.Table.{howMany}
 use Rattle.order.proofs.Tables.{howMany-zero}
-use Rattle.neighbours.specs.Near.{near, within}
+use Rattle.proximity.specs.Near.{near, within}
 use Rattle.neighbours.proofs.Scans.{near-same, near-more, near-less}
 use borrow.Author.Needs.{needs}
 use Rattle.neighbours.proofs.count_near.Statement.{statement}

@@ -1,4 +1,4 @@
-use Rattle.neighbours.specs.Near.{neighbours}
+use Rattle.proximity.specs.Near.{neighbours}
 use borrow.Author.Needs.{needs}
 use Rattle.neighbours.proofs.count_within.Statement.{statement}
 use Rattle.neighbours.proofs.count_within.Tie as tie

@@ -5,7 +5,7 @@ use Prim.Native.Nat.{_≤_, _<_, _-_}
 use native.Mathlib.Omega.{arith}
 use lib.ListN.{length, length-set, drop}
 use Rattle.order.specs.Table.{table}
-use Rattle.neighbours.specs.Near.{neighbours}
+use Rattle.proximity.specs.Near.{neighbours}
 use Rattle.neighbours.proofs.Fills.{fill-none, fill-more}
 use Rattle.neighbours.proofs.Scans.{neighbours-le}
 use borrow.Author.Needs.{needs}

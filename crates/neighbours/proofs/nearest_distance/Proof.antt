@@ -2,7 +2,7 @@ use Prim.Native.Nat.{_≤_, _-_}
 use mathlib.Core.Path.{_≡_}
 use native.Mathlib.Omega.{arith}
 use Rattle.float.proofs.Signs.{inf-bits, inf-no-nan}
-use Rattle.neighbours.specs.Near.{nearestTo, nearest}
+use Rattle.proximity.specs.Near.{nearestTo, nearest}
 use Rattle.neighbours.proofs.Scans.{nearest-same, nearest-other}
 use borrow.Author.Needs.{needs}
 use Rattle.neighbours.proofs.nearest_distance.Statement.{statement}

@@ -4,7 +4,7 @@ use Prim.Native.Nat.{_≤_, _<_, _-_}
 use native.Mathlib.Omega.{arith}
 use lib.ListN.{length, length-set, drop}
 use Rattle.order.specs.Table.{table}
-use Rattle.neighbours.specs.Near.{nearest}
+use Rattle.proximity.specs.Near.{nearest}
 use Rattle.neighbours.proofs.Fills.{fill-none, fill-more}
 use borrow.Author.Needs.{needs}
 use Rattle.neighbours.proofs.nearest_of_all.Statement.{statement}

@@ -1,5 +1,5 @@
 use Rattle.order.specs.Table.{table}
-use Rattle.neighbours.specs.Near.{neighbours}
+use Rattle.proximity.specs.Near.{neighbours}
 -- `neighbours::neighbour_counts` meets its contract. Assumes nothing.
 use mathlib.Core.Path.{subst}
 use Prim.Native.Nat.{ℕ}

@@ -7,10 +7,10 @@ use Rattle.plan.proofs.settle.Statement.{statement}
 use Rattle.plan.proofs.settle.Tie as tie
 use Rattle.plan.proofs.settle.Reads as reads
 use Rattle.plan.proofs.settle.Lts as lts
-use Rattle.placement.proofs.offset.offset_order.Reads as offset-order-reads
+use Rattle.offsets.proofs.offset.offset_order.Reads as offset-order-reads
 use Rattle.placement.proofs.search.place_all.Reads as place-all-reads
 use Rattle.placement.proofs.search.station_boxes.Reads as station-boxes-reads
-use Rattle.placement.proofs.turns.placement_order.Reads as placement-order-reads
+use Rattle.turns.proofs.turns.placement_order.Reads as placement-order-reads
 
 placement-order-requires : tie.Need-placement-order-requires
 placement-order-requires c κs = ((c .before .before .before .before .before .before .before .before .before .before .before .before .before .pre .0 .2, omega (arith, c .before .before .before .before .before .before .before .before .before .before .before .before .before .pre .0 .1), c .before .before .before .before .before .before .before .before .before .before .before .before .before .pre .1 .0, omega (arith, c .before .before .before .before .before .before .before .before .before .before .before .before .before .pre .1 .3), omega (arith, c .before .before .before .before .before .before .before .before .before .before .before .before .before .pre .1 .1), omega (arith, c .before .before .before .before .before .before .before .before .before .before .before .before .before .pre .1 .2)), c .before .before .before .before .before .before .before .before .before .before .before .before .before .pre .0 .3)

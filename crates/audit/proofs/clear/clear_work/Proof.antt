@@ -1,5 +1,5 @@
 -- `audit::clear::clear_work` meets its contract. Assumes nothing.
-use Rattle.audit.specs.Answer.{cleared}
+use Rattle.findings.specs.Answer.{cleared}
 use Rattle.audit.proofs.Whole.{work-eq}
 use borrow.Author.Needs.{needs}
 use Rattle.audit.proofs.clear.clear_work.Statement.{statement}

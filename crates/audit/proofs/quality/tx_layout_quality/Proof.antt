@@ -1,6 +1,6 @@
 -- `audit::quality::tx_layout_quality` meets its contract. Assumes nothing.
 use mathlib.Core.Path.{sym, _∙_}
-use Rattle.audit.proofs.Early.{passed-of}
+use Rattle.findings.proofs.Early.{passed-of}
 use Rattle.audit.proofs.Whole.{call-refused, call-judged}
 use borrow.Author.Needs.{needs}
 use Rattle.audit.proofs.quality.tx_layout_quality.Statement.{statement}

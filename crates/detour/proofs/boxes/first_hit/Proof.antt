@@ -50,16 +50,16 @@ use Rattle.geometry.specs.declared.Point.{Point}
 use Rattle.geometry.proofs.Point as P
 use Rattle.geometry.proofs.Point.Laws as P′
 use Rattle.detour.specs.declared.boxes.BoxIndex.{BoxIndex}
-use Rattle.detour.specs.declared.walk.FirstHit.{FirstHit}
+use Rattle.cells.specs.declared.walk.FirstHit.{FirstHit}
 use Rattle.detour.proofs.Lending.{Long, Entered, hitIn, turned, turned-shares, turns, with-facts, from-facts}
 use Rattle.detour.proofs.boxes.BoxIndex as T
 use Rattle.detour.proofs.boxes.BoxIndex.Laws as T′
-use Rattle.detour.proofs.walk.FirstHit as S
-use Rattle.detour.proofs.walk.FirstHit.Laws as S′
-use Rattle.detour.proofs.walk.first_hit as step
-use Rattle.detour.proofs.walk.first_hit.Symbol as step-def
-use Rattle.detour.proofs.walk.first_hit.Symbol.{name as #walk·first-hit}
-use Rattle.detour.proofs.walk.first_hit.Met as step-thm
+use Rattle.cells.proofs.walk.FirstHit as S
+use Rattle.cells.proofs.walk.FirstHit.Laws as S′
+use Rattle.cells.proofs.walk.first_hit as step
+use Rattle.cells.proofs.walk.first_hit.Symbol as step-def
+use Rattle.cells.proofs.walk.first_hit.Symbol.{name as #walk·first-hit}
+use Rattle.cells.proofs.walk.first_hit.Met as step-thm
 use Rattle.detour.proofs.boxes.first_hit.Key.{name as #first-hit}
 use Rattle.detour.proofs.boxes.first_hit as next
 use Rattle.detour.proofs.boxes.first_hit.Statement as stated
@@ -206,4 +206,4 @@ first-hit-spec 𝓤 H 𝓜 𝓖 𝓡 =
     entered 𝓤 H (tripleOf 𝓤 H (𝓖 .A) next.signature (next.spec 𝓤 H (𝓖 .A) (𝓜 .mem) (𝓡 .run)))
     (tables 𝓤 H 𝓜 𝓡 code.env .C) (tables 𝓤 H 𝓜 𝓡 code.env .Λ) #first-hit code.function (code.unfolded 𝓤 H 𝓜 𝓡)
     (next-meets 𝓤 H (𝓖 .A) (givenOf 𝓤 H 𝓜 𝓖) (𝓜 .mem) (𝓡 .run) (tablesOf 𝓤 H 𝓜 (tables 𝓤 H 𝓜 𝓡 code.env))
-    (cited 𝓤 H (StepAt 𝓤 H (𝓖 .A) (𝓜 .mem) (𝓡 .run)) 𝓜 𝓡 code.env #walk·first-hit step-def.routine code.calls-detour·walk·first-hit (step-thm.met 𝓤 H 𝓜 𝓖 𝓡)))
+    (cited 𝓤 H (StepAt 𝓤 H (𝓖 .A) (𝓜 .mem) (𝓡 .run)) 𝓜 𝓡 code.env #walk·first-hit step-def.routine code.calls-cells·walk·first-hit (step-thm.met 𝓤 H 𝓜 𝓖 𝓡)))

@@ -45,12 +45,12 @@ use Rattle.geometry.specs.declared.Point.{Point}
 use Rattle.geometry.proofs.Point as P
 use Rattle.geometry.proofs.Point.Laws as P′
 use Rattle.detour.specs.declared.boxes.BoxIndex.{BoxIndex}
-use Rattle.detour.specs.declared.walk.FirstHit.{FirstHit}
+use Rattle.cells.specs.declared.walk.FirstHit.{FirstHit}
 use Rattle.detour.proofs.Lending.{Long, Entered, hitIn, turned, turned-shares, turns, with-facts, from-facts}
 use Rattle.detour.proofs.boxes.BoxIndex as T
 use Rattle.detour.proofs.boxes.BoxIndex.Laws as T′
-use Rattle.detour.proofs.walk.FirstHit as S
-use Rattle.detour.proofs.walk.FirstHit.Laws as S′
+use Rattle.cells.proofs.walk.FirstHit as S
+use Rattle.cells.proofs.walk.FirstHit.Laws as S′
 use Rattle.detour.proofs.boxes.box_index as new
 use Rattle.detour.proofs.boxes.box_index.Symbol as new-def
 use Rattle.detour.proofs.boxes.box_index.Symbol.{name as #box-index}

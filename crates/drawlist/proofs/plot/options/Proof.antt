@@ -1,5 +1,5 @@
 -- `drawlist::plot::options` meets its contract. Assumes nothing.
-use Rattle.drawlist.specs.Output.{listOptions}
+use Rattle.listed.specs.Output.{listOptions}
 use borrow.Author.Needs.{needs}
 use Rattle.drawlist.proofs.plot.options.Statement.{statement}
 use Rattle.drawlist.proofs.plot.options.Tie as tie

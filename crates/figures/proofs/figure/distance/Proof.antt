@@ -1,5 +1,5 @@
 -- `figures::figure::distance` meets its contract. Assumes nothing.
-use Rattle.neighbours.specs.Near.{distance}
+use Rattle.proximity.specs.Near.{distance}
 use borrow.Author.Needs.{needs}
 use Rattle.figures.proofs.figure.distance.Statement.{statement}
 use Rattle.figures.proofs.figure.distance.Tie as tie

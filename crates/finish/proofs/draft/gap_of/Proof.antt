@@ -1,6 +1,6 @@
 -- `finish::draft::gap_of` meets its contract. Assumes nothing.
 use mathlib.Core.Path.{refl}
-use Rattle.routing.specs.Views.{gapOf}
+use Rattle.crossings.specs.Gap.{gapOf}
 use borrow.Author.Needs.{needs}
 use Rattle.finish.proofs.draft.gap_of.Statement.{statement}
 use Rattle.finish.proofs.draft.gap_of.Tie as tie

@@ -7,7 +7,7 @@ use Rattle.finish.proofs.draft.judge.Statement.{statement}
 use Rattle.finish.proofs.draft.judge.Tie as tie
 use Rattle.finish.proofs.draft.judge.Reads as reads
 use Rattle.finish.proofs.draft.judge.Lts as lts
-use Rattle.detour.proofs.cells.cell_size.Reads as cell-size-reads
+use Rattle.cells.proofs.cells.cell_size.Reads as cell-size-reads
 use Rattle.finish.proofs.draft.gap_of.Reads as gap-of-reads
 use Rattle.finish.proofs.draft.is_led.Reads as is-led-reads
 use Rattle.drawing.proofs.late.all_finite.Reads as all-finite-reads

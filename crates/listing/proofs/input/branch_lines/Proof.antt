@@ -2,9 +2,9 @@
 use mathlib.Core.Path.{_∙_}
 use Prim.Native.Nat.{_-_}
 use native.Mathlib.Omega.{arith}
-use Rattle.listing.specs.Places.{branchOf, blockOf}
+use Rattle.listing.specs.LinePlaces.{branchOf, blockOf}
 use Rattle.listing.proofs.Lines.{known}
-use Rattle.listing.proofs.Signs.{set-exact}
+use Rattle.listing.proofs.Exact.{set-exact}
 use Rattle.listing.proofs.Reading.{BranchesRead, no-branch, one-branch, branches-ended, branches-wrong, branches-over}
 use borrow.Author.Needs.{needs}
 use Rattle.listing.proofs.input.branch_lines.Statement.{statement}

@@ -2,7 +2,7 @@
 use mathlib.Core.Path.{sym, _∙_}
 use Prim.Native.Nat.{_-_}
 use native.Mathlib.Omega.{arith}
-use Rattle.listing.specs.Places.{busOf, blockOf}
+use Rattle.listing.specs.LinePlaces.{busOf, blockOf}
 use Rattle.listing.proofs.Lines.{known}
 use Rattle.listing.proofs.Reading.{BusesRead, no-bus, one-bus, buses-ended, buses-wrong, buses-over, names-room}
 use borrow.Author.Needs.{needs}

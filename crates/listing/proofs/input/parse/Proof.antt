@@ -1,7 +1,7 @@
 -- `listing::input::parse` meets its contract. Assumes nothing.
 use mathlib.Core.Path.{sym, _∙_}
 use Rattle.listing.specs.Line.{busNames}
-use Rattle.listing.specs.Places.{blockOf}
+use Rattle.listing.specs.LinePlaces.{blockOf}
 use Rattle.listing.proofs.Lines.{known}
 use Rattle.listing.proofs.Parsing.{no-names, buses-malformed, branches-malformed, well-formed}
 use borrow.Author.Tests.{not-true, not-false}

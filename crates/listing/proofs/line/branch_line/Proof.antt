@@ -3,9 +3,10 @@ use mathlib.Core.Path.{_∙_}
 use Prim.Native.Nat.{_^_, _-_}
 use native.Mathlib.Omega.{arith}
 use Rattle.listing.specs.Line.{branchLine}
-use Rattle.listing.specs.Places.{fieldOf, signedOf, branchOf}
-use Rattle.listing.proofs.Bounds.{whole-most}
-use Rattle.listing.proofs.Signs.{branch-exact}
+use Rattle.fields.specs.Places.{fieldOf, signedOf}
+use Rattle.listing.specs.LinePlaces.{branchOf}
+use Rattle.fields.proofs.Bounds.{whole-most}
+use Rattle.listing.proofs.Exact.{branch-exact}
 use Rattle.listing.proofs.Lines.{known, then-got, then-wrong}
 use borrow.Author.Needs.{needs}
 use Rattle.listing.proofs.line.branch_line.Statement.{statement}

@@ -4,8 +4,9 @@ use Prim.Native.Nat.{_^_, _-_}
 use native.Mathlib.Omega.{arith}
 use borrow.Author.Needs.{needs}
 use Rattle.listing.specs.Line.{busLine}
-use Rattle.listing.specs.Places.{fieldOf, busOf}
-use Rattle.listing.proofs.Bounds.{whole-most}
+use Rattle.fields.specs.Places.{fieldOf}
+use Rattle.listing.specs.LinePlaces.{busOf}
+use Rattle.fields.proofs.Bounds.{whole-most}
 use Rattle.listing.proofs.Lines.{known, then-got, then-wrong}
 use Rattle.listing.proofs.line.bus_line.Statement.{statement}
 use Rattle.listing.proofs.line.bus_line.Tie as tie

@@ -1,6 +1,6 @@
 -- `listing::output::point_fields` meets its contract. Assumes nothing.
 use native.Mathlib.Omega.{arith}
-use Rattle.listing.proofs.Spelling.{float-length}
+use Rattle.fields.proofs.Spelling.{float-length}
 use Rattle.listing.proofs.Writing.{wrote-point}
 use borrow.Author.Needs.{needs}
 use Rattle.listing.proofs.output.point_fields.Statement.{statement}

@@ -3,7 +3,7 @@ use mathlib.Core.Path.{_≡_}
 use Prim.Native.Nat.{_+_, _<_, _-_}
 use native.Mathlib.Omega.{arith}
 use lib.ListN.{getD}
-use Rattle.neighbours.specs.Near.{within, neighbours}
+use Rattle.proximity.specs.Near.{within, neighbours}
 use Rattle.neighbours.proofs.Places.{place-below}
 use Rattle.neighbours.proofs.Scans.{within-le}
 use Rattle.neighbours.proofs.Sweeps.{many-within}

@@ -5,7 +5,7 @@ use native.Mathlib.Omega.{arith}
 use lib.ListN.{getD}
 use Rattle.neighbours.proofs.Fills.{Filled, filled-none, filled-more, filled-end}
 use Rattle.neighbours.proofs.Places.{place-below, place-of}
-use Rattle.neighbours.specs.Near.{nearest}
+use Rattle.proximity.specs.Near.{nearest}
 use borrow.Author.Needs.{needs}
 use Rattle.neighbours.proofs.sweep.nearest_in_order.Statement.{statement}
 use Rattle.neighbours.proofs.sweep.nearest_in_order.Tie as tie

@@ -8,7 +8,7 @@ use Rattle.pieces.proofs.lines.lead_block.Tie as tie
 use Rattle.pieces.proofs.lines.lead_block.Reads as reads
 use Rattle.pieces.proofs.lines.lead_block.Lts as lts
 use Rattle.pieces.proofs.lines.lead_list.Reads as lead-list-reads
-use Rattle.pieces.proofs.request.requests_from.Reads as requests-from-reads
+use Rattle.requests.proofs.request.requests_from.Reads as requests-from-reads
 
 requests-from-requires : tie.Need-requests-from-requires
 requests-from-requires c κs = search needs

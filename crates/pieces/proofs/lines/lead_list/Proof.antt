@@ -50,13 +50,13 @@ use denote.Exit.{yes}
 use denote.Triple.Clauses.{ensured, lasts}
 use Rattle.runs.specs.Views.{lead, Stands}
 use Rattle.pieces.specs.declared.Totals.{Totals}
-use Rattle.pieces.specs.declared.request.LineRequest.{LineRequest}
-use Rattle.pieces.specs.Requests.{listPieces, listFinite, AskAll, RoomFor, Passed}
+use Rattle.requests.specs.declared.request.LineRequest.{LineRequest}
+use Rattle.pieces.specs.Passes.{listPieces, listFinite, AskAll, RoomFor, Passed}
 use Rattle.pieces.proofs.ArrayLent.{lent, room-back}
 use Rattle.pieces.proofs.Totals as S
 use Rattle.pieces.proofs.Totals.Laws as S′
-use Rattle.pieces.proofs.request.LineRequest as T
-use Rattle.pieces.proofs.request.LineRequest.Laws as T′
+use Rattle.requests.proofs.request.LineRequest as T
+use Rattle.requests.proofs.request.LineRequest.Laws as T′
 use Rattle.pieces.proofs.lines.lead_requests as all
 use Rattle.pieces.proofs.lines.lead_requests.Symbol as all-def
 use Rattle.pieces.proofs.lines.lead_requests.Symbol.{name as #lead-requests}

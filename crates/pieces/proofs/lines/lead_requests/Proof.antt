@@ -55,18 +55,19 @@ use denote.Triple.Clauses.{ensured, lasts}
 use Rattle.runs.specs.Finite.{allOf, finitePoint}
 use Rattle.runs.specs.Views.{Lead, lead, Stands}
 use Rattle.pieces.specs.declared.Totals.{Totals}
-use Rattle.pieces.specs.declared.request.LineRequest.{LineRequest}
-use Rattle.pieces.specs.Requests.{nothingAt, requestRun, requestPieces, listPieces, listFinite, Asks, AskAll, RoomFor, Passed}
+use Rattle.requests.specs.declared.request.LineRequest.{LineRequest}
+use Rattle.requests.specs.Requests.{nothingAt}
+use Rattle.pieces.specs.Passes.{requestRun, requestPieces, listPieces, listFinite, Asks, AskAll, RoomFor, Passed}
 use Rattle.pieces.proofs.Again.{LentAgain, lends-again, comes-back}
 use Rattle.pieces.proofs.Leading.{Along, along-none, along-asks, along-room, along-more, along-end}
 use Rattle.pieces.proofs.Totals as S
 use Rattle.pieces.proofs.Totals.Laws as S′
-use Rattle.pieces.proofs.request.LineRequest as T
-use Rattle.pieces.proofs.request.LineRequest.Laws as T′
-use Rattle.pieces.proofs.request.request_at as get
-use Rattle.pieces.proofs.request.request_at.Symbol as get-def
-use Rattle.pieces.proofs.request.request_at.Symbol.{name as #request-at}
-use Rattle.pieces.proofs.request.request_at.Met as get-thm
+use Rattle.requests.proofs.request.LineRequest as T
+use Rattle.requests.proofs.request.LineRequest.Laws as T′
+use Rattle.requests.proofs.request.request_at as get
+use Rattle.requests.proofs.request.request_at.Symbol as get-def
+use Rattle.requests.proofs.request.request_at.Symbol.{name as #request-at}
+use Rattle.requests.proofs.request.request_at.Met as get-thm
 use Rattle.pieces.proofs.lines.lead_line as line
 use Rattle.pieces.proofs.lines.lead_line.Symbol as line-def
 use Rattle.pieces.proofs.lines.lead_line.Symbol.{name as #lead-line}
@@ -507,5 +508,5 @@ lead-requests-spec 𝓤 H 𝓜 𝓖 𝓡 =
     entered 𝓤 H (tripleOf 𝓤 H (𝓖 .A) all.signature (all.spec 𝓤 H (𝓖 .A) (𝓜 .mem) (𝓡 .run)))
     (tables 𝓤 H 𝓜 𝓡 code.env .C) (tables 𝓤 H 𝓜 𝓡 code.env .Λ) #lead-requests code.function (code.unfolded 𝓤 H 𝓜 𝓡)
     (all-meets 𝓤 H (𝓖 .A) (givenOf 𝓤 H 𝓜 𝓖) (𝓜 .mem) (𝓡 .run) (tablesOf 𝓤 H 𝓜 (tables 𝓤 H 𝓜 𝓡 code.env))
-    (cited 𝓤 H (Get 𝓤 H (𝓖 .A) (𝓜 .mem) (𝓡 .run)) 𝓜 𝓡 code.env #request-at get-def.routine code.calls-pieces·request·request-at (get-thm.met 𝓤 H 𝓜 𝓖 𝓡))
+    (cited 𝓤 H (Get 𝓤 H (𝓖 .A) (𝓜 .mem) (𝓡 .run)) 𝓜 𝓡 code.env #request-at get-def.routine code.calls-requests·request·request-at (get-thm.met 𝓤 H 𝓜 𝓖 𝓡))
     (cited 𝓤 H (Line 𝓤 H (𝓖 .A) (𝓜 .mem) (𝓡 .run)) 𝓜 𝓡 code.env #lead-line line-def.routine code.calls-pieces·lines·lead-line (line-thm.met 𝓤 H 𝓜 𝓖 𝓡)))

@@ -1,5 +1,5 @@
 -- `placement::search::overlaps_at` meets its contract. Assumes nothing.
-use Rattle.neighbours.specs.Overlap.{meet, overlap}
+use Rattle.proximity.specs.Overlap.{meet, overlap}
 use borrow.Author.Needs.{needs}
 use Rattle.placement.proofs.search.overlaps_at.Statement.{statement}
 use Rattle.placement.proofs.search.overlaps_at.Tie as tie

@@ -1,6 +1,6 @@
 -- `rounds::space::gap_of` meets its contract. Assumes nothing.
 use mathlib.Core.Path.{refl}
-use Rattle.routing.specs.Views.{gapOf}
+use Rattle.crossings.specs.Gap.{gapOf}
 use borrow.Author.Needs.{needs}
 use Rattle.rounds.proofs.space.gap_of.Statement.{statement}
 use Rattle.rounds.proofs.space.gap_of.Tie as tie

@@ -2,8 +2,8 @@ use Prim.Native.Nat.{_≤_, _-_}
 use mathlib.Core.Path.{_≡_, refl, _∙_}
 use native.Mathlib.Omega.{arith}
 use lib.ListN.{length}
-use Rattle.routing.specs.Views.{grid}
-use Rattle.rounds.specs.Held.{held, spacedIn}
+use Rattle.crossings.specs.Views.{grid}
+use Rattle.wishes.specs.Held.{held, spacedIn}
 use Rattle.rounds.proofs.Making.{spaced-none, spaced-more, spaced-done}
 use borrow.Author.Needs.{needs}
 use Rattle.rounds.proofs.space.round.Statement.{statement}

@@ -2,7 +2,7 @@
 use Prim.Native.Nat.{_+_}
 use mathlib.Core.Path.{sym, subst}
 use native.Mathlib.Omega.{arith}
-use Rattle.rounds.specs.Held.{Boxed}
+use Rattle.wishes.specs.Held.{Boxed}
 use Rattle.rounds.proofs.Making.{made-one}
 use borrow.Author.Needs.{needs}
 use Rattle.rounds.proofs.space.space_one.Statement.{statement}

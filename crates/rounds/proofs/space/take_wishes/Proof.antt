@@ -2,9 +2,10 @@
 use Prim.Native.Nat.{_≤_, _+_, _-_}
 use mathlib.Core.Path.{ap, _∙_}
 use native.Mathlib.Omega.{arith}
-use Rattle.rounds.specs.Held.{held, wishIn, memberIn}
-use Rattle.routing.specs.Views.{grid}
-use Rattle.rounds.proofs.Tabling.{Tabled, table-start, table-step, table-stop}
+use Rattle.wishes.specs.Held.{held, wishIn}
+use Rattle.grouping.specs.Grouped.{memberIn}
+use Rattle.crossings.specs.Views.{grid}
+use Rattle.grouping.proofs.Tabling.{Tabled, table-start, table-step, table-stop}
 use borrow.Author.Needs.{needs}
 use Rattle.rounds.proofs.space.take_wishes.Statement.{statement}
 use Rattle.rounds.proofs.space.take_wishes.Tie as tie

@@ -6,7 +6,7 @@ use lib.ListN.{length, length-set, take}
 use Rattle.float.specs.Ops.{_⊗_}
 use Rattle.order.specs.Table.{table}
 use Rattle.order.proofs.Tables.{howMany-zero}
-use Rattle.neighbours.specs.Near.{neighbours}
+use Rattle.proximity.specs.Near.{neighbours}
 use Rattle.units.specs.Views.{sizesIn, scalesIn}
 use Rattle.units.proofs.Blocks.{sizes-beside}
 use Rattle.units.proofs.Occupied.{passedCount, count-yes, count-no}

@@ -1,3 +1,0 @@
-pub mod Through
-pub mod Drawn
-pub mod Answer

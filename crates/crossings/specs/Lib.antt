@@ -1,0 +1,4 @@
+pub mod Route
+pub mod Gap
+pub mod Views
+pub mod Store

@@ -1,0 +1,2 @@
+// Crossings grouped by channel, in lent lists.
+pub mod group;

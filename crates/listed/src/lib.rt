@@ -1,0 +1,1 @@
+// What `drawlist` writes for a text: definitions only (specs).

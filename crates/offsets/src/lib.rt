@@ -1,0 +1,2 @@
+// Offsets round a seed, in the order of the search.
+pub mod offset;

@@ -1,0 +1,2 @@
+// Answers as plain records, for C and Rust.
+pub mod plain;

@@ -1,0 +1,2 @@
+// Line requests, as a lent list of records.
+pub mod request;

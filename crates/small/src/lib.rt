@@ -1,0 +1,2 @@
+// Drawings of small networks.
+pub mod held;

@@ -1,0 +1,2 @@
+// The audit's relative lengths.
+pub mod relative;

@@ -1,0 +1,2 @@
+// The audit's lines through boxes.
+pub mod through;

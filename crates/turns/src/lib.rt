@@ -1,0 +1,2 @@
+// The order in which stations are placed.
+pub mod turns;

@@ -1,0 +1,2 @@
+// The places that crossings wish for, between the points before and behind them.
+pub mod wish;
