@@ -5,7 +5,7 @@ use crate::keep;
 use crate::library::{self, options_of};
 use crate::mesh;
 use crate::network::{Mesh, Network, Options};
-use crate::networks::network;
+use crate::networks::{network, Kind};
 use crate::tx_schematic::{tx_layout_quality, tx_schematic_layout, TxLayout};
 
 /// The lists that both calls of ours are lent.
@@ -20,8 +20,9 @@ impl Lists {
     fn new(net: &Network, mesh: &Mesh, pieces: usize, crossings: usize) -> Self {
         let (n, m, k, l) = (net.sub.len(), net.from.len(), net.stations(), mesh.corners.len());
         let sorting = (n + 2 * m + l + 1681).max(crossings);
+        let sorted = sorting.max(library::index_length(n));
         let floats = [2 * n, 4 * n, 4 * k, k, 4 * pieces, 2 * n, 3 * n, 4 * n, 2 * n + 2 * l + 16, crossings, 2 * crossings];
-        let wholes = [pieces, 2 * n, 3 * n, 4 * m + 4 * l + 4, sorting, sorting, 3 * crossings];
+        let wholes = [pieces, 2 * n, 3 * n, 4 * m + 4 * l + 4, sorted, sorting, 3 * crossings];
         Self {
             floats: floats.iter().map(|&length| vec![0.0; length]).collect(),
             wholes: wholes.iter().map(|&length| vec![0; length]).collect(),
@@ -38,9 +39,9 @@ impl Lists {
         };
         let [branches, stations, buses, ends, sorted, spare, numbers] = &mut self.wholes[..] else { unreachable!() };
         library::layout(
-            options, &net.sub, &net.kv, &net.from, &net.to, &net.live, &net.xy, &mesh.corners, &mesh.twins, positions, bars,
-            boxes, scales, &mut self.roles, pieces, branches, stations, buses, ends, sorted, spare, &mut self.keys, places,
-            blocks, frames, path, numbers, crossing_places, ways,
+            positions, bars, boxes, scales, &mut self.roles, pieces, branches, stations, buses, ends, sorted, spare,
+            &mut self.keys, places, blocks, frames, path, numbers, crossing_places, ways, options, &net.sub, &net.kv,
+            &net.from, &net.to, &net.live, &net.xy, &mesh.corners, &mesh.twins,
         )
     }
 }
@@ -64,25 +65,34 @@ fn meshed(net: &Network, drawing: &TxLayout) -> Mesh {
 fn audit<'a>(net: &'a Network, d: &'a TxLayout, k: usize) -> impl FnMut() -> library::Audited + 'a {
     let (n, p) = (net.sub.len(), d.segment_edge.len());
     let (mut displacement, mut spacing, mut relative) = (vec![0.0; k], vec![0.0; k], vec![0.0; p]);
-    let (mut stations, mut index, mut spare, mut keys) = (vec![0; 2 * n], vec![0; 4 * n + 4097], vec![0; n], vec![0; n]);
+    let (mut stations, mut index) = (vec![0; 2 * n], vec![0; library::index_length(n)]);
+    let (mut spare, mut keys) = (vec![0; n], vec![0; n]);
     let (mut points, mut path) = (vec![0.0; 2 * n], vec![0.0; 2 * n]);
     move || {
         library::audit(
-            &net.sub, &net.kv, &net.from, &net.to, &net.xy, &d.boxes, &d.role, &d.segments, &d.segment_edge,
             &mut displacement, &mut spacing, &mut relative, &mut stations, &mut index, &mut spare, &mut keys, &mut points, &mut path,
+            &net.sub, &net.kv, &net.from, &net.to, &net.xy, &d.boxes, &d.role, &d.segments, &d.segment_edge,
         )
     }
 }
 
-/// Both calls by turns; nothing is measured where the two don't draw as many pieces.
-pub fn measure(stations: usize, branches: usize, iterations: i64) {
-    let net = network(stations, branches);
-    let straight = Options { iterations: 0, ..Options::defaults() };
+/// A network with its drawing by the original, and our lists.
+struct Case {
+    net: Network,
+    options: Options,
+    mesh: Mesh,
+    drawing: TxLayout,
+    lists: Lists,
+}
+
+/// A case of some kind, its lists lengthened until they hold the crossings; what our layout answered.
+fn prepared(kind: Kind, stations: usize, branches: usize, iterations: i64) -> (Case, library::Plotted) {
+    let net = network(kind, stations, branches);
     let options = Options { iterations, ..Options::defaults() };
     let input = net.original();
+    let straight = Options { iterations: 0, ..Options::defaults() };
     let mesh = meshed(&net, &tx_schematic_layout(&input, &straight.original()));
-    let original = options.original();
-    let drawing = tx_schematic_layout(&input, &original);
+    let drawing = tx_schematic_layout(&input, &options.original());
     let pieces = drawing.segment_edge.len();
     let mut crossings = if iterations == 0 { 0 } else { pieces };
     let mut lists = Lists::new(&net, &mesh, pieces, crossings);
@@ -92,34 +102,31 @@ pub fn measure(stations: usize, branches: usize, iterations: i64) {
         lists = Lists::new(&net, &mesh, pieces, crossings);
         first = lists.layout(options_of(&options), &net, &mesh);
     }
-    let what = format!("{stations} stations, {branches} branches, {iterations} iterations");
+    (Case { net, options, mesh, drawing, lists }, first)
+}
+
+/// Both calls by turns for so many seconds each: our seconds and the original's, of layout and of the audit;
+/// what our layout answered where the two don't draw as many pieces.
+pub fn measure(kind: Kind, stations: usize, branches: usize, iterations: i64, time: f64) -> Result<[f64; 4], String> {
+    let (Case { net, options, mesh, drawing, mut lists }, first) = prepared(kind, stations, branches, iterations);
+    let pieces = drawing.segment_edge.len();
     if first.number != 0 || first.pieces != pieces {
-        let (number, count) = (first.number, first.pieces);
-        println!("| layout, {what} | not measured: answer {number}, {count} pieces, the original's {pieces} | | |");
-        return;
+        return Err(format!("answer {}, {} pieces, the original's {pieces}", first.number, first.pieces));
     }
-    let both = crate::by_turns(
+    let (input, original) = (net.original(), options.original());
+    let layout = crate::by_turns(
+        time,
         &mut || keep(lists.layout(options_of(&options), black_box(&net), &mesh)),
         &mut || keep(tx_schematic_layout(black_box(&input), &original)),
     );
-    crate::shown(&format!("layout, {what}"), both);
     let mut judge = audit(&net, &drawing, net.stations());
-    let both = crate::by_turns(
-        &mut || keep(judge()),
-        &mut || keep(tx_layout_quality(black_box(&input), &drawing)),
-    );
-    crate::shown(&format!("audit, {what}"), both);
+    let audit = crate::by_turns(time, &mut || keep(judge()), &mut || keep(tx_layout_quality(black_box(&input), &drawing)));
+    Ok([layout.0, layout.1, audit.0, audit.1])
 }
 
 /// Our layout, or our audit of the original's drawing, so many times.
-pub fn repeat(judging: bool, stations: usize, branches: usize, iterations: i64, rounds: usize) {
-    let net = network(stations, branches);
-    let options = Options { iterations, ..Options::defaults() };
-    let input = net.original();
-    let mesh = meshed(&net, &tx_schematic_layout(&input, &Options { iterations: 0, ..Options::defaults() }.original()));
-    let drawing = tx_schematic_layout(&input, &options.original());
-    let pieces = drawing.segment_edge.len();
-    let mut lists = Lists::new(&net, &mesh, pieces, 8 * pieces);
+pub fn repeat(judging: bool, kind: Kind, stations: usize, branches: usize, iterations: i64, rounds: usize) {
+    let (Case { net, options, mesh, drawing, mut lists }, _) = prepared(kind, stations, branches, iterations);
     let mut judge = audit(&net, &drawing, net.stations());
     for _ in 0..rounds {
         if judging {

@@ -1,11 +1,50 @@
-//! Networks to measure on: stations scattered over a plane, lines between near ones, every second station of two voltages where buses allow it.
+//! Networks to measure on: where the stations stand, and which of them lines join. Every second station has two voltages where buses allow it.
 use crate::network::Network;
 use crate::random::Random;
+
+/// Where stations stand, and whether lines join near ones or any two.
+#[derive(Clone, Copy)]
+pub enum Kind {
+    /// Scattered evenly over a square; a line joins a station and one of the eight nearest.
+    Near,
+    /// The same places; a line joins any two.
+    Far,
+    /// On one straight line, evenly; any two.
+    Line,
+    /// On a square lattice; any two.
+    Lattice,
+    /// All on one seed; any two.
+    One,
+    /// By turns on two seeds; any two.
+    Two,
+}
+
+pub const KINDS: [(&str, Kind); 6] = [
+    ("near", Kind::Near),
+    ("far", Kind::Far),
+    ("line", Kind::Line),
+    ("lattice", Kind::Lattice),
+    ("one", Kind::One),
+    ("two", Kind::Two),
+];
 
 /// The same numbers in every run, of at most half this size.
 pub fn numbers(count: usize, size: f64) -> Vec<f64> {
     let mut r = Random::new(1, 1);
     (0..count).map(|_| (r.unit() - 0.5) * size).collect()
+}
+
+/// One and two seeds stand on and beside the origin: elsewhere the original doesn't end.
+fn place(r: &mut Random, kind: Kind, s: usize, stations: usize) -> (f64, f64) {
+    let across = (stations as f64).sqrt();
+    let (size, side) = (across * 10_000.0, across.ceil() as usize);
+    match kind {
+        Kind::Near | Kind::Far => (r.unit() * size, r.unit() * size),
+        Kind::Line => (s as f64 * 10_000.0, 0.0),
+        Kind::Lattice => ((s % side) as f64 * 10_000.0, (s / side) as f64 * 10_000.0),
+        Kind::One => (0.0, 0.0),
+        Kind::Two => ((s % 2) as f64, 0.0),
+    }
 }
 
 /// The stations near one, nearest first.
@@ -17,10 +56,19 @@ fn near(places: &[(f64, f64)], s: usize) -> Vec<usize> {
     others
 }
 
-pub fn network(stations: usize, branches: usize) -> Network {
+/// A line's two stations.
+fn joined(r: &mut Random, kind: Kind, places: &[(f64, f64)]) -> (usize, usize) {
+    let s = r.below(places.len());
+    if let Kind::Near = kind {
+        let list = near(places, s);
+        return (s, list[r.below(list.len())]);
+    }
+    (s, (s + 1 + r.below(places.len() - 1)) % places.len())
+}
+
+pub fn network(kind: Kind, stations: usize, branches: usize) -> Network {
     let mut r = Random::new(2, stations as u64);
-    let size = (stations as f64).sqrt() * 10_000.0;
-    let places: Vec<(f64, f64)> = (0..stations).map(|_| (r.unit() * size, r.unit() * size)).collect();
+    let places: Vec<(f64, f64)> = (0..stations).map(|s| place(&mut r, kind, s, stations)).collect();
     let second = (stations / 2).min(4096 - stations);
     let mut net = Network::default();
     for s in 0..stations + second {
@@ -30,13 +78,7 @@ pub fn network(stations: usize, branches: usize) -> Network {
         net.xy.extend([places[place].0, places[place].1]);
     }
     for e in 0..branches {
-        let (a, b) = if e < second {
-            (2 * e, stations + e)
-        } else {
-            let s = r.below(stations);
-            let list = near(&places, s);
-            (s, list[r.below(list.len())])
-        };
+        let (a, b) = if e < second { (2 * e, stations + e) } else { joined(&mut r, kind, &places) };
         net.from.push(a as i64);
         net.to.push(b as i64);
         net.live.push(u8::from(!r.one_in(20)));

@@ -1,10 +1,31 @@
 //! Layout and audit calls of every kind, from a seed, for networks of up to a given number of buses.
 use crate::audit::{Drawing, Room};
+use crate::extremes;
 use crate::layout::{layout, Lent};
 use crate::mesh;
 use crate::network::{Mesh, Network, Options};
 use crate::random::{Random, EDGES};
 use crate::witness;
+
+/// What calls are generated: ordinary ones with slips, the same without iterations, or ones of extreme scale (oracle/extremes.rs).
+#[derive(Clone, Copy, PartialEq)]
+pub enum Kind {
+    Plain,
+    Straight,
+    Extreme,
+}
+
+impl Kind {
+    /// The kind that a word names.
+    pub fn named(word: &str) -> Option<Self> {
+        match word {
+            "plain" => Some(Self::Plain),
+            "straight" => Some(Self::Straight),
+            "extreme" => Some(Self::Extreme),
+            _ => None,
+        }
+    }
+}
 
 #[derive(Clone)]
 pub struct Call {
@@ -90,18 +111,23 @@ fn options(r: &mut Random, most: usize) -> Options {
     o
 }
 
-/// A mesh of the places that layout gives; now and then an odd, an empty or an ill-formed one.
-fn meshed(r: &mut Random, net: &Network, options: &Options, most: usize) -> Mesh {
+/// The middles of the occupied stations' boxes, where the network is drawn.
+fn middles(net: &Network, options: &Options) -> Option<Vec<(f64, f64)>> {
     let straight = Options { iterations: 0, ..options.clone() };
-    let Ok(drawing) = layout(net, &straight, &Mesh::default(), &Lent::ample()) else {
-        return Mesh::default();
-    };
-    let occupied = net.occupied();
-    let middle = |&s: &usize| {
+    let drawing = layout(net, &straight, &Mesh::default(), &Lent::ample()).ok()?;
+    let middle = |s: usize| {
         let b = &drawing.boxes[4 * s..4 * s + 4];
         ((b[0] + b[2]) / 2.0, (b[1] + b[3]) / 2.0)
     };
-    let points: Vec<(f64, f64)> = occupied.iter().map(middle).collect();
+    Some(net.occupied().into_iter().map(middle).collect())
+}
+
+/// A mesh of the places that layout gives; now and then an odd, an empty or an ill-formed one.
+fn meshed(r: &mut Random, net: &Network, options: &Options, most: usize) -> Mesh {
+    let Some(points) = middles(net, options) else {
+        return Mesh::default();
+    };
+    let occupied = net.occupied();
     let mut mesh = match r.below(10) {
         0 => Mesh::default(),
         1 | 2 => mesh::odd(r, occupied.len().min(40)),
@@ -156,30 +182,40 @@ fn lent(r: &mut Random, call: &Call, most: usize) -> Lent {
     lent
 }
 
-pub fn layout_call(seed: u64, case: u64, most: usize) -> Call {
-    layout_call_with(seed, case, most, false)
-}
-
-/// Where `straight`, iterations in range become 0.
-pub fn layout_call_with(seed: u64, case: u64, most: usize, straight: bool) -> Call {
-    let mut r = Random::new(seed, case);
-    let net = network(&mut r, most);
-    let mut options = options(&mut r, most);
-    if straight && (0..=100).contains(&options.iterations) {
+/// A network, its options and its mesh of one kind; where straight, iterations in range become 0.
+fn ordered(r: &mut Random, most: usize, kind: Kind) -> (Network, Options, Mesh) {
+    if kind == Kind::Extreme {
+        let (net, options) = (extremes::network(r, most), extremes::options(r));
+        let points = middles(&net, &options).unwrap_or_default();
+        let mesh = mesh::twisted(r, &extremes::shrunk(&points));
+        return (net, options, mesh);
+    }
+    let net = network(r, most);
+    let mut options = options(r, most);
+    if kind == Kind::Straight && (0..=100).contains(&options.iterations) {
         options.iterations = 0;
     }
-    let mesh = meshed(&mut r, &net, &options, most);
+    let mesh = meshed(r, &net, &options, most);
+    (net, options, mesh)
+}
+
+pub fn layout_call(seed: u64, case: u64, most: usize, kind: Kind) -> Call {
+    let mut r = Random::new(seed, case);
+    let (net, options, mesh) = ordered(&mut r, most, kind);
     let mut call = Call { net, options, mesh, lent: Lent::ample() };
     call.lent = lent(&mut r, &call, most);
     call
 }
 
-/// A drawing as layout left it, or with a few of its numbers changed.
-pub fn audit_call(seed: u64, case: u64, most: usize) -> AuditCall {
-    let Call { net, options, mesh, .. } = layout_call(seed, case, most);
+/// A drawing as layout left it, or with a few of its numbers changed; of the extreme ones every third times a power of two.
+pub fn audit_call(seed: u64, case: u64, most: usize, kind: Kind) -> AuditCall {
+    let Call { net, options, mesh, .. } = layout_call(seed, case, most, kind);
     let mut r = Random::new(!seed, case);
     let drawn = layout(&net, &options, &mesh, &Lent::ample());
     let mut drawing = drawn.map_or(Drawing::default(), |d| Drawing::of(&d));
+    if kind == Kind::Extreme && r.one_in(3) {
+        extremes::rescale(&mut r, &mut drawing);
+    }
     for _ in 0..r.pick(&[0, 0, 1, 3, 10]) {
         change(&mut r, &mut drawing, most);
     }

@@ -6,6 +6,7 @@ mod audit;
 mod calls;
 mod compare;
 mod drawlist;
+mod extremes;
 mod generate;
 mod hypot;
 mod layout;
@@ -35,8 +36,8 @@ const USAGE: &str = "usage: oracle SUBCOMMAND
   vectors SEED COUNT                single calls of the original's functions, COUNT lines of each name
   layout                            layout calls on standard input, answers on standard output (oracle/request.rs)
   audit                             audit calls likewise
-  calls SEED COUNT BUSES            layout calls for networks of up to BUSES buses
-  audits SEED COUNT BUSES           audit calls likewise
+  calls SEED COUNT BUSES [KIND]     layout calls for networks of up to BUSES buses (KIND: plain, straight, extreme)
+  audits SEED COUNT BUSES [KIND]    audit calls likewise
   hypot                             a line of two patterns in, the exact hypot's pattern out
   selfcheck                         the scope's worked examples";
 
@@ -82,6 +83,14 @@ fn hypots() {
     }
 }
 
+/// The kind of calls that a further word names, plain without one.
+fn kind_of(words: &[&str]) -> calls::Kind {
+    match words {
+        [] => calls::Kind::Plain,
+        [word, ..] => calls::Kind::named(word).unwrap_or_else(|| panic!("no kind {word}")),
+    }
+}
+
 fn main() {
     let words: Vec<String> = std::env::args().skip(1).collect();
     let words: Vec<&str> = words.iter().map(String::as_str).collect();
@@ -95,11 +104,13 @@ fn main() {
         ["vectors", seed, count] => vectors::vectors(number(seed), number(count)),
         ["layout"] => answers(|r| r.layout()),
         ["audit"] => answers(|r| r.audit()),
-        ["calls", seed, count, buses] => {
-            calls(number(count), |i| calls::layout_call(number(seed), i, number(buses) as usize).text())
+        ["calls", seed, count, buses, ref kind @ ..] => {
+            let (seed, buses, kind) = (number(seed), number(buses) as usize, kind_of(kind));
+            calls(number(count), |i| calls::layout_call(seed, i, buses, kind).text())
         }
-        ["audits", seed, count, buses] => {
-            calls(number(count), |i| calls::audit_call(number(seed), i, number(buses) as usize).text())
+        ["audits", seed, count, buses, ref kind @ ..] => {
+            let (seed, buses, kind) = (number(seed), number(buses) as usize, kind_of(kind));
+            calls(number(count), |i| calls::audit_call(seed, i, buses, kind).text())
         }
         ["hypot"] => hypots(),
         ["selfcheck"] => selfcheck::selfcheck(),

@@ -69,11 +69,63 @@ pub fn delaunay(points: &[P]) -> Mesh {
 /// Any triangles over n corners, twinned where their ends allow it.
 pub fn odd(r: &mut Random, n: usize) -> Mesh {
     let count = if n < 3 { 0 } else { r.below(3 * n) };
-    let triangle = |r: &mut Random| {
-        let (a, b) = (r.below(n), 1 + r.below(n - 1));
-        let c = 1 + (b + r.below(n - 2)) % (n - 1);
-        [a, (a + b) % n, (a + c) % n]
-    };
-    let list: Vec<[usize; 3]> = (0..count).map(|_| triangle(r)).collect();
+    let list: Vec<[usize; 3]> = (0..count).map(|_| any_triangle(r, n)).collect();
     twinned(&list)
+}
+
+/// Twins as `twinned`, but taken in any order, and now and then none where one could be.
+fn paired(r: &mut Random, list: &[[usize; 3]]) -> Mesh {
+    let corners: Vec<u32> = list.iter().flatten().map(|&v| v as u32).collect();
+    let mut twins = vec![u32::MAX; corners.len()];
+    let mut waiting: HashMap<(u32, u32), Vec<usize>> = HashMap::new();
+    let lone = r.pick(&[1, 3, 20, 1000]);
+    for h in order(r, corners.len()) {
+        let (a, b) = (corners[h], corners[delaunator::next_halfedge(h)]);
+        let others = waiting.entry((b, a)).or_default();
+        if others.is_empty() || r.one_in(lone) {
+            waiting.entry((a, b)).or_default().push(h);
+        } else {
+            let g = others.swap_remove(r.below(others.len()));
+            (twins[h], twins[g]) = (g as u32, h as u32);
+        }
+    }
+    Mesh { corners, twins }
+}
+
+/// The numbers below n in any order.
+fn order(r: &mut Random, n: usize) -> Vec<usize> {
+    let mut all: Vec<usize> = (0..n).collect();
+    (1..n).rev().for_each(|i| all.swap(i, r.below(i + 1)));
+    all
+}
+
+fn any_triangle(r: &mut Random, n: usize) -> [usize; 3] {
+    let (a, b) = (r.below(n), 1 + r.below(n - 1));
+    let c = 1 + (b + r.below(n - 2)) % (n - 1);
+    [a, (a + b) % n, (a + c) % n]
+}
+
+/// A mesh over the points' numbers that 01's test passes, mostly none of theirs: corners permuted, triangles of other points, mirrored or repeated ones,
+/// a strip, apart from each other, or any triangles over few corners, which lines go round in.
+pub fn twisted(r: &mut Random, points: &[P]) -> Mesh {
+    let n = points.len();
+    if n < 3 {
+        return Mesh::default();
+    }
+    let names = order(r, n);
+    let few = 3 + r.below(n.min(6) - 2);
+    let mut list = match r.below(9) {
+        0 | 1 => triangles(points),
+        2 => triangles(points).iter().map(|t| t.map(|v| names[v])).collect(),
+        3 => triangles(&names.iter().map(|_| (r.unit(), r.unit())).collect::<Vec<P>>()),
+        4 => triangles(points).iter().map(|t| [t[1], t[0], t[2]]).collect(),
+        5 => triangles(points).iter().flat_map(|&t| [t, [t[1], t[2], t[0]], [t[1], t[0], t[2]]]).collect(),
+        6 => (2..n).map(|i| if i % 2 == 0 { [i - 2, i - 1, i] } else { [i - 1, i - 2, i] }.map(|v| names[v])).collect(),
+        7 => (0..n / 3).map(|i| [names[3 * i], names[3 * i + 1], names[3 * i + 2]]).collect(),
+        _ => (0..r.below(60 * few)).map(|_| any_triangle(r, few).map(|v| names[v])).collect::<Vec<_>>(),
+    };
+    let places = order(r, list.len());
+    list = places.iter().map(|&i| list[i]).collect();
+    list.truncate(8192);
+    paired(r, &list)
 }

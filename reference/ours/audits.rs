@@ -28,12 +28,8 @@ pub fn wrong(call: &AuditCall, want: &Result<Figures, u32>, salt: u64) -> Vec<St
     let (net, d) = (&call.net, &call.drawing);
     let n = net.sub.len();
     let mut r = Random::new(salt, 0x0DE);
-    let needed = [2 * n, n, n, n, 2 * n, 2 * n];
+    let needed = [2 * n, library::index_length(n), n, n, 2 * n, 2 * n];
     let mut lengths = needed.map(|length| length + r.below(3));
-    // Half the calls lend an index with room for boxes by cell.
-    if r.below(2) == 0 {
-        lengths[1] = 4 * n + 4097;
-    }
     if let Some(i) = short(call, salt) {
         lengths[i] = needed[i] - 1;
     }
@@ -44,15 +40,6 @@ pub fn wrong(call: &AuditCall, want: &Result<Figures, u32>, salt: u64) -> Vec<St
     let (mut spare, mut keys) = (Lent::<u32>::of(lengths[2]), Lent::<u64>::of(lengths[3]));
     let (mut points, mut path) = (Lent::<f64>::of(lengths[4]), Lent::<f64>::of(lengths[5]));
     let got = library::audit(
-        &net.sub,
-        &net.kv,
-        &net.from,
-        &net.to,
-        &net.xy,
-        &d.boxes,
-        &d.roles,
-        &d.pieces,
-        &d.branches,
         &mut displacement.0,
         &mut spacing.0,
         &mut relative.0,
@@ -62,6 +49,15 @@ pub fn wrong(call: &AuditCall, want: &Result<Figures, u32>, salt: u64) -> Vec<St
         &mut keys.0,
         &mut points.0,
         &mut path.0,
+        &net.sub,
+        &net.kv,
+        &net.from,
+        &net.to,
+        &net.xy,
+        &d.boxes,
+        &d.roles,
+        &d.pieces,
+        &d.branches,
     );
     let number = want.as_ref().err().copied().unwrap_or(0);
     if got.number != number {

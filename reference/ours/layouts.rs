@@ -15,8 +15,9 @@ fn work_lengths(call: &Call, r: &mut Random) -> [usize; 10] {
     let (n, m) = (call.net.sub.len(), call.net.from.len());
     let mesh = call.mesh.corners.len().min(LONGEST);
     let sorting = n + 2 * m + mesh + 1681;
+    let sorted = sorting.max(library::index_length(n));
     let mut lengths =
-        [2 * n, 3 * n, 4 * m + 4 * mesh + 4, sorting, sorting, sorting, 2 * n, 3 * n, 4 * n, 2 * n + 2 * mesh + 16];
+        [2 * n, 3 * n, 4 * m + 4 * mesh + 4, sorted, sorting, sorting, 2 * n, 3 * n, 4 * n, 2 * n + 2 * mesh + 16];
     let short = loop {
         let i = r.below(10);
         if lengths[i] > 0 {
@@ -64,15 +65,6 @@ pub fn wrong(call: &Call, want: &Result<TxLayout, u32>, salt: u64) -> Vec<String
     let mut numbers = Lent::<u32>::of(c[0]);
     let (mut crossing_places, mut ways) = (Lent::<f64>::of(c[1]), Lent::<f64>::of(c[2]));
     let got = library::layout(
-        library::options_of(o),
-        &net.sub,
-        &net.kv,
-        &net.from,
-        &net.to,
-        &net.live,
-        &net.xy,
-        &mesh.corners,
-        &mesh.twins,
         &mut positions.0,
         &mut bars.0,
         &mut boxes.0,
@@ -93,6 +85,15 @@ pub fn wrong(call: &Call, want: &Result<TxLayout, u32>, salt: u64) -> Vec<String
         &mut numbers.0,
         &mut crossing_places.0,
         &mut ways.0,
+        library::options_of(o),
+        &net.sub,
+        &net.kv,
+        &net.from,
+        &net.to,
+        &net.live,
+        &net.xy,
+        &mesh.corners,
+        &mesh.twins,
     );
     let mut wrong = Vec::new();
     let number = want.as_ref().err().copied().unwrap_or(0);

@@ -9,8 +9,8 @@ pub use ffi::*;
 #[link(name = "exports", kind = "static")]
 extern "C" {}
 
-call!(hypot = tansygate_hypot(x: f64, y: f64;;) -> f64);
-call!(nearest = tansygate_nearest(; points: f64; out: f64) -> usize);
+call!(hypot = tansygate_hypot(; x: f64, y: f64;) -> f64);
+call!(nearest = tansygate_nearest(out: f64;; points: f64) -> usize);
 
 /// The oracle's options as the library takes them.
 pub fn options_of(o: &network::Options) -> Options {

@@ -6,6 +6,8 @@ mod tx_schematic;
 mod audit;
 #[path = "../oracle/calls.rs"]
 mod calls;
+#[path = "../oracle/extremes.rs"]
+mod extremes;
 #[path = "../oracle/hypot.rs"]
 mod hypot;
 #[path = "../oracle/layout.rs"]
@@ -37,7 +39,7 @@ mod stress {
     }
 }
 
-use calls::{audit_call, layout_call_with, AuditCall, Call};
+use calls::{audit_call, layout_call, AuditCall, Call, Kind};
 use std::collections::BTreeMap;
 use std::sync::mpsc::{channel, RecvTimeoutError};
 use std::thread;
@@ -46,14 +48,14 @@ use std::time::Duration;
 /// A case on which the original runs longer is left out and counted.
 const PATIENCE: Duration = Duration::from_secs(60);
 
-const USAGE: &str = "usage: compare layout SEED COUNT BUSES [straight]
-       compare audit SEED COUNT BUSES
-  straight   every call with 0 iterations";
+const USAGE: &str = "usage: compare layout SEED COUNT BUSES [KIND]
+       compare audit SEED COUNT BUSES [KIND]
+  KIND   plain; straight: every call with 0 iterations; extreme: coordinates, options, meshes and drawings of extreme scale";
 
 /// One kind of call: how a case arises, what the oracle answers, and what is wrong with ours.
 trait Compared: Clone + Send + 'static {
     type Want: Send + 'static;
-    fn case(seed: u64, case: u64, most: usize, straight: bool) -> Self;
+    fn case(seed: u64, case: u64, most: usize, kind: Kind) -> Self;
     fn want(&self, salt: u64) -> Self::Want;
     fn number(want: &Self::Want) -> u32;
     /// Whether a line is led through a mesh or round a box.
@@ -96,8 +98,8 @@ fn network_without_bus(net: &network::Network) -> Option<network::Network> {
 
 impl Compared for Call {
     type Want = Result<tx_schematic::TxLayout, u32>;
-    fn case(seed: u64, case: u64, most: usize, straight: bool) -> Self {
-        layout_call_with(seed, case, most, straight)
+    fn case(seed: u64, case: u64, most: usize, kind: Kind) -> Self {
+        layout_call(seed, case, most, kind)
     }
     fn want(&self, _: u64) -> Self::Want {
         layout::layout(&self.net, &self.options, &self.mesh, &self.lent)
@@ -127,8 +129,8 @@ impl Compared for Call {
 
 impl Compared for AuditCall {
     type Want = Result<audit::Figures, u32>;
-    fn case(seed: u64, case: u64, most: usize, _: bool) -> Self {
-        audit_call(seed, case, most)
+    fn case(seed: u64, case: u64, most: usize, kind: Kind) -> Self {
+        audit_call(seed, case, most, kind)
     }
     fn want(&self, salt: u64) -> Self::Want {
         audits::expected(self, salt)
@@ -199,14 +201,14 @@ fn shrunk<C: Compared>(call: &C, salt: u64) -> C {
     best
 }
 
-fn compare<C: Compared>(seed: u64, count: u64, most: usize, straight: bool) -> bool {
+fn compare<C: Compared>(seed: u64, count: u64, most: usize, kind: Kind) -> bool {
     let (mut compared, mut routed, mut panicked, mut too_long) = (0, 0, 0, 0);
     let mut answers: BTreeMap<u32, usize> = BTreeMap::new();
     let mut differing: Vec<(u64, C)> = Vec::new();
     for i in 0..count {
         let salt = seed ^ i << 20;
         let both = patiently(move || {
-            let call = C::case(seed, i, most, straight);
+            let call = C::case(seed, i, most, kind);
             let want = call.want(salt);
             (call, want)
         });
@@ -249,12 +251,14 @@ fn main() {
     let words: Vec<String> = std::env::args().skip(1).collect();
     let words: Vec<&str> = words.iter().map(String::as_str).collect();
     let number = |w: &str| w.parse::<u64>().unwrap_or_else(|_| panic!("not a number: {w}"));
-    let same = match words[..] {
-        ["layout", seed, count, buses] => compare::<Call>(number(seed), number(count), number(buses) as usize, false),
-        ["layout", seed, count, buses, "straight"] => {
-            compare::<Call>(number(seed), number(count), number(buses) as usize, true)
+    let kind = words.get(4).map_or(Some(Kind::Plain), |word| Kind::named(word));
+    let same = match (&words[..], kind) {
+        (["layout", seed, count, buses, ..], Some(kind)) => {
+            compare::<Call>(number(seed), number(count), number(buses) as usize, kind)
         }
-        ["audit", seed, count, buses] => compare::<AuditCall>(number(seed), number(count), number(buses) as usize, false),
+        (["audit", seed, count, buses, ..], Some(kind)) => {
+            compare::<AuditCall>(number(seed), number(count), number(buses) as usize, kind)
+        }
         _ => {
             eprintln!("{USAGE}");
             std::process::exit(2)
