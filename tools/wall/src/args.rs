@@ -1,23 +1,29 @@
 //! The command line.
+use crate::command::{Command, COMMANDS};
 use crate::fault::{shown, Fault};
 use crate::number::decimal;
 use crate::paper::Paper;
+use crate::save::is_standard_output;
 use tansygate::TxLayoutOptions;
-
-#[derive(Clone, Copy, Debug, PartialEq, Eq)]
-pub enum Command {
-    Draw,
-    Audit,
-    List,
-}
 
 #[derive(Debug)]
 pub struct Settings {
     pub command: Command,
     pub network: String,
+    /// What stands before the network: the old one of `compare`, the sheet of `check`.
+    pub other: String,
+    pub csv: Option<String>,
+    pub allow_empty: bool,
+    pub anyway: bool,
     pub output: Option<String>,
     pub options: TxLayoutOptions,
     pub paper: Paper,
+    /// The paper of the index's pages, where it is said.
+    pub index_paper: Option<Paper>,
+    /// The paper that a PDF sheet is cut up for.
+    pub tiles: Option<Paper>,
+    /// A file that changes the colours of voltages.
+    pub colours: Option<String>,
     pub title: Option<String>,
     pub strict: bool,
     pub y_up: bool,
@@ -45,14 +51,12 @@ pub fn parsed(words: &[String]) -> Result<Wish, Fault> {
         }
     }
     let Some((first, rest)) = words.split_first() else {
-        return usage("expected a command: draw, audit or list");
+        return usage(COMMANDS);
     };
-    let command = match first.as_str() {
-        "draw" => Command::Draw,
-        "audit" => Command::Audit,
-        "list" => Command::List,
-        "help" => return Ok(Wish::Help),
-        other => return usage(format!("expected a command: draw, audit or list; found {}", shown(other))),
+    let command = match (Command::named(first), first.as_str()) {
+        (Some(command), _) => command,
+        (None, "help") => return Ok(Wish::Help),
+        (None, other) => return usage(format!("{COMMANDS}; found {}", shown(other))),
     };
     let mut settings = Settings::new(command);
     settings.read(rest)?;
@@ -66,14 +70,21 @@ impl Settings {
         let library = TxLayoutOptions::default();
         let options = match command {
             Command::List => TxLayoutOptions { fill: 0.5, route_iterations: 0, ..library },
-            Command::Draw | Command::Audit => TxLayoutOptions { fill: 0.8, tier_radius: 0.0, ..library },
+            _ => TxLayoutOptions { fill: 0.8, tier_radius: 0.0, ..library },
         };
         Settings {
             command,
             network: String::new(),
+            other: String::new(),
+            csv: None,
+            allow_empty: false,
+            anyway: false,
             output: None,
             options,
             paper: Paper::A1,
+            index_paper: None,
+            tiles: None,
+            colours: None,
             title: None,
             strict: false,
             y_up: false,
@@ -98,27 +109,59 @@ impl Settings {
                 networks.push(word);
             }
         }
+        self.index_paper = self.index_paper.or(self.tiles);
         self.finish(&networks)
     }
 
     fn finish(&mut self, networks: &[&String]) -> Result<(), Fault> {
+        let two = match self.command {
+            Command::Compare => Some("two networks, OLD and NEW"),
+            Command::Check => Some("a SHEET and its NETWORK"),
+            _ => None,
+        };
+        let networks = match (two, networks) {
+            (None, _) => networks,
+            (Some(_), [one, second]) if !one.is_empty() => {
+                self.other = one.to_string();
+                std::slice::from_ref(second)
+            }
+            (Some(what), _) => return usage(format!("{}: expected {what}", self.command.name())),
+        };
         match networks {
             [] => return usage("expected a NETWORK: a folder with buses.csv and branches.csv, or a drawlist text"),
             [one] if !one.is_empty() => self.network = one.to_string(),
             [_] => return usage("expected a NETWORK, found an empty name"),
             [_, second, ..] => return usage(format!("expected one NETWORK, found {} too", shown(second))),
         }
+        let files: Vec<&String> = [&self.output, &self.csv].into_iter().flatten().collect();
+        if self.command == Command::Compare && files.iter().any(|file| is_standard_output(file)) {
+            return usage("compare: expected files after -o and --csv; what differs is printed to standard output");
+        }
+        if files.len() == 2 && files[0] == files[1] {
+            return usage("compare: expected two files, one after -o and one after --csv");
+        }
         if self.command == Command::Draw && self.output.is_none() {
             return usage("draw: expected -o FILE, the sheet to write");
         }
+        if self.tiles.is_some() && !self.pdf() {
+            return usage("--tiles: expected -o FILE.pdf: tiles are pages of a PDF file");
+        }
         Ok(())
+    }
+
+    /// Whether the sheet is to be a PDF file.
+    pub fn pdf(&self) -> bool {
+        self.output.as_ref().is_some_and(|name| name.to_lowercase().ends_with(".pdf"))
     }
 
     /// Whether this is an option without a value, which is then taken.
     fn flag(&mut self, name: &str, has_value: bool) -> Result<bool, Fault> {
         match name {
-            "--strict" if self.command != Command::List => self.strict = true,
+            _ if !self.command.has(name) => return self.takes_value(name).map(|()| false),
+            "--strict" => self.strict = true,
             "--y-up" => self.y_up = true,
+            "--allow-empty" => self.allow_empty = true,
+            "--anyway" => self.anyway = true,
             _ => return self.takes_value(name).map(|()| false),
         }
         if has_value {
@@ -129,21 +172,24 @@ impl Settings {
 
     /// Whether this is an option of the command that has a value.
     fn takes_value(&self, name: &str) -> Result<(), Fault> {
-        match name {
-            "-o" | "--output" | "--title" | "--paper" if self.command == Command::Draw => Ok(()),
-            "-o" | "--output" | "--title" | "--paper" | "--strict" => {
-                usage(format!("{name} isn't an option of {}", self.command.name()))
-            }
-            "--fill" | "--search" | "--iterations" | "--tier-radius" | "--tier-counts" | "--tier-scales" => Ok(()),
-            _ => usage(format!("there is no option {name}")),
+        if !Command::any_has(name) {
+            return usage(format!("there is no option {name}"));
         }
+        if !self.command.has(name) {
+            return usage(format!("{name} isn't an option of {}", self.command.name()));
+        }
+        Ok(())
     }
 
     fn option(&mut self, name: &str, value: &str) -> Result<(), Fault> {
         match name {
             "-o" | "--output" => self.output = Some(value.to_string()),
+            "--csv" => self.csv = Some(value.to_string()),
             "--title" => self.title = Some(plain(name, value)?),
             "--paper" => self.paper = paper(name, value)?,
+            "--index-paper" => self.index_paper = Some(paper(name, value)?),
+            "--tiles" => self.tiles = Some(paper(name, value)?),
+            "--colours" => self.colours = Some(value.to_string()),
             "--fill" => self.options.fill = fill(name, value)?,
             "--search" => self.options.search = whole(name, value, 20)? as i32,
             "--tier-radius" => self.options.tier_radius = radius(name, value)?,
@@ -152,16 +198,6 @@ impl Settings {
             _ => self.options.route_iterations = whole(name, value, 100)?,
         }
         Ok(())
-    }
-}
-
-impl Command {
-    fn name(self) -> &'static str {
-        match self {
-            Command::Draw => "draw",
-            Command::Audit => "audit",
-            Command::List => "list",
-        }
     }
 }
 
@@ -276,7 +312,7 @@ mod tests {
     #[test]
     fn wrong_lines() {
         for (line, expected) in [
-            ("paint net", "expected a command: draw, audit or list; found 'paint'"),
+            ("paint net", "expected a command: draw, audit, list, compare or check; found 'paint'"),
             ("draw net", "draw: expected -o FILE, the sheet to write"),
             ("draw -o", "-o: expected a value after it"),
             ("audit", "expected a NETWORK: a folder with buses.csv and branches.csv, or a drawlist text"),
@@ -294,6 +330,8 @@ mod tests {
             ("audit a --tier-radius -1", "--tier-radius: expected a number from 0 to 1000, found '-1' (refused 5: an option is out of range)"),
             ("audit a --tier-counts 3", "--tier-counts: expected two whole numbers from 0 to 4294967295 with a comma between, such as 12,30, found '3' (refused 5: an option is out of range)"),
             ("audit a --tier-scales 1,2", "--tier-scales: expected two numbers from 1/64 to 1 with a comma between, such as 2/3,4/9, found '1,2' (refused 5: an option is out of range)"),
+            ("draw a -o b --tiles A4", "--tiles: expected -o FILE.pdf: tiles are pages of a PDF file"),
+            ("audit a --tiles A4", "--tiles isn't an option of audit"),
             ("draw a -o b --paper A5", "--paper: expected A0, A1, A2, A3 or A4, found 'A5'"),
         ] {
             assert_eq!(run(line).unwrap_err(), format!("{expected}\nTry 'wall --help'."), "{line}");

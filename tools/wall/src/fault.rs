@@ -1,4 +1,5 @@
 //! What goes wrong, in the words that are shown.
+use crate::plain::visible;
 use std::fmt;
 
 /// A place in a file, counted from 1.
@@ -19,6 +20,8 @@ pub enum Fault {
     Content { file: String, place: Place, expected: String },
     /// The library refuses the network.
     Refused { number: u32, words: String },
+    /// A sheet isn't written, or what was compared or checked isn't what it has to be.
+    Sheet(String),
 }
 
 impl Fault {
@@ -35,7 +38,7 @@ impl Fault {
         match self {
             Fault::Content { .. } => Some(14),
             Fault::Refused { number, .. } => Some(*number),
-            Fault::Usage(_) | Fault::File { .. } => None,
+            Fault::Usage(_) | Fault::File { .. } | Fault::Sheet(_) => None,
         }
     }
 }
@@ -44,6 +47,7 @@ impl fmt::Display for Fault {
     fn fmt(&self, f: &mut fmt::Formatter<'_>) -> fmt::Result {
         match self {
             Fault::Usage(text) => write!(f, "{text}\nTry 'wall --help'."),
+            Fault::Sheet(text) => write!(f, "{text}"),
             Fault::File { file, problem } => write!(f, "{file}: {problem}"),
             Fault::Content { file, place, expected } => {
                 write!(f, "{file}:{}:{}: {expected}", place.line, place.column)
@@ -53,8 +57,9 @@ impl fmt::Display for Fault {
     }
 }
 
-/// A text as a message shows it: in quotes, on one line, at most forty characters.
+/// A text as a message shows it: in quotes, on one line, at most forty characters, what can't be seen as escapes.
 pub fn shown(text: &str) -> String {
+    let text = visible(text);
     let plain = |c: char| if c.is_control() { '\u{FFFD}' } else { c };
     let mut short: String = text.chars().take(40).map(plain).collect();
     if text.chars().nth(40).is_some() {

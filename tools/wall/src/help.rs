@@ -3,22 +3,41 @@
 pub const VERSION: &str = concat!("wall ", env!("CARGO_PKG_VERSION"), "\n");
 
 pub const HELP: &str = "\
-Draws substation networks for the wall, and audits the drawings.
+Draws substation networks for the wall, audits the drawings, and checks and compares sheets.
 
 Usage:
-  wall draw NETWORK -o FILE [OPTIONS]   draw the sheet, an SVG file
+  wall draw NETWORK -o FILE [OPTIONS]   draw the sheet, an SVG or PDF file
   wall audit NETWORK [OPTIONS]          print the figures of the drawing's audit
   wall list NETWORK [OPTIONS]           print the drawing's pieces, one a line, as drawlist does
+  wall compare OLD NEW [OPTIONS]        print what differs between two networks; with -o FILE,
+                                        draw the new one with what differs marked and listed
+  wall check SHEET NETWORK              read a finished sheet back and print where it doesn't
+                                        show the network
 
 NETWORK is a folder with buses.csv (columns name, substation, kv, x, y) and branches.csv
-(columns name, from, to, in_service), or a file in drawlist's text, or - for such a text on
-standard input. Columns may stand in any order, and others beside them are passed over. A bus
-with an empty coordinate counts as one at (0, 0).
+(columns name, from, to, in_service; number where the sheet is to call branches by numbers of
+your own, not by their rows), or a file in drawlist's text, or - for such a text on standard
+input. Columns may stand in any order, and others beside them are passed over. A bus with an
+empty coordinate counts as one at (0, 0).
 
-Options of the sheet (draw):
-  -o, --output FILE      the sheet to write; - is standard output
+Options of the sheet (draw, compare):
+  -o, --output FILE      the sheet to write: FILE.pdf is a PDF file with the index in it, any
+                         other name an SVG file, with pages of the index beside it where
+                         the sheet has no room for it (FILE-index.svg, FILE-index-2.svg);
+                         - is standard output, an SVG without those pages (draw)
       --paper SIZE       A0, A1, A2, A3 or A4                                  [A1]
+      --index-paper SIZE paper of the index's pages [A3, that of the tiles, or the sheet's
+                         where that is A4 or A3 would take more than 16 pages]
+      --tiles SIZE       cut a PDF sheet up for this paper: pages that overlap by 8 mm, with
+                         marks to cut and join them by
+      --colours FILE     colours of voltages: lines kv,colour,style under a header line of
+                         these names; kv is a number, 'below 1', 'other' or 'mixed', colour
+                         #rrggbb, style solid, double, long or short
       --title TEXT       the sheet's title                       [the network's name]
+
+      --anyway           draw substations without coordinates at (0, 0), and one so far off
+                         that boxes become too small to read
+      --csv FILE         write what differs as comma-separated rows (compare)
 
 Options of the drawing:
       --fill F           typical size of a box, in median distances between
@@ -40,10 +59,13 @@ list has drawlist's defaults: --fill 0.5 --iterations 0 --tier-radius 3.
 Other options:
       --strict           exit with 1 where boxes overlap or lines run through boxes
                          (draw, audit)
+      --allow-empty      take an export without buses or branches (all but list)
   -h, --help             print this help
   -V, --version          print the version
 
-Exit status: 0 done; 1 done, but with --strict the audit found overlapping boxes or lines
-through boxes; 2 refused, unreadable or not written. Where the status is 2, no sheet is
-written, and one that was there stays as it was.
+Exit status: 0 done, or nothing differs or is wrong; 1 done, but with --strict the audit found
+overlapping boxes or lines through boxes, or compare found a difference, or check found the sheet
+wrong; 2 refused, unreadable or not written. draw and compare check a sheet as check does before
+it takes its place. Where the status is 2, no sheet is written, and one that was there stays as
+it was.
 ";

@@ -84,6 +84,7 @@ impl Line<'_> {
         let [from, to, live] = self.fields("a branch: from to live")?;
         Ok(Branch {
             name: String::new(),
+            number: String::new(),
             from: self.bus_number(from)?,
             to: self.bus_number(to)?,
             service: self.whole(live, u64::from(u8::MAX), "a service flag")? as u8,
@@ -143,6 +144,8 @@ pub fn read(text: &str, file: &str) -> Result<(Vec<Bus>, Vec<Branch>), Fault> {
     }
     for (i, branch) in branches.iter_mut().enumerate() {
         branch.name = i.to_string();
+        // Not the bare number, which may be a bus's name too.
+        branch.number = format!("b{i}");
     }
     Ok((buses, branches))
 }

@@ -12,11 +12,14 @@ use std::path::Path;
 /// The most bytes of a file that is read; the largest accepted network takes a small part of it.
 const MOST: u64 = 64 << 20;
 
+/// What standard input is called where a file's name stands.
+pub const STANDARD_INPUT: &str = "standard input";
+
 /// The network that a command line's word names.
 pub fn network(word: &str) -> Result<Network, Fault> {
     if word == "-" {
         let bytes = limited(std::io::stdin().lock(), "standard input")?;
-        return text(&bytes, "standard input".to_string(), "standard input".to_string());
+        return text(&bytes, STANDARD_INPUT.to_string(), STANDARD_INPUT.to_string());
     }
     let path = Path::new(word);
     let kind = path.metadata().map_err(|error| Fault::file(word, error))?;
@@ -37,7 +40,7 @@ fn shown_name(path: &Path) -> String {
     name.chars().map(|c| if c.is_control() { '\u{FFFD}' } else { c }).collect()
 }
 
-fn opened(path: &Path) -> Result<Vec<u8>, Fault> {
+pub fn opened(path: &Path) -> Result<Vec<u8>, Fault> {
     let name = path.display().to_string();
     let file = File::open(path).map_err(|error| Fault::file(&name, error))?;
     limited(file, &name)
@@ -62,8 +65,9 @@ fn folder(path: &Path, name: String) -> Result<Network, Fault> {
     let (one, two) = (one.display().to_string(), two.display().to_string());
     let buses = export::buses(&first, &one)?;
     let branches = export::branches(&second, &two, &buses)?;
+    let notes = [&buses.notes[..], &branches.notes].concat();
     let sources = vec![source("buses.csv", &one, &first), source("branches.csv", &two, &second)];
-    Ok(Network { name, sources, stations: buses.stations, buses: buses.buses, branches })
+    Ok(Network { name, sources, stations: buses.stations, buses: buses.buses, branches: branches.branches, notes })
 }
 
 fn text(bytes: &[u8], name: String, path: String) -> Result<Network, Fault> {
@@ -72,5 +76,5 @@ fn text(bytes: &[u8], name: String, path: String) -> Result<Network, Fault> {
     }
     let (buses, branches) = listing::read(decode::text(bytes, &path)?, &path)?;
     let sources = vec![source(&name, &path, bytes)];
-    Ok(Network { name, sources, stations: Vec::new(), buses, branches })
+    Ok(Network { name, sources, stations: Vec::new(), buses, branches, notes: Vec::new() })
 }

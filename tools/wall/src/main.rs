@@ -1,24 +1,39 @@
 //! Draws substation networks for the wall, audits the drawings, and lists their pieces.
+mod alike;
 mod args;
+mod check;
 mod checksum;
+mod colours;
+mod command;
+mod commands;
+mod compare;
 mod csv;
 mod decode;
 mod drawing;
 mod export;
 mod fault;
+mod font;
 mod grid;
+mod guard;
+mod held;
 mod help;
+mod leaves;
 mod listing;
 mod load;
 mod mesh;
 mod network;
 mod number;
 mod paper;
+mod pdf;
+mod plain;
+mod remarks;
 mod report;
 mod save;
 mod sheet;
+mod whole;
 
-use args::{Command, Settings, Wish};
+use args::{Settings, Wish};
+use command::Command;
 use fault::Fault;
 use std::process::ExitCode;
 
@@ -44,16 +59,25 @@ fn run(words: &[String]) -> Result<ExitCode, Fault> {
 }
 
 fn obey(settings: &Settings) -> Result<ExitCode, Fault> {
-    if settings.command == Command::List {
-        return list(settings);
+    match settings.command {
+        Command::List => return list(settings),
+        Command::Check => return commands::check(settings),
+        Command::Compare => return commands::compare(settings),
+        Command::Draw | Command::Audit => {}
     }
     let network = read(settings)?;
+    guard::has_rows(&network, settings)?;
     let drawing = drawing::audited(&network, &settings.options)?;
     let mut notes = report::notes(&network, &drawing);
+    notes.extend(remarks::all(&network, &drawing));
     if settings.command == Command::Draw {
-        let sheet = sheet::drawn(&network, &drawing, settings);
-        save::written(settings.output.as_deref().unwrap_or("-"), &sheet.text)?;
-        notes.extend(report::left_out(sheet.left_out));
+        let output = settings.output.as_deref().unwrap_or("-");
+        save::not_input(output, &network)?;
+        guard::has_places(&network, settings)?;
+        guard::is_legible(&network, &drawing, settings)?;
+        let sheet = sheet::drawn(&network, &drawing, settings, &leaves::colours(settings)?);
+        check::passed(&sheet::svg::file(&sheet.leaves[0].root), &network)?;
+        notes.extend(leaves::written(&sheet, settings)?);
     } else {
         save::printed(&report::printed(&network, &drawing))?;
     }

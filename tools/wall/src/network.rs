@@ -1,4 +1,5 @@
 //! A network with its names, and where each bus and branch stands in its file.
+use crate::fault::shown;
 use tansygate::TxLayoutInput;
 
 pub struct Bus {
@@ -12,6 +13,8 @@ pub struct Bus {
 
 pub struct Branch {
     pub name: String,
+    /// What the sheet calls it: short, and no other's.
+    pub number: String,
     pub from: i64,
     pub to: i64,
     pub service: u8,
@@ -33,6 +36,8 @@ pub struct Network {
     pub stations: Vec<String>,
     pub buses: Vec<Bus>,
     pub branches: Vec<Branch>,
+    /// Remarks on names that are easily misread.
+    pub notes: Vec<String>,
 }
 
 impl Network {
@@ -67,13 +72,13 @@ impl Network {
     /// The row of a bus, as messages name it.
     pub fn bus_row(&self, bus: usize) -> String {
         let row = &self.buses[bus];
-        format!("bus '{}', {}:{}", row.name, self.sources[0].path, row.line)
+        format!("bus {}, {}:{}", shown(&row.name), self.sources[0].path, row.line)
     }
 
     /// The row of a branch, as messages name it.
     pub fn branch_row(&self, branch: usize) -> String {
         let row = &self.branches[branch];
         let path = self.sources.last().map_or("", |s| &s.path);
-        format!("branch '{}', {path}:{}", row.name, row.line)
+        format!("branch {}, {path}:{}", shown(&row.name), row.line)
     }
 }

@@ -26,6 +26,14 @@ impl Paper {
         }
     }
 
+    /// The largest paper that isn't larger, and that can be held in the hand.
+    pub fn at_hand(self) -> Self {
+        match self {
+            Paper::A4 => Paper::A4,
+            _ => Paper::A3,
+        }
+    }
+
     /// The longer and the shorter side.
     pub fn sides(self) -> (f64, f64) {
         match self {

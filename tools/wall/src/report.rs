@@ -72,7 +72,7 @@ pub fn printed(network: &Network, drawing: &Drawing) -> String {
 /// Remarks on what a reader might miss: buses without a place, branches without a run.
 pub fn notes(network: &Network, drawing: &Drawing) -> Vec<String> {
     let unplaced: Vec<usize> = (0..network.buses.len()).filter(|&i| network.buses[i].at.is_none()).collect();
-    let mut notes = Vec::new();
+    let mut notes = network.notes.clone();
     if let Some(&first) = unplaced.first() {
         let count = thousands(unplaced.len());
         notes.push(format!(
@@ -90,9 +90,4 @@ pub fn notes(network: &Network, drawing: &Drawing) -> Vec<String> {
         ));
     }
     notes
-}
-
-/// A remark on names that found no place on the sheet.
-pub fn left_out(count: usize) -> Option<String> {
-    (count > 0).then(|| format!("note: names left out for want of room: {}; a larger paper has more", thousands(count)))
 }

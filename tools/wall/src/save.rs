@@ -1,44 +1,80 @@
-//! A file written as a whole: first beside its place, then moved there.
+//! Where results go: files are replaced as a whole, devices and pipes are written straight.
 use crate::fault::Fault;
-use std::fs::{self, File};
-use std::io::Write;
-use std::path::{Path, PathBuf};
+use crate::load::STANDARD_INPUT;
+use crate::network::Network;
+use crate::whole::{followed, Ready};
+use std::fs::{self, Metadata, OpenOptions};
+use std::io::{self, Write};
+use std::os::unix::fs::MetadataExt;
+use std::path::Path;
 
-/// Writes the text to a file, or to standard output where its name is `-`.
-pub fn written(name: &str, text: &str) -> Result<(), Fault> {
-    if name == "-" {
-        return printed(text);
+/// Names of standard output.
+const STANDARD_OUTPUT: [&str; 4] = ["-", "/dev/stdout", "/dev/fd/1", "/proc/self/fd/1"];
+
+pub fn is_standard_output(name: &str) -> bool {
+    STANDARD_OUTPUT.contains(&name)
+}
+
+/// Writes to a file, or to standard output where its name is `-`.
+pub fn written(name: &str, bytes: &[u8]) -> Result<(), Fault> {
+    all_written(&[(name.to_string(), bytes.to_vec())])
+}
+
+/// Writes files by name: none takes its place before all of them are whole.
+pub fn all_written(files: &[(String, Vec<u8>)]) -> Result<(), Fault> {
+    let mut ready = Ready::default();
+    let mut straight = Vec::new();
+    for (name, bytes) in files {
+        match fs::metadata(name) {
+            _ if is_standard_output(name) => straight.push((name, bytes)),
+            Ok(kind) if kind.is_dir() => return Err(Fault::file(name, "expected a file to write, found a folder")),
+            Ok(kind) if !kind.is_file() || is_handle(name) => straight.push((name, bytes)),
+            _ => {
+                let path = followed(Path::new(name)).map_err(|error| Fault::file(name, error))?;
+                ready.add(path, bytes).map_err(|error| Fault::file(name, error))?;
+            }
+        }
     }
-    let path = Path::new(name);
-    if path.is_dir() {
-        return Err(Fault::file(name, "expected a file to write, found a folder"));
+    for (name, bytes) in straight {
+        if is_standard_output(name) {
+            sent(bytes)?;
+        } else {
+            let opened = OpenOptions::new().write(true).open(name);
+            opened.and_then(|mut file| file.write_all(bytes)).map_err(|error| Fault::file(name, error))?;
+        }
     }
-    let beside = temporary(path).ok_or_else(|| Fault::file(name, "expected a file's name"))?;
-    let moved = filled(&beside, text).and_then(|()| fs::rename(&beside, path));
-    moved.map_err(|error| {
-        // It may not be there; the fault that is said is the first one.
-        let _ = fs::remove_file(&beside);
-        Fault::file(name, error)
-    })
+    ready.take_places().map_err(|(path, error)| Fault::file(path.display().to_string(), error))
+}
+
+/// Writes text to standard output.
+pub fn printed(text: &str) -> Result<(), Fault> {
+    sent(text.as_bytes())
 }
 
 /// Writes to standard output; a reader that has gone away isn't a fault.
-pub fn printed(text: &str) -> Result<(), Fault> {
-    let mut out = std::io::stdout().lock();
-    match out.write_all(text.as_bytes()).and_then(|()| out.flush()) {
-        Err(error) if error.kind() != std::io::ErrorKind::BrokenPipe => Err(Fault::file("standard output", error)),
+fn sent(bytes: &[u8]) -> Result<(), Fault> {
+    let mut out = io::stdout().lock();
+    match out.write_all(bytes).and_then(|()| out.flush()) {
+        Err(error) if error.kind() != io::ErrorKind::BrokenPipe => Err(Fault::file("standard output", error)),
         _ => Ok(()),
     }
 }
 
-/// A name in the same folder that no other running process takes.
-fn temporary(path: &Path) -> Option<PathBuf> {
-    let name = path.file_name()?.to_string_lossy();
-    Some(path.with_file_name(format!(".{name}.{}.part", std::process::id())))
+/// A fault where the name is that of a file that the network was read from, under whatever path.
+pub fn not_input(name: &str, network: &Network) -> Result<(), Fault> {
+    let same = |a: &Metadata, b: &Metadata| a.is_file() && (a.dev(), a.ino()) == (b.dev(), b.ino());
+    let output = if is_standard_output(name) { "/proc/self/fd/1" } else { name };
+    let Ok(output) = fs::metadata(output) else { return Ok(()) };
+    for source in &network.sources {
+        let path = if source.path == STANDARD_INPUT { "/proc/self/fd/0" } else { &source.path };
+        if fs::metadata(path).is_ok_and(|input| same(&output, &input)) {
+            return Err(Fault::file(name, format!("expected another file to write than the input {}", source.path)));
+        }
+    }
+    Ok(())
 }
 
-fn filled(path: &Path, text: &str) -> std::io::Result<()> {
-    let mut file = File::create(path)?;
-    file.write_all(text.as_bytes())?;
-    file.sync_all()
+/// Whether a name is that of an open file of a process, which has no place of its own.
+fn is_handle(name: &str) -> bool {
+    name.starts_with("/dev/fd/") || name.starts_with("/proc/")
 }

@@ -1,15 +1,16 @@
-// What a browser sees on a sheet: every run and cross is there, nothing lies outside the page, texts keep clear.
+// What a browser sees on a sheet and the pages of its index: every run, cross and number is there, nothing lies outside the
+// page, texts keep clear, circuits that run as one stroke are marked, and colours are those of the voltages.
 (() => {
-    const svg = document.querySelector('svg');
-    const page = svg.viewBox.baseVal;
+    const [svg, ...index] = document.querySelectorAll('svg');
     const wrong = [];
-    const all = (query) => [...svg.querySelectorAll(query)];
+    const all = (query, root = svg) => [...root.querySelectorAll(query)];
     const rect = (element) => {
         const b = element.getBBox();
         return { left: b.x, top: b.y, right: b.x + b.width, bottom: b.y + b.height, width: b.width, height: b.height };
     };
     const meet = (a, b, by) => a.left + by < b.right && b.left + by < a.right && a.top + by < b.bottom && b.top + by < a.bottom;
     const name = (element) => element.textContent || element.id || element.tagName;
+    const number = (element, attribute) => parseFloat(element.getAttribute(attribute) || 0);
 
     // Pieces as `wall list` gives them: branch and role of each.
     const roles = new Map();
@@ -17,13 +18,14 @@
         const [branch, role] = line.split(' ');
         roles.set(branch, role);
     }
+    const by = (attribute) => new Map(Map.groupBy(all(`[${attribute}]`), (element) => element.getAttribute(attribute)));
+    const runs = by('data-branch'), crosses = by('data-cross');
     for (const [branch, role] of roles) {
-        const runs = all(`[data-branch="${branch}"]`);
-        if (runs.length !== 1 || !(runs[0].getTotalLength() > 0)) wrong.push(`branch ${branch} has ${runs.length} elements`);
-        const crosses = all(`[data-cross="${branch}"]`);
-        if (crosses.length !== (role === '2' ? 1 : 0)) wrong.push(`branch ${branch} of role ${role} has ${crosses.length} crosses`);
-        if (role === '2' && crosses.length && runs.length) onRun(crosses[0], runs[0], branch);
-        if (role === '2' && runs.length && !runs[0].getAttribute('stroke-dasharray')) wrong.push(`branch ${branch} isn't dashed`);
+        const run = runs.get(branch) || [], cross = crosses.get(branch) || [];
+        if (run.length !== 1 || !(run[0].getTotalLength() > 0)) wrong.push(`branch ${branch} has ${run.length} elements`);
+        if (cross.length !== (role === '2' ? 1 : 0)) wrong.push(`branch ${branch} of role ${role} has ${cross.length} crosses`);
+        if (role === '2' && cross.length && run.length) onRun(cross[0], run[0], branch);
+        if (run.length && (role === '2') !== run[0].hasAttribute('stroke-dasharray')) wrong.push(`dashes of branch ${branch}`);
     }
     if (all('[data-branch]').length !== roles.size) wrong.push('there are runs of branches that have no piece');
 
@@ -38,40 +40,175 @@
         if (least > total / 500 + 0.02) wrong.push(`the cross of branch ${branch} is ${least} mm off its run`);
     }
 
-    for (const element of all('path, rect, circle, text')) {
-        const r = rect(element), rim = element.tagName === 'text' ? 0 : parseFloat(element.getAttribute('stroke-width') || 0) / 2;
-        if (r.left - rim < -0.01 || r.top - rim < -0.01 || r.right + rim > page.width + 0.01 || r.bottom + rim > page.height + 0.01) {
-            wrong.push(`${name(element)} lies outside the page`);
+    // Nothing lies outside its page, no text is too small or on another.
+    for (const page of [svg, ...index]) {
+        const { width, height } = page.viewBox.baseVal;
+        for (const element of all('path, rect, circle, text', page)) {
+            const r = rect(element), rim = element.tagName === 'text' ? 0 : number(element, 'stroke-width') / 2;
+            if (r.left - rim < -0.01 || r.top - rim < -0.01 || r.right + rim > width + 0.01 || r.bottom + rim > height + 0.01) {
+                wrong.push(`${name(element)} lies outside the page`);
+            }
+        }
+        // Numbers have no letters below the line, and rows may be close: they are measured by their digits.
+        const texts = all('text', page).map((element) => {
+            const r = rect(element), size = number(element, 'font-size'), y = number(element, 'y');
+            if (size < 2.5) wrong.push(`'${name(element)}' is smaller than 2.5 mm`);
+            return element.dataset.number === undefined ? { element, r } : { element, r: { ...r, top: y - 0.73 * size, bottom: y, height: 0.73 * size } };
+        });
+        texts.sort((a, b) => a.r.left - b.r.left);
+        for (let i = 0; i < texts.length; i++) {
+            for (let j = i + 1; j < texts.length && texts[j].r.left < texts[i].r.right; j++) {
+                if (meet(texts[i].r, texts[j].r, 0.1)) wrong.push(`'${name(texts[i].element)}' overlaps '${name(texts[j].element)}'`);
+            }
+        }
+        if (page === svg) inBoxes(texts);
+    }
+
+    // Texts that belong to a box stand in it or at it, and on no other.
+    function inBoxes(texts) {
+        const boxes = new Map(all('[data-station]').map((box) => [box.dataset.station, rect(box)]));
+        for (const { element, r } of texts.filter(({ element }) => element.dataset.of !== undefined)) {
+            const of = element.dataset.of, box = boxes.get(of), high = rect(element).height;
+            const out = Math.max(box.left - r.left, r.right - box.right, box.top - r.top, r.bottom - box.bottom);
+            if (meet(r, box, 0.05) && out > high) wrong.push(`'${name(element)}' overlaps its box's edge by ${out} mm`);
+            const apart = Math.max(box.left - r.right, r.left - box.right, box.top - r.bottom, r.top - box.bottom);
+            if (apart > 1.3 * high + 1) wrong.push(`'${name(element)}' is ${apart} mm away from its box`);
+            for (const [station, other] of boxes) {
+                const own = element.dataset.number !== undefined;
+                if (station !== of && meet(r, other, 0.05) && !(own && meet(box, other, -3))) wrong.push(`'${name(element)}' overlaps the box of station ${station}`);
+            }
         }
     }
 
-    const boxes = new Map(all('[data-station]').map((box) => [box.dataset.station, rect(box)]));
-    const texts = all('text').map((element) => ({ element, r: rect(element), of: element.dataset.of }));
-    for (const { element, r, of } of texts) {
-        if (parseFloat(element.getAttribute('font-size')) < 2.5) wrong.push(`'${name(element)}' is smaller than 2.5 mm`);
-        if (of === undefined) continue;
-        const box = boxes.get(of);
-        const out = Math.max(box.left - r.left, r.right - box.right, box.top - r.top, r.bottom - box.bottom);
-        if (meet(r, box, 0.05) && out > r.height) wrong.push(`'${name(element)}' overlaps its box's edge by ${out} mm`);
-        const apart = Math.max(box.left - r.right, r.left - box.right, box.top - r.bottom, r.top - box.bottom);
-        if (apart > 1.3 * r.height + 1) wrong.push(`'${name(element)}' is ${apart} mm away from its box`);
-        for (const [station, other] of boxes) {
-            if (station !== of && meet(r, other, 0.05)) wrong.push(`'${name(element)}' overlaps the box of station ${station}`);
+    // Numbers: at each end of a live run and beside each cross, at its own end, or counted as left out.
+    const ends = [];
+    for (const [branch, [run]] of runs) {
+        const steps = run.getAttribute('d').split(/[ML]/).filter((step) => step).map((step) => step.split(' ').map(Number));
+        for (const at of [steps[0], steps[steps.length - 1]]) ends.push({ branch, at });
+    }
+    const digits = all('[data-number]');
+    for (const element of digits.filter((element) => element.dataset.end !== undefined)) {
+        const at = [number(element, 'x'), number(element, 'y') - 0.365 * number(element, 'font-size')];
+        const far = (end) => Math.hypot(end.at[0] - at[0], end.at[1] - at[1]);
+        const least = ends.reduce((best, end) => Math.min(best, far(end)), Infinity);
+        if (!ends.some((end) => end.branch === element.dataset.number && far(end) <= least + 0.01)) wrong.push(`'${name(element)}' stands at another end`);
+    }
+    const stations = new Map(all('[data-station]').map((box) => [box.dataset.station, rect(box)]));
+    let wanted = 0;
+    for (const [branch, role] of roles) {
+        const [a, b] = ends.filter((end) => end.branch === branch).map((end) => end.at);
+        const has = (r, p) => r.left <= p[0] && p[0] <= r.right && r.top <= p[1] && p[1] <= r.bottom;
+        const inside = [...stations.values()].some((r) => has(r, a) && has(r, b));
+        wanted += role !== '2' ? 2 : inside ? 1 : 3;
+    }
+    const block = all('#title-block text').map(name).join('\n');
+    const lost = parseInt((block.match(/Numbers left out\n([\d,]+)/) || ['', '0'])[1].replaceAll(',', ''));
+    if (digits.length !== wanted - lost) wrong.push(`there are ${digits.length} numbers, wanted ${wanted}, left out ${lost}`);
+
+    // The index has every branch once, with its number as on the sheet, both buses and its squares.
+    const rows = new Map();
+    for (const page of [svg, ...index]) {
+        for (const element of all('[data-index]', page)) {
+            const [branch, column] = element.dataset.index.split(' ');
+            if (!rows.has(branch)) rows.set(branch, []);
+            const cells = rows.get(branch);
+            cells[column] = (cells[column] ? cells[column] + ' ' : '') + name(element);
         }
     }
-    for (let i = 0; i < texts.length; i++) {
-        for (let j = 0; j < i; j++) {
-            if (meet(texts[i].r, texts[j].r, 0.1)) wrong.push(`'${name(texts[i].element)}' overlaps '${name(texts[j].element)}'`);
+    for (const element of digits) {
+        if ((rows.get(element.dataset.number) || [])[0] !== name(element)) wrong.push(`'${name(element)}' isn't in the index`);
+    }
+    for (const [branch, role] of roles) {
+        const cells = rows.get(branch) || [];
+        if (cells.length !== 8 || cells.some((cell) => !cell)) wrong.push(`branch ${branch} isn't whole in the index: ${cells}`);
+        if (cells[6] !== (role === '2' ? 'open' : 'live')) wrong.push(`branch ${branch} is ${cells[6]} in the index`);
+        if (!/^[A-H]\d+(–[A-H]\d+)?$/.test(cells[7])) wrong.push(`branch ${branch} stands in '${cells[7]}'`);
+    }
+
+    // Stretches: steps of a run that lie close to another for five millimetres and more belong to a marked pair.
+    const STEP = 0.25, near = new Map(), paths = new Map();
+    const cell = (x, y) => `${Math.floor(x)} ${Math.floor(y)}`;
+    for (const [branch, [run]] of runs) {
+        const points = [];
+        const steps = run.getAttribute('d').split('M').filter((part) => part).map((part) => part.split('L').map((step) => step.split(' ').map(Number)));
+        for (const part of steps) {
+            for (let i = 1; i < part.length; i++) {
+                const [p, q] = [part[i - 1], part[i]], long = Math.hypot(q[0] - p[0], q[1] - p[1]), count = Math.max(1, Math.ceil(long / STEP));
+                for (let s = 0; s < count; s++) points.push([p[0] + (q[0] - p[0]) * s / count, p[1] + (q[1] - p[1]) * s / count, long / count]);
+            }
         }
+        paths.set(branch, points);
+        for (const p of points) {
+            const key = cell(p[0], p[1]);
+            if (!near.has(key)) near.set(key, []);
+            near.get(key).push([p[0], p[1], branch]);
+        }
+    }
+    const marked = new Set();
+    for (const band of all('[data-stretch]')) {
+        const list = band.dataset.branches.split(' ');
+        for (const a of list) for (const b of list) if (a !== b) marked.add(`${a} ${b}`);
+    }
+    const seen = new Set();
+    for (const [branch, points] of paths) {
+        const lengths = new Map();
+        for (const [x, y, long] of points) {
+            const here = new Set();
+            for (let i = -1; i <= 1; i++) for (let j = -1; j <= 1; j++) {
+                for (const [u, v, other] of near.get(cell(x + i, y + j)) || []) {
+                    if (other !== branch && Math.hypot(u - x, v - y) <= 0.45) here.add(other);
+                }
+            }
+            for (const other of lengths.keys()) if (!here.has(other)) lengths.delete(other);
+            for (const other of here) {
+                lengths.set(other, (lengths.get(other) || 0) + long);
+                if (lengths.get(other) >= 5.5) seen.add(`${branch} ${other}`);
+            }
+        }
+    }
+    for (const pair of seen) if (!marked.has(pair)) wrong.push(`branches ${pair} run as one stroke without a mark`);
+    const counted = (block.match(/Stretches as one stroke\n([\d,]+)/) || ['', ''])[1].replaceAll(',', '');
+    if (counted !== String(all('[data-stretch]').length)) wrong.push(`${counted} stretches are counted`);
+    for (const band of all('[data-stretch]')) {
+        const colours = new Set(band.dataset.branches.split(' ').map((branch) => runs.get(branch)[0].getAttribute('stroke')));
+        const shown = new Set(all(`[data-shared="${band.dataset.stretch}"]`).map((element) => element.getAttribute('stroke')));
+        if (colours.size > 1 && [...colours].some((colour) => !shown.has(colour))) wrong.push(`a colour of ${band.dataset.branches} isn't seen`);
+    }
+
+    // Labels of one box differ, and what isn't shown in full is listed.
+    const labels = new Set();
+    for (const element of all('[data-label]')) {
+        const key = `${element.dataset.of} ${name(element)}`;
+        if (labels.has(key)) wrong.push(`two bars of a box are called '${name(element)}'`);
+        labels.add(key);
+    }
+    const full = new Set([svg, ...index].flatMap((page) => all('[data-full]', page)).map((element) => element.dataset.full.split(' ')[0]));
+    const shown = new Map(all('[data-label]').map((element) => [element.dataset.label, name(element)]));
+    for (const bar of all('[data-bus]')) {
+        const label = shown.get(bar.dataset.bus);
+        if ((label === undefined || label.includes('…') || label.startsWith('#')) && !full.has(`b${bar.dataset.bus}`)) wrong.push(`bus ${bar.dataset.bus} isn't listed in full`);
+    }
+
+    // Colours are those of the voltages.
+    const table = { 400: '#1d1a6b', 275: '#0f6e7d', 220: '#7a3320', 132: '#3a0a3f', 110: '#2e7d32', 66: '#17468f', 33: '#6f9a1c', 22: '#5a4a00', 11: '#b45f06', 6.6: '#8a5fa8', 3.3: '#b08d57', 0.4: '#9a8f86' };
+    const csv = document.getElementById('buses').textContent.trim();
+    if (csv && !csv.includes('"')) {
+        const [head, ...lines] = csv.split('\n').map((line) => line.split(','));
+        lines.forEach((cells, i) => {
+            const bar = all(`[data-bus="${i}"]`)[0];
+            if (bar.getAttribute('stroke') !== table[cells[head.indexOf('kv')]]) wrong.push(`bar ${i} hasn't its voltage's colour`);
+        });
     }
 
     const source = new DOMParser().parseFromString(document.getElementById('source').textContent.trim(), 'image/svg+xml');
     if (source.querySelector('parsererror')) wrong.push('the sheet is no well-formed XML');
-    const ids = all('[id]').map((element) => element.id);
-    if (new Set(ids).size !== ids.length) wrong.push('an id is given twice');
+    for (const page of [svg, ...index]) {
+        const ids = all('[id]', page).map((element) => element.id);
+        if (new Set(ids).size !== ids.length) wrong.push('an id is given twice');
+        if (all('script, image, use, foreignObject, style, a', page).length) wrong.push('there is more than plain shapes');
+    }
     if (all('[data-branch], [data-bus], [data-station]').some((element) => !element.querySelector('title'))) wrong.push('a title is missing');
-    if (all('script, image, use, foreignObject, style, a').length) wrong.push('there is more than plain shapes');
 
-    const counts = `${roles.size} runs, ${all('[data-cross]').length} crosses, ${boxes.size} boxes, ${all('[data-bus]').length} bars, ${texts.length} texts`;
+    const counts = `${roles.size} runs, ${all('[data-cross]').length} crosses, ${stations.size} boxes, ${all('[data-bus]').length} bars, ${digits.length} of ${wanted} numbers, ${all('[data-stretch]').length} stretches, ${index.length} pages of the index`;
     document.getElementById('found').textContent = wrong.length ? `${wrong.length} wrong: ${wrong.slice(0, 20).join('; ')}` : `ok: ${counts}`;
 })();

@@ -28,7 +28,7 @@ fn help_and_version() {
     let output = wall(&[]);
     assert_eq!(
         (status(&output), text(&output.stderr)),
-        (2, "wall: expected a command: draw, audit or list\nTry 'wall --help'.\n".to_string())
+        (2, "wall: expected a command: draw, audit, list, compare or check\nTry 'wall --help'.\n".to_string())
     );
 }
 
@@ -105,7 +105,8 @@ fn networks_without_much_in_them() {
     folder.write("branches.csv", b"name,from,to,in_service\n");
     for buses in ["", "A,S,66,5,5\n", "A,S,66,,\n", "A,S,66,0,0\nB,S,66,0,0\n", "A,S,66,0,0\nB,T,66,3,4\n"] {
         folder.write("buses.csv", format!("name,substation,kv,x,y\n{buses}").as_bytes());
-        assert_eq!(status(&wall_in(&folder.0, &["draw", ".", "-o", "sheet.svg", "--paper", "A4"])), 0, "{buses:?}");
+        let words = ["draw", ".", "-o", "sheet.svg", "--paper", "A4", "--allow-empty", "--anyway"];
+        assert_eq!(status(&wall_in(&folder.0, &words)), 0, "{buses:?}");
         assert!(fs::read_to_string(folder.0.join("sheet.svg")).unwrap().ends_with("</svg>\n"));
     }
 }
@@ -113,7 +114,7 @@ fn networks_without_much_in_them() {
 #[test]
 fn a_bus_without_coordinates_counts_as_at_the_origin() {
     let folder = Folder::new("empty");
-    folder.write("branches.csv", b"name,from,to,in_service\n");
+    folder.write("branches.csv", BRANCHES);
     let listed = |buses: &str| {
         folder.write("buses.csv", format!("name,substation,kv,x,y\n{buses}").as_bytes());
         let output = wall_in(&folder.0, &["audit", "."]);

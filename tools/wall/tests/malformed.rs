@@ -128,6 +128,25 @@ fn branch_files() {
     );
 }
 
+/// A name has to fit a row of the index.
+#[test]
+fn long_names() {
+    let long = "n".repeat(201);
+    let start = "n".repeat(40);
+    let expected = format!("expected a name of at most 200 characters, found '{start}…'");
+    let header = "name,substation,kv,x,y\n";
+    assert_eq!(
+        message("buses.csv", format!("{header}{long},S,66,0,0\n").as_bytes()),
+        format!("buses.csv:2:1: {expected}")
+    );
+    assert_eq!(
+        message("buses.csv", format!("{header}A,{long},66,0,0\n").as_bytes()),
+        format!("buses.csv:2:3: {expected}")
+    );
+    let branches = format!("name,from,to,in_service\n{long},A,B,1\n");
+    assert_eq!(message("branches.csv", branches.as_bytes()), format!("branches.csv:2:1: {expected}"));
+}
+
 const ZERO: &str = "0000000000000000";
 
 /// A text with one bus and these lines of branches.
@@ -211,7 +230,7 @@ fn refusals_name_the_row() {
     let branches = |rows: &str| format!("name,from,to,in_service\n{rows}");
     let folder = Folder::new("many");
     folder.write("buses.csv", buses(&many).as_bytes());
-    folder.write("branches.csv", branches("").as_bytes());
+    folder.write("branches.csv", branches("L,N0,N1,1\n").as_bytes());
     assert_eq!(
         refused(&folder, "."),
         "refused 1: more than 4,096 buses or 8,192 branches; there are 4,097 buses, the first too many is bus 'N4096', buses.csv:4098"
@@ -222,7 +241,7 @@ fn refusals_name_the_row() {
         "refused 1: more than 4,096 buses or 8,192 branches; there are 8,193 branches, the first too many is branch 'L8192', branches.csv:8194"
     );
     assert_eq!(
-        text_message(format!("sub kv x y\n0 {ZERO} {ZERO} {ZERO}\n7 {ZERO} {ZERO} {ZERO}\nfrom to live\n").as_bytes()),
+        text_message(format!("sub kv x y\n0 {ZERO} {ZERO} {ZERO}\n7 {ZERO} {ZERO} {ZERO}\nfrom to live\n0 1 1\n").as_bytes()),
         "refused 4: a substation number is not below the bus count; bus '1', net.txt:3 has substation 7, and there are 2 buses"
     );
 }

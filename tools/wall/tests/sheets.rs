@@ -1,24 +1,35 @@
 //! Golden sheets, and what a sheet says beside its network.
 mod help;
-use help::{root, status, text, wall, wall_in, Folder, HERE};
+use help::svg::{attribute, away, points, title};
+use help::{root, svg, text, wall, Folder, HERE};
 use std::collections::HashMap;
 use std::fs;
 use std::path::Path;
 
 const FORTY: [&str; 3] = ["examples/forty", "--title", "Kestrel and Saltmarsh, 66 and 11 kV"];
 
-/// The sheet of a network, drawn twice, once from another folder.
-fn drawn(network: &Path, options: &[&str]) -> String {
-    let folder = Folder::new(&network.file_name().unwrap().to_string_lossy());
-    let full = network.canonicalize().unwrap();
-    let words = |out: &'static str| [&["draw", full.to_str().unwrap(), "-o", out], options].concat();
-    for out in ["one.svg", "two.svg"] {
-        assert_eq!(status(&wall_in(&folder.0, &words(out))), 0);
-    }
-    let read = |name: &str| fs::read_to_string(folder.0.join(name)).unwrap();
-    assert_eq!(read("one.svg"), read("two.svg"));
-    assert_eq!(folder.files(), ["one.svg", "two.svg"]);
-    read("one.svg")
+/// The pages of a network's sheet, drawn twice, once from another folder.
+fn drawn(network: &Path, options: &[&str]) -> Vec<String> {
+    let (sheet, index) = help::sheet(network, options);
+    let pages = [vec![sheet], index].concat();
+    let folder = Folder::new("twice");
+    let link = folder.0.join(network.file_name().unwrap());
+    std::os::unix::fs::symlink(network.canonicalize().unwrap(), &link).unwrap();
+    let (sheet, index) = help::sheet(&link, options);
+    assert!(pages == [vec![sheet], index].concat());
+    pages
+}
+
+/// The pages are those of stored files: sheet.svg, sheet-index.svg, sheet-index-2.svg.
+fn stored(pages: &[String], sheet: &Path) {
+    let stem = sheet.to_str().unwrap().strip_suffix(".svg").unwrap();
+    let name = |i: usize| match i {
+        0 => format!("{stem}.svg"),
+        1 => format!("{stem}-index.svg"),
+        _ => format!("{stem}-index-{i}.svg"),
+    };
+    pages.iter().enumerate().for_each(|(i, page)| same(page, Path::new(&name(i))));
+    assert!(!Path::new(&name(pages.len())).exists());
 }
 
 fn same(sheet: &str, golden: &Path) {
@@ -29,44 +40,18 @@ fn same(sheet: &str, golden: &Path) {
 
 #[test]
 fn forty() {
-    same(&drawn(&root().join(FORTY[0]), &FORTY[1..]), &root().join("examples/forty/sheet.svg"));
+    stored(&drawn(&root().join(FORTY[0]), &FORTY[1..]), &root().join("examples/forty/sheet.svg"));
 }
 
 #[test]
 fn small() {
     let network = Path::new(HERE).join("tests/networks/small");
-    same(
-        &drawn(&network, &["--paper", "a4", "--title", "Small & \"odd\""]),
-        &Path::new(HERE).join("tests/golden/small.svg"),
-    );
+    let pages = drawn(&network, &["--paper", "a4", "--title", "Small & \"odd\""]);
+    stored(&pages, &Path::new(HERE).join("tests/golden/small.svg"));
 }
 
-/// The value of an attribute in an element's text.
-fn attribute<'a>(element: &'a str, name: &str) -> Option<&'a str> {
-    let from = element.find(&format!(" {name}=\""))? + name.len() + 3;
-    element[from..].split('"').next()
-}
-
-fn title(element: &str) -> String {
-    let inside = element.split("<title>").nth(1).unwrap().split("</title>").next().unwrap();
-    inside.replace("&lt;", "<").replace("&gt;", ">").replace("&quot;", "\"").replace("&amp;", "&")
-}
-
-/// The points of a path.
-fn points(d: &str) -> Vec<[f64; 2]> {
-    let one = |p: &str| {
-        let (x, y) = p.split_once(' ').unwrap();
-        [x.parse().unwrap(), y.parse().unwrap()]
-    };
-    d.trim_start_matches('M').split('L').map(one).collect()
-}
-
-/// Each row's cells by the header's names; the example has no quotes.
 fn rows(file: &str) -> Vec<HashMap<String, String>> {
-    let text = fs::read_to_string(root().join(file)).unwrap();
-    let mut lines = text.lines();
-    let header: Vec<&str> = lines.next().unwrap().split(',').collect();
-    lines.map(|line| header.iter().map(|h| h.to_string()).zip(line.split(',').map(str::to_string)).collect()).collect()
+    svg::rows(&fs::read_to_string(root().join(file)).unwrap())
 }
 
 /// On the sheet itself, every branch ends at the bars of its two buses, and only open ones are dashed.
@@ -75,13 +60,14 @@ fn every_branch_ends_at_its_bars() {
     let sheet = fs::read_to_string(root().join("examples/forty/sheet.svg")).unwrap();
     let elements = |mark: &str| sheet.lines().filter(|line| line.contains(mark)).collect::<Vec<_>>();
     let bars: HashMap<String, Vec<[f64; 2]>> =
-        elements(" data-bus=").into_iter().map(|e| (title(e), points(attribute(e, "d").unwrap()))).collect();
-    let runs: HashMap<String, &str> = elements(" data-branch=").into_iter().map(|e| (title(e), e)).collect();
+        elements(" data-bus=").into_iter().map(|e| (title(e), points(e))).collect();
+    let name = |e: &str| title(e).split_once(' ').unwrap().1.to_string();
+    let runs: HashMap<String, &str> = elements(" data-branch=").into_iter().map(|e| (name(e), e)).collect();
     let branches = rows("examples/forty/branches.csv");
     assert_eq!((bars.len(), runs.len()), (rows("examples/forty/buses.csv").len(), branches.len()));
     for branch in &branches {
         let run = runs[&branch["name"]];
-        let path = points(attribute(run, "d").unwrap());
+        let path = points(run);
         for (end, bus) in [(path[0], &branch["from"]), (path[path.len() - 1], &branch["to"])] {
             let bar = &bars[bus];
             assert!((end[0] - bar[0][0]).abs() < 0.011 && bar[0][1] <= end[1] && end[1] <= bar[1][1], "{run}");
@@ -143,16 +129,25 @@ fn text_can_be_read() {
 #[test]
 fn names_left_out_are_counted() {
     let output = wall(&["draw", FORTY[0], "-o", "-", "--paper", "A4"]);
-    assert_eq!(text(&output.stderr), "wall: note: names left out for want of room: 131; a larger paper has more\n");
-    assert!(text(&output.stdout).contains("Names shortened: 0, left out: 131;"));
-    assert_eq!(text(&wall(&["draw", FORTY[0], "-o", "-"]).stderr), "");
-}
-
-/// The distance from a point to a straight piece.
-fn away(p: [f64; 2], a: [f64; 2], b: [f64; 2]) -> f64 {
-    let (dx, dy) = (b[0] - a[0], b[1] - a[1]);
-    let part = (((p[0] - a[0]) * dx + (p[1] - a[1]) * dy) / (dx * dx + dy * dy).max(1e-12)).clamp(0.0, 1.0);
-    ((a[0] + part * dx - p[0]).powi(2) + (a[1] + part * dy - p[1]).powi(2)).sqrt()
+    let said = text(&output.stderr);
+    for note in [
+        "wall: note: names left out for want of room: 131; a larger paper has more\n",
+        "wall: note: numbers of branches left out for want of room: ",
+        "wall: note: pages of the index not written to standard output: ",
+    ] {
+        assert!(said.contains(note), "{said}");
+    }
+    let sheet = text(&output.stdout);
+    let rows: Vec<&str> = sheet.lines().collect();
+    let after = |name: &str| {
+        let at = rows.iter().position(|row| row.contains(&format!(">{name}</text>"))).unwrap();
+        svg::content(rows[at + 1])
+    };
+    let short = svg::with(&sheet, "data-of").into_iter().filter(|e| svg::content(e).contains('…')).count();
+    assert_eq!((after("Names left out"), after("Names shortened")), ("131".to_string(), short.to_string()));
+    assert!(said.contains(&format!("numbers of branches left out for want of room: {};", after("Numbers left out"))));
+    let said = text(&wall(&["draw", FORTY[0], "-o", "-"]).stderr);
+    assert!(!said.contains("left out"), "nothing on A1: {said}");
 }
 
 /// The end of an open branch isn't where a live one runs or is joined.
@@ -162,9 +157,9 @@ fn open_branches_lie_on_no_live_one() {
         let sheet = text(&wall(&["draw", network, "-o", "-"]).stdout);
         let runs = sheet.lines().filter(|line| line.contains(" data-branch="));
         let (open, live): (Vec<&str>, Vec<&str>) = runs.partition(|run| run.contains(" stroke-dasharray="));
-        let path = |run: &&str| points(attribute(run, "d").unwrap());
+        let path = |run: &&str| points(run);
         let live: Vec<Vec<[f64; 2]>> = live.iter().map(path).collect();
-        for end in open.iter().map(path).flat_map(|path| [path[0], path[1]]) {
+        for end in open.iter().map(path).flat_map(|path| [path[0], path[path.len() - 1]]) {
             // Rows only: a routed line may come near a bar on its way.
             let rows = live.iter().flat_map(|path| path.windows(2)).filter(|two| two[0][1] == two[1][1]);
             assert!(rows.map(|two| away(end, two[0], two[1])).fold(f64::INFINITY, f64::min) > 1.0, "{network} {end:?}");
@@ -193,8 +188,8 @@ fn the_sheet_shows_the_pieces_that_list_gives() {
     let mut pairs = Vec::new();
     for run in sheet.lines().filter(|line| line.contains(" data-branch=")) {
         let (role, given) = &runs[attribute(run, "data-branch").unwrap()];
-        let shown = points(attribute(run, "d").unwrap());
-        assert_eq!(given.len(), shown.len(), "{run}");
+        let shown = points(run);
+        assert!(role == "2" || given.len() == shown.len(), "{run}");
         pairs.extend(given.iter().copied().zip(shown).filter(|_| role != "2"));
     }
     let (first, last) = pairs.iter().fold((pairs[0], pairs[0]), |(low, high), &pair| {

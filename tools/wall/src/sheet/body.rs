@@ -1,50 +1,72 @@
-//! The drawing on the sheet: boxes, runs, bars, crosses and names, from the back to the front.
+//! The drawing on the sheet: boxes, runs, bars, crosses, numbers and names, from the back to the front.
 use super::bus_names::BusName;
 use super::crosses::Cross;
 use super::ids::Ids;
-use super::palette::{Palette, MIXED, RED};
+use super::marks::{Mark, BAND};
+use super::numbers::Number;
+use super::palette::{core, Palette, RED};
 use super::scene::{Run, Scene};
 use super::station_names::StationName;
 use super::svg::{self, mm, path, Attribute, Svg};
+use super::together::Stretch;
+use crate::colours::{Paint, Style};
 use crate::network::Network;
+use crate::plain::visible;
+use std::collections::HashSet;
 use tansygate::{TX_ROLE_INTERNAL, TX_ROLE_LINE, TX_ROLE_OPEN};
 
 pub struct Body<'a> {
     pub network: &'a Network,
     pub palette: &'a Palette,
     pub scene: &'a Scene,
+    pub stretches: &'a [Stretch],
+    /// A label for each stretch.
+    pub marks: &'a [Mark],
     pub crosses: &'a [Cross],
+    pub numbers: &'a [Number],
     pub bus_names: &'a [BusName],
     pub station_names: &'a [StationName],
 }
 
-/// The colour inside boxes.
-const PAPER: &str = "#f6f5f1";
+/// The colour inside boxes, and that of the bands under stretches.
+pub const PAPER: &str = "#f6f5f1";
+const SHARED: &str = "#e3ddc8";
+
+/// The length of a dash where circuits of two voltages run as one stroke.
+const DASH: f64 = 3.0;
 
 /// Widths of strokes, as parts of a block's side, and the least and the most millimetres that they have.
 fn stroke(block: f64, part: f64, least: f64, most: f64) -> f64 {
     (part * block).clamp(least, most)
 }
 
-fn line_width(run: &Run) -> f64 {
-    let part = if run.level == Some(0) { 0.15 } else { 0.11 };
-    stroke(run.block, part, 0.18, 0.6)
+/// A line with a light core is wider, so that it has as much ink.
+fn line_width(run: &Run, paint: Paint) -> f64 {
+    let more = if paint.style == Style::Solid { 1.0 } else { 1.35 };
+    more * stroke(run.block, 0.13, 0.18, 0.6)
 }
 
-fn bar_width(block: f64) -> f64 {
-    stroke(block, 0.32, 0.4, 1.6)
+pub fn bar_width(block: f64) -> f64 {
+    stroke(block, 0.27, 0.4, 1.6)
 }
 
-fn group(id: &str) -> Vec<Attribute<'static>> {
+fn group(id: &str) -> Vec<Attribute> {
     vec![("id", id.to_string()), ("fill", "none".to_string())]
+}
+
+/// The mark of a box or bar whose name found no place.
+fn unnamed(is: bool) -> Option<Attribute> {
+    is.then(|| ("data-unnamed", "1".to_string()))
 }
 
 impl Body<'_> {
     pub fn draw(&self, svg: &mut Svg) {
-        let mut ids = Ids::default();
+        let mut ids = Ids::new();
+        self.bands(svg);
         self.boxes(svg, &mut ids);
         self.guides(svg);
         self.runs(svg, &mut ids, TX_ROLE_LINE, "lines");
+        self.alternating(svg);
         self.runs(svg, &mut ids, TX_ROLE_INTERNAL, "inside");
         self.bars(svg, &mut ids);
         self.runs(svg, &mut ids, TX_ROLE_OPEN, "open");
@@ -54,16 +76,64 @@ impl Body<'_> {
         self.names(svg);
     }
 
-    fn block(&self, station: usize) -> f64 {
-        let at = self.scene.stations.partition_point(|s| s.number < station);
-        self.scene.stations[at].block
+    /// A pale band under each stretch where circuits run as one stroke.
+    fn bands(&self, svg: &mut Svg) {
+        svg.open(
+            "g",
+            &[group("stretches"), vec![("stroke", SHARED.to_string()), ("stroke-linejoin", "round".to_string())]]
+                .concat(),
+        );
+        for (i, stretch) in self.stretches.iter().enumerate() {
+            let branches: Vec<String> =
+                stretch.runs.iter().map(|&run| self.scene.runs[run].branch.to_string()).collect();
+            let attributes = [
+                ("data-stretch", i.to_string()),
+                ("data-branches", branches.join(" ")),
+                ("d", path(&stretch.points)),
+                ("stroke-width", mm(2.0 * BAND)),
+            ];
+            svg.leaf("path", &attributes);
+        }
+        svg.close();
+    }
+
+    /// Where circuits of different voltages run as one stroke, dashes of each in turn.
+    fn alternating(&self, svg: &mut Svg) {
+        svg.open("g", &group("alternating"));
+        for (i, stretch) in self.stretches.iter().enumerate() {
+            let mut levels: Vec<Option<usize>> = stretch.runs.iter().map(|&run| self.scene.runs[run].level).collect();
+            levels.sort_unstable();
+            levels.dedup();
+            if levels.len() < 2 {
+                continue;
+            }
+            let of = |run: usize| line_width(&self.scene.runs[run], self.palette.paint(self.scene.runs[run].level));
+            let widest = stretch.runs.iter().map(|&run| of(run)).fold(0.0, f64::max);
+            for (j, &level) in levels.iter().enumerate() {
+                let mut attributes = vec![
+                    ("data-shared", i.to_string()),
+                    ("d", path(&stretch.points)),
+                    ("stroke", self.palette.paint(level).hex()),
+                    ("stroke-width", mm(widest + 0.3)),
+                ];
+                if j > 0 {
+                    attributes
+                        .push(("stroke-dasharray", format!("{} {}", mm(DASH), mm(DASH * (levels.len() - 1) as f64))));
+                    attributes.push(("stroke-dashoffset", mm(DASH * j as f64)));
+                }
+                svg.leaf("path", &attributes);
+            }
+        }
+        svg.close();
     }
 
     fn boxes(&self, svg: &mut Svg, ids: &mut Ids) {
+        let names = self.station_names.iter();
+        let without: HashSet<usize> = names.filter(|n| n.lines.is_empty()).map(|n| n.station).collect();
         svg.open("g", &[("id", "boxes".to_string()), ("fill", PAPER.to_string()), ("stroke", "#55524a".to_string())]);
         for s in &self.scene.stations {
             let name = self.network.station_name(s.number);
-            let attributes = [
+            let mut attributes = vec![
                 ("id", ids.take("station", &name)),
                 ("data-station", s.number.to_string()),
                 ("x", mm(s.rect.left)),
@@ -73,67 +143,70 @@ impl Body<'_> {
                 ("rx", mm(0.2 * s.block)),
                 ("stroke-width", mm(stroke(s.block, 0.08, 0.15, 0.35))),
             ];
-            svg.titled("rect", &attributes, &name);
+            attributes.extend(unnamed(without.contains(&s.number)));
+            svg.titled("rect", &attributes, &visible(&name));
         }
         svg.close();
     }
 
+    /// From a bus's name to its bar, where they are apart.
     fn guides(&self, svg: &mut Svg) {
         svg.open(
             "g",
-            &[group("guides"), vec![("stroke-opacity", "0.45".to_string()), ("stroke-width", "0.2".to_string())]]
-                .concat(),
+            &[group("guides"), vec![("stroke", "#a8a49a".to_string()), ("stroke-width", "0.2".to_string())]].concat(),
         );
-        for name in self.bus_names {
-            if let Some(ends) = name.guide {
-                let colour = self.palette.colour(self.scene.bars[name.bus].level);
-                let dots = ("stroke-dasharray", "0.3 0.7".to_string());
-                svg.leaf("path", &[("d", path(&ends)), ("stroke", colour), dots]);
-            }
+        for ends in self.bus_names.iter().filter_map(|name| name.guide) {
+            svg.leaf("path", &[("d", path(&ends)), ("stroke-dasharray", "0.3 0.7".to_string())]);
         }
         svg.close();
-    }
-
-    fn colour(&self, run: &Run) -> String {
-        run.level.map_or(MIXED.to_string(), |level| self.palette.colour(level))
     }
 
     fn runs(&self, svg: &mut Svg, ids: &mut Ids, role: u8, id: &str) {
         svg.open("g", &[group(id), vec![("stroke-linejoin", "round".to_string())]].concat());
         for run in self.scene.runs.iter().filter(|run| run.role == role) {
-            let name = &self.network.branches[run.branch].name;
+            let branch = &self.network.branches[run.branch];
+            let paint = self.palette.paint(run.level);
+            let wide = line_width(run, paint);
             let mut attributes = vec![
-                ("id", ids.take("branch", name)),
+                ("id", ids.take("branch", &branch.name)),
                 ("data-branch", run.branch.to_string()),
-                ("d", path(&run.points)),
-                ("stroke", self.colour(run)),
-                ("stroke-width", mm(line_width(run))),
+                ("d", run.shown.iter().map(|part| path(part)).collect()),
+                ("stroke", paint.hex()),
+                ("stroke-width", mm(wide)),
             ];
             if run.is_open() {
                 let dash = stroke(run.block, 0.5, 0.8, 2.0);
                 attributes.push(("stroke-dasharray", format!("{} {}", mm(dash), mm(0.6 * dash))));
             }
-            svg.titled("path", &attributes, name);
+            svg.titled("path", &attributes, &format!("{} {}", branch.number, visible(&branch.name)));
+            if !run.is_open() {
+                core(svg, paint, &run.points, wide);
+            }
         }
         svg.close();
     }
 
     /// Bars have a white rim, so that a line that passes a bar is seen to pass under it.
     fn bars(&self, svg: &mut Svg, ids: &mut Ids) {
+        let without: HashSet<usize> = self.bus_names.iter().filter(|n| n.line.is_none()).map(|n| n.bus).collect();
         svg.open("g", &group("bars"));
         for (i, bar) in self.scene.bars.iter().enumerate() {
-            let d = path(&[[bar.x, bar.top], [bar.x, bar.bottom]]);
-            let wide = bar_width(self.block(bar.station));
-            svg.leaf("path", &[("d", d.clone()), ("stroke", "#ffffff".to_string()), ("stroke-width", mm(1.8 * wide))]);
+            let points = [[bar.x, bar.top], [bar.x, bar.bottom]];
+            let wide = bar_width(self.scene.station(bar.station).block);
+            let rim = [("d", path(&points)), ("stroke", "#ffffff".to_string()), ("stroke-width", mm(1.8 * wide))];
+            svg.leaf("path", &rim);
             let name = &self.network.buses[i].name;
-            let attributes = [
+            let paint = self.palette.paint(Some(bar.level));
+            let mut attributes = vec![
                 ("id", ids.take("bus", name)),
                 ("data-bus", i.to_string()),
-                ("d", d),
-                ("stroke", self.palette.colour(bar.level)),
+                ("d", path(&points)),
+                ("stroke", paint.hex()),
                 ("stroke-width", mm(wide)),
             ];
-            svg.titled("path", &attributes, name);
+            attributes.extend(unnamed(without.contains(&i)));
+            svg.titled("path", &attributes, &visible(name));
+            core(svg, paint, &points, wide);
         }
         svg.close();
     }
@@ -157,12 +230,12 @@ impl Body<'_> {
     }
 
     /// A circle at each end of a run, in its bar's colour.
-    fn ends(&self, svg: &mut Svg, run: &Run, paint: fn(String, f64) -> Vec<Attribute<'static>>) {
+    fn ends(&self, svg: &mut Svg, run: &Run, paint: fn(String, f64) -> Vec<Attribute>) {
         let row = &self.network.branches[run.branch];
         for (end, bus) in run.ends().into_iter().zip([row.from, row.to]) {
             let Some(bus) = self.network.known(bus) else { continue };
             let bar = &self.scene.bars[bus];
-            let radius = 0.98 * bar_width(self.block(bar.station));
+            let radius = 0.98 * bar_width(self.scene.station(bar.station).block);
             let place = vec![("cx", mm(end[0])), ("cy", mm(end[1])), ("r", mm(radius))];
             svg.leaf("circle", &[place, paint(self.palette.colour(bar.level), radius)].concat());
         }
@@ -181,34 +254,8 @@ impl Body<'_> {
                 ("stroke", RED.to_string()),
                 ("stroke-width", mm(wide)),
             ];
-            out.titled("path", &attributes, &self.network.branches[run.branch].name);
+            out.titled("path", &attributes, &visible(&self.network.branches[run.branch].name));
         }
         out.close();
-    }
-
-    /// Names have a rim in the colour behind them, so that they can be read over lines.
-    fn names(&self, svg: &mut Svg) {
-        let rim = |id: &str, colour: &str, wide: &str| {
-            vec![
-                ("id", id.to_string()),
-                ("stroke", colour.to_string()),
-                ("stroke-width", wide.to_string()),
-                ("stroke-linejoin", "round".to_string()),
-                ("paint-order", "stroke".to_string()),
-            ]
-        };
-        svg.open("g", &rim("bus-names", PAPER, "0.3"));
-        for name in self.bus_names {
-            let bar = &self.scene.bars[name.bus];
-            let more = [("fill", self.palette.colour(bar.level)), ("data-of", bar.station.to_string())];
-            name.line.iter().for_each(|line| svg.line(line, &more));
-        }
-        svg.close();
-        svg.open("g", &rim("station-names", "#ffffff", "0.6"));
-        for name in self.station_names {
-            let more = [("fill", "#111111".to_string()), ("data-of", name.station.to_string())];
-            name.lines.iter().for_each(|line| svg.line(line, &more));
-        }
-        svg.close();
     }
 }

@@ -1,8 +1,11 @@
 //! Names of buses: in the free strips above and below the rows of a box.
-use super::lettering::{fitted, one_line, width, Line, SMALLEST};
+use super::lettering::{width, Anchor, Line, SMALLEST};
 use super::scene::{Bar, Scene, Station};
 use super::shape::Point;
+use super::short_names::{self, Wish};
 use crate::network::Network;
+use crate::plain::one_line;
+use std::collections::HashSet;
 
 pub struct BusName {
     pub bus: usize,
@@ -21,15 +24,28 @@ pub fn placed(network: &Network, scene: &Scene, largest: f64) -> Vec<BusName> {
     scene.stations.iter().flat_map(|station| of_station(network, scene, station, largest)).collect()
 }
 
-/// The names without the words that all of a station's buses begin with, or that are the station's own name.
+/// The names without the station's own name before or behind, or without the words that all of them begin with.
 fn labels(network: &Network, station: &Station) -> Vec<String> {
     let names: Vec<String> = station.buses.iter().map(|&bus| one_line(&network.buses[bus].name)).collect();
     let words: Vec<Vec<&str>> = names.iter().map(|name| name.split(' ').collect()).collect();
     let title = one_line(&network.station_name(station.number));
     let own: Vec<&str> = title.split(' ').collect();
+    let bare = |w: &Vec<&str>| -> Option<String> {
+        let rest = if w.starts_with(&own) { &w[own.len()..] } else { w.strip_suffix(&own[..])? };
+        (!rest.is_empty()).then(|| rest.join(" "))
+    };
+    let bared: Option<Vec<String>> = words.iter().map(bare).collect();
+    if let Some(labels) = bared.filter(|labels| labels.iter().collect::<HashSet<_>>().len() == labels.len()) {
+        let words: Vec<Vec<&str>> = labels.iter().map(|label| label.split(' ').collect()).collect();
+        return unshared(&words);
+    }
+    unshared(&words)
+}
+
+/// The names without the words that all begin with.
+fn unshared(words: &[Vec<&str>]) -> Vec<String> {
     let shared = |i: usize| words.len() > 1 && words.iter().all(|w| w.len() > i + 1 && w[i] == words[0][i]);
-    let named = words.iter().all(|w| w.len() > own.len() && w.starts_with(&own));
-    let skipped = (0..).take_while(|&i| shared(i)).count().max(if named { own.len() } else { 0 });
+    let skipped = (0..).take_while(|&i| shared(i)).count();
     words.iter().map(|w| w[skipped..].join(" ")).collect()
 }
 
@@ -42,7 +58,8 @@ fn of_station(network: &Network, scene: &Scene, station: &Station, largest: f64)
     let one_strip = labels.iter().all(|label| width(label, size, false) <= column);
     let below: Vec<bool> = (0..bars.len()).map(|i| goes_below(station, bars[i], !one_strip && i % 2 == 1)).collect();
     let strip = Strip { station, bars: &bars, below: &below, size, gap };
-    labels.iter().enumerate().map(|(i, label)| strip.name(i, label)).collect()
+    let texts = strip.texts(&labels);
+    labels.iter().zip(texts).enumerate().map(|(i, (label, text))| strip.name(i, label, text)).collect()
 }
 
 /// Whether a name goes into the lower strip: where it would, unless its bar reaches into one of the two.
@@ -67,8 +84,21 @@ struct Strip<'a> {
 }
 
 impl Strip<'_> {
-    fn name(&self, i: usize, label: &str) -> BusName {
-        let line = if self.size > TALLEST * self.station.block { None } else { self.line(i, label) };
+    /// A text for each label: one that stands for no other in the box. Where no short form does, it is its row in the
+    /// export.
+    fn texts(&self, labels: &[String]) -> Vec<Option<String>> {
+        if self.size > TALLEST * self.station.block {
+            return vec![None; labels.len()];
+        }
+        let wish = |i: usize| {
+            let (left, right) = self.room(i);
+            Wish { name: &labels[i], room: right - left, row: format!("#{}", self.station.buses[i] + 1) }
+        };
+        short_names::texts(&(0..labels.len()).map(wish).collect::<Vec<_>>(), self.size)
+    }
+
+    fn name(&self, i: usize, label: &str, text: Option<String>) -> BusName {
+        let line = text.map(|text| self.line(i, text));
         BusName {
             bus: self.station.buses[i],
             guide: line.as_ref().and_then(|_| self.guide(i)),
@@ -99,14 +129,13 @@ impl Strip<'_> {
         reached.then_some(b + (a - b).signum() * 0.2 * self.station.block)
     }
 
-    fn line(&self, i: usize, label: &str) -> Option<Line> {
+    fn line(&self, i: usize, text: String) -> Line {
         let (left, right) = self.room(i);
-        let text = fitted(label, self.size, false, right - left)?;
         let wide = width(&text, self.size, false);
         let (rect, half) = (self.station.rect, 0.5 * self.station.block);
         let middle = if self.below[i] { rect.bottom - half } else { rect.top + half };
         let x = (self.bars[i].x - wide / 2.0).min(right - wide).max(left);
-        Some(Line { text, x, y: middle + 0.36 * self.size, size: self.size, bold: false })
+        Line { text, x, y: middle + 0.36 * self.size, size: self.size, bold: false, anchor: Anchor::Middle }
     }
 
     fn guide(&self, i: usize) -> Option<[Point; 2]> {
@@ -131,6 +160,7 @@ mod tests {
             stations: vec![station.to_string()],
             buses: names.iter().map(bus).collect(),
             branches: Vec::new(),
+            notes: Vec::new(),
         };
         let rect = Rect::new(0.0, 0.0, 9.0, 9.0);
         labels(&network, &Station { number: 0, rect, block: 1.0, buses: (0..names.len()).collect() })
@@ -144,5 +174,7 @@ mod tests {
         assert_eq!(labels_of("Long Acre", &["Long Acre"]), ["Long Acre"]);
         assert_eq!(labels_of("Long Acre", &["Long Hill"]), ["Long Hill"]);
         assert_eq!(labels_of("Acre", &["Acre", "Acre spare"]), ["Acre", "Acre spare"]);
+        assert_eq!(labels_of("Acre 2", &["Busbar-A Acre 2", "Acre 2 11/1"]), ["Busbar-A", "11/1"]);
+        assert_eq!(labels_of("Acre", &["Acre A", "A Acre"]), ["Acre A", "A Acre"], "they would be the same");
     }
 }

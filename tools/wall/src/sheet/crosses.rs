@@ -1,5 +1,5 @@
 //! Where the red cross of an open branch stands: on its run, clear of other things where it can.
-use super::index::Index;
+use super::near::Near;
 use super::scene::Scene;
 use super::shape::{between, distance, Point, Rect};
 
@@ -23,21 +23,15 @@ impl Cross {
 /// What a cross keeps clear of, by where it is.
 struct Around<'a> {
     scene: &'a Scene,
-    pieces: &'a Index,
-    bars: Index,
-    boxes: Index,
+    pieces: &'a Near,
+    bars: &'a Near,
+    boxes: &'a Near,
 }
 
 /// One for each open run.
-pub fn placed(scene: &Scene, pieces: &Index, page: &Rect) -> Vec<Cross> {
-    let mut around = Around { scene, pieces, bars: Index::new(page), boxes: Index::new(page) };
-    scene
-        .bars
-        .iter()
-        .enumerate()
-        .for_each(|(i, bar)| around.bars.insert_piece(i, [bar.x, bar.top], [bar.x, bar.bottom]));
-    scene.stations.iter().enumerate().for_each(|(i, s)| around.boxes.insert(i, &s.rect));
-    let mut earlier = Index::new(page);
+pub fn placed(scene: &Scene, pieces: &Near, boxes: &Near, bars: &Near, page: &Rect) -> Vec<Cross> {
+    let around = Around { scene, pieces, bars, boxes };
+    let mut earlier = Near::new(page);
     let mut list: Vec<Cross> = Vec::new();
     for (i, run) in scene.runs.iter().enumerate().filter(|(_, run)| run.is_open()) {
         let arm = (0.45 * run.block).clamp(0.8, 2.2).min(0.4 * run.length().max(1.0));
@@ -75,7 +69,11 @@ impl Around<'_> {
         let boxes = self.boxes.near(&rect).iter().filter(|i| on(i)).count();
         let met =
             |&i: &usize| i != cross.run && self.scene.runs[i].points.windows(2).any(|two| rect.meets(two[0], two[1]));
-        let runs = self.pieces.near(&rect).iter().filter(|i| met(i)).count();
-        10 * bars + 6 * boxes + 2 * runs
+        let runs = self.pieces.some(&rect).iter().filter(|i| met(i)).count();
+        let hidden = !self.scene.runs[cross.run]
+            .shown
+            .iter()
+            .any(|part| Rect::around(part[0], part[1]).grown(1e-6).has(cross.at));
+        1000 * usize::from(hidden) + 10 * bars + 6 * boxes + 2 * runs
     }
 }

@@ -1,12 +1,17 @@
-//! The page: its frame, the area of the drawing and the title block below it.
+//! The page: its frame, the area of the drawing, the room beside it and the title block below.
 use super::shape::{Point, Rect};
+use super::squares::Squares;
 use crate::paper::Paper;
 
-/// Paper left free outside the frame, on a large and on a small sheet.
+/// Paper left free outside the frame, and the band of the grid's letters inside it, on a large and on a small sheet.
 const MARGINS: [f64; 2] = [10.0, 7.0];
+const BANDS: [f64; 2] = [5.0, 4.0];
 
 /// Rows of the title block.
-pub const ROWS: usize = 8;
+pub const ROWS: usize = 10;
+
+/// From one of them to the next, in text sizes.
+pub const PITCH: f64 = 1.4;
 
 /// Room for names round the drawing, in text sizes.
 const BESIDE: f64 = 1.6;
@@ -18,10 +23,13 @@ const LARGEST_BLOCK: f64 = 3.6;
 pub struct Page {
     pub whole: Rect,
     pub frame: Rect,
+    /// What the band encloses.
+    pub inner: Rect,
     pub area: Rect,
     pub block: Rect,
     pub text: f64,
     pub name: String,
+    pub squares: Squares,
 }
 
 /// How drawing units become millimetres.
@@ -33,27 +41,35 @@ pub struct View {
 }
 
 impl Page {
-    fn new(paper: Paper, upright: bool) -> Self {
+    /// A page with so many rows in its block, and so much room right of its area.
+    pub fn new(paper: Paper, upright: bool, rows: usize, side: f64) -> Self {
         let (long, short) = paper.sides();
         let (width, height) = if upright { (short, long) } else { (long, short) };
         let text = paper.text();
+        let small = usize::from(long < 500.0);
         let whole = Rect::new(0.0, 0.0, width, height);
-        let frame = whole.grown(-MARGINS[usize::from(long < 500.0)]);
-        let edge = frame.bottom - (ROWS as f64 * 1.5 + 1.2) * text;
+        let frame = whole.grown(-MARGINS[small]);
+        let inner = frame.grown(-BANDS[small]);
+        let edge = inner.bottom - (rows as f64 * PITCH + 1.2) * text;
+        let area = Rect::new(inner.left, inner.top, inner.right - side, edge);
         Page {
             whole,
             frame,
-            area: Rect::new(frame.left, frame.top, frame.right, edge),
-            block: Rect::new(frame.left, edge, frame.right, frame.bottom),
+            inner,
+            area,
+            block: Rect::new(inner.left, edge, inner.right, inner.bottom),
             text,
             name: format!("{} {}, {width} × {height} mm", paper.name(), if upright { "portrait" } else { "landscape" }),
+            squares: Squares::new(area, upright),
         }
     }
 
-    /// The page on which the drawing is larger, and how it stands there.
-    pub fn fitted(paper: Paper, extent: &Rect, unit: f64) -> (Page, View) {
+    /// The page on which the drawing is larger, and how it stands there; room is kept at its side for columns of the
+    /// given width: as many as the function takes for an area's height.
+    pub fn fitted(paper: Paper, extent: &Rect, unit: f64, side: &dyn Fn(f64) -> f64) -> (Page, View) {
         let [across, upright] = [false, true].map(|upright| {
-            let page = Page::new(paper, upright);
+            let bare = Page::new(paper, upright, ROWS, 0.0);
+            let page = Page::new(paper, upright, ROWS, side(bare.area.height()));
             let view = View::fitted(&page, extent, unit);
             (page, view)
         });
@@ -67,7 +83,7 @@ impl Page {
 
 impl View {
     fn fitted(page: &Page, extent: &Rect, unit: f64) -> Self {
-        let width = page.area.width() - 2.0 * BESIDE * page.text;
+        let width = (page.area.width() - 2.0 * BESIDE * page.text).max(0.0);
         let height = page.area.height() - 2.0 * ABOVE * page.text;
         let scale = (width / extent.width()).min(height / extent.height()).min(LARGEST_BLOCK * page.text / unit);
         View { scale, from: extent.middle(), to: page.area.middle() }

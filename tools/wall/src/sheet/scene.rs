@@ -1,4 +1,5 @@
 //! What the sheet shows, in millimetres: boxes, bars and runs.
+use super::near::Near;
 use super::page::View;
 use super::palette::Palette;
 use super::shape::{distance, Point, Rect};
@@ -27,10 +28,14 @@ pub struct Run {
     pub branch: usize,
     pub role: u8,
     pub points: Vec<Point>,
+    /// What is seen of it: an open run has gaps at the boxes of other stations.
+    pub shown: Vec<Vec<Point>>,
     /// The voltage level, where both ends have one and the same.
     pub level: Option<usize>,
     /// The side of a block of the smaller of its two stations.
     pub block: f64,
+    /// The stations at its two ends.
+    pub stations: [usize; 2],
 }
 
 pub struct Scene {
@@ -59,6 +64,35 @@ impl Scene {
         scene
     }
 
+    /// The boxes by where they are.
+    pub fn boxes(&self, page: &Rect) -> Near {
+        let mut near = Near::new(page);
+        self.stations.iter().enumerate().for_each(|(i, s)| near.insert(i, &s.rect));
+        near
+    }
+
+    /// The runs by where they are.
+    pub fn pieces(&self, page: &Rect) -> Near {
+        let mut near = Near::new(page);
+        for (i, run) in self.runs.iter().enumerate() {
+            run.points.windows(2).for_each(|two| near.insert_piece(i, two[0], two[1]));
+        }
+        near
+    }
+
+    /// The bars by where they are.
+    pub fn bars_near(&self, page: &Rect) -> Near {
+        let mut near = Near::new(page);
+        let bars = self.bars.iter().enumerate();
+        bars.for_each(|(i, bar)| near.insert_piece(i, [bar.x, bar.top], [bar.x, bar.bottom]));
+        near
+    }
+
+    /// A station that has a box, by its number.
+    pub fn station(&self, number: usize) -> &Station {
+        &self.stations[self.stations.partition_point(|s| s.number < number)]
+    }
+
     /// Moves the ends of open runs along their bars to between two rows, so that they lie on no live run.
     fn clear_rows(&mut self, network: &Network) {
         for run in self.runs.iter_mut().filter(|run| run.is_open() && run.points.len() == 2) {
@@ -69,6 +103,7 @@ impl Scene {
                 let at = self.stations.partition_point(|s| s.number < network.buses[bus].station as usize);
                 run.points[i][1] = self.stations[at].between_rows(run.points[i][1], other[1]);
             }
+            run.shown = vec![run.points.clone()];
         }
     }
 }
@@ -128,9 +163,11 @@ fn runs(network: &Network, layout: &TxLayout, palette: &Palette, view: &View, bl
             Some(Run {
                 branch,
                 role: layout.role[branch],
+                shown: vec![points.clone()],
                 points,
                 level,
                 block: block(a.station).min(block(b.station)),
+                stations: [a.station as usize, b.station as usize],
             })
         })
         .collect()

@@ -40,6 +40,10 @@ impl Rect {
         self.left <= other.left && self.top <= other.top && other.right <= self.right && other.bottom <= self.bottom
     }
 
+    pub fn has(&self, p: Point) -> bool {
+        self.left <= p[0] && p[0] <= self.right && self.top <= p[1] && p[1] <= self.bottom
+    }
+
     /// The smallest one around this and a point.
     pub fn with(&self, p: Point) -> Self {
         Rect::new(self.left.min(p[0]), self.top.min(p[1]), self.right.max(p[0]), self.bottom.max(p[1]))

@@ -1,10 +1,11 @@
 //! Names of substations: above or below the box, where they cover no box, no other text and few lines.
-use super::index::Index;
-use super::lettering::{baseline, fitted, halves, height, one_line, width, Line, SMALLEST};
-use super::page::Page;
+use super::lettering::{baseline, fitted, halves, height, width, Anchor, Line, SMALLEST};
+use super::near::Near;
 use super::scene::{Scene, Station};
 use super::shape::Rect;
+use super::taken::Taken;
 use crate::network::Network;
+use crate::plain::one_line;
 
 pub struct StationName {
     pub station: usize,
@@ -15,35 +16,6 @@ pub struct StationName {
 
 /// Between a box and its name.
 const GAP: f64 = 0.5;
-
-/// What names keep clear of: boxes first, then the texts and crosses that are placed.
-pub struct Taken {
-    area: Rect,
-    /// The largest text.
-    largest: f64,
-    rects: Vec<Rect>,
-    index: Index,
-}
-
-impl Taken {
-    pub fn new(page: &Page) -> Self {
-        Taken {
-            area: page.area.grown(-1.0),
-            largest: 1.5 * page.text,
-            rects: Vec::new(),
-            index: Index::new(&page.whole),
-        }
-    }
-
-    pub fn add(&mut self, rect: Rect) {
-        self.index.insert(self.rects.len(), &rect);
-        self.rects.push(rect);
-    }
-
-    fn free(&self, rect: &Rect) -> bool {
-        self.area.holds(rect) && self.index.near(rect).into_iter().all(|i| !self.rects[i].overlaps(rect))
-    }
-}
 
 /// A way to write a name: its lines and size, and how little it is liked.
 struct Wording {
@@ -57,10 +29,10 @@ struct Wording {
 const PLACES: [(f64, bool, usize); 6] =
     [(0.5, false, 0), (0.0, false, 1), (1.0, false, 1), (0.5, true, 3), (0.0, true, 4), (1.0, true, 4)];
 
-pub fn placed(network: &Network, scene: &Scene, pieces: &Index, taken: &mut Taken) -> Vec<StationName> {
+pub fn placed(network: &Network, scene: &Scene, pieces: &Near, largest: f64, taken: &mut Taken) -> Vec<StationName> {
     let mut names = Vec::new();
     for station in &scene.stations {
-        let best = best(network, scene, station, pieces, taken);
+        let best = best(network, scene, station, pieces, largest, taken);
         for line in best.lines.iter() {
             taken.add(line.rect());
         }
@@ -69,10 +41,17 @@ pub fn placed(network: &Network, scene: &Scene, pieces: &Index, taken: &mut Take
     names
 }
 
-fn best(network: &Network, scene: &Scene, station: &Station, pieces: &Index, taken: &Taken) -> StationName {
+fn best(
+    network: &Network,
+    scene: &Scene,
+    station: &Station,
+    pieces: &Near,
+    largest: f64,
+    taken: &Taken,
+) -> StationName {
     let name = one_line(&network.station_name(station.number));
     let mut found: Option<(usize, Vec<Line>, bool)> = None;
-    for wording in wordings(&name, station, taken.largest) {
+    for wording in wordings(&name, station, largest) {
         for (part, below, dislike) in PLACES {
             let lines = wording.at(station, part, below);
             if !lines.iter().all(|line| taken.free(&line.rect())) {
@@ -106,9 +85,9 @@ fn wordings(name: &str, station: &Station, largest: f64) -> Vec<Wording> {
 }
 
 /// How many runs go through the lines.
-fn covered(lines: &[Line], scene: &Scene, pieces: &Index) -> usize {
+fn covered(lines: &[Line], scene: &Scene, pieces: &Near) -> usize {
     let through = |rect: &Rect, run: usize| scene.runs[run].points.windows(2).any(|two| rect.meets(two[0], two[1]));
-    let count = |rect: Rect| pieces.near(&rect).into_iter().filter(|&run| through(&rect, run)).count();
+    let count = |rect: Rect| pieces.some(&rect).into_iter().filter(|&run| through(&rect, run)).count();
     lines.iter().map(|line| count(line.rect())).sum()
 }
 
@@ -127,6 +106,7 @@ impl Wording {
                     y: baseline(top + i as f64 * tall, self.size),
                     size: self.size,
                     bold: true,
+                    anchor: [Anchor::Start, Anchor::Middle, Anchor::End][(2.0 * part) as usize],
                 }
             })
             .collect()

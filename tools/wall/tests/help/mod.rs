@@ -1,5 +1,8 @@
 //! What the tests share: running the program, and folders of their own.
 #![allow(dead_code)]
+pub mod damage;
+pub mod made;
+pub mod svg;
 use std::fs;
 use std::path::{Path, PathBuf};
 use std::process::{Command, Output};
@@ -63,4 +66,25 @@ pub fn status(output: &Output) -> i32 {
 
 pub fn text(bytes: &[u8]) -> String {
     String::from_utf8(bytes.to_vec()).unwrap()
+}
+
+/// A folder with a made-up network of so many stations in it.
+pub fn made(stations: usize) -> Folder {
+    let folder = Folder::new(&format!("made{stations}"));
+    let (buses, branches) = made::network(stations);
+    folder.write("buses.csv", buses.as_bytes());
+    folder.write("branches.csv", branches.as_bytes());
+    folder
+}
+
+/// The sheet of a network and the pages of its index, drawn with these options.
+pub fn sheet(network: &Path, options: &[&str]) -> (String, Vec<String>) {
+    let folder = Folder::new("sheet");
+    let full = network.canonicalize().unwrap();
+    let words = [&["draw", full.to_str().unwrap(), "-o", "sheet.svg"], options].concat();
+    let output = wall_in(&folder.0, &words);
+    assert_eq!(status(&output), 0, "{}", text(&output.stderr));
+    let read = |name: String| fs::read_to_string(folder.0.join(name)).ok();
+    let page = |i: usize| read(if i == 1 { "sheet-index.svg".to_string() } else { format!("sheet-index-{i}.svg") });
+    (read("sheet.svg".to_string()).unwrap(), (1..).map_while(page).collect())
 }

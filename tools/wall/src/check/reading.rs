@@ -1,0 +1,215 @@
+//! A finished sheet read back: its page, boxes, bars, runs, crosses, dots and labels, by ids and `data-` attributes.
+use super::look::Look;
+use super::plane::{number, stretches, Map, Point, Span};
+use super::xml::{elements, Element};
+use crate::fault::{Fault, Place};
+use std::collections::HashMap;
+
+/// A box, bar, run or cross.
+pub struct Part {
+    pub element: usize,
+    /// The name that its title has.
+    pub title: String,
+    /// The number that its `data-` attribute has.
+    pub number: Option<usize>,
+    /// Its geometry in millimetres; none where it can't be read.
+    pub stretches: Option<Vec<Vec<Point>>>,
+}
+
+/// One line of the name of a box or a bar.
+pub struct Label {
+    pub element: usize,
+    pub number: Option<usize>,
+    pub text: String,
+    pub span: Option<Span>,
+}
+
+pub struct Reading {
+    pub elements: Vec<Element>,
+    pub looks: Vec<Look>,
+    pub page: Span,
+    pub boxes: Vec<Part>,
+    pub bars: Vec<Part>,
+    pub runs: Vec<Part>,
+    pub crosses: Vec<Part>,
+    pub bus_labels: Vec<Label>,
+    pub station_labels: Vec<Label>,
+    pub dots: Vec<Point>,
+}
+
+/// How far text reaches above and below its baseline, in sizes: capitals and descenders.
+const RISE: f64 = 0.75;
+const DROP: f64 = 0.22;
+
+/// About how wide a character is in the fonts that viewers have, in sizes.
+fn character(c: char) -> f64 {
+    match c {
+        'i' | 'j' | 'l' | 't' | 'f' | 'I' | ' ' | '.' | ',' | ':' | ';' | '\'' | '|' | '!' | '/' => 0.28,
+        'm' | 'w' | 'M' | 'W' | '@' | '%' => 0.9,
+        'A'..='Z' => 0.7,
+        _ if c.is_ascii() => 0.556,
+        _ => 0.7,
+    }
+}
+
+pub fn read(text: &str, file: &str) -> Result<Reading, Fault> {
+    let elements = elements(text, file)?;
+    let (page, map) = page(&elements[0], file)?;
+    let mut looks: Vec<Look> = Vec::with_capacity(elements.len());
+    for element in &elements {
+        let look = match element.parent {
+            None => Look::root(map).inside(element),
+            Some(parent) => {
+                let mut look = looks[parent].inside(element);
+                let around = &elements[parent];
+                look.group = around.attribute("id").filter(|_| around.name == "g").unwrap_or(&look.group).to_string();
+                look
+            }
+        };
+        looks.push(look);
+    }
+    let mut reading = Reading {
+        elements,
+        looks,
+        page,
+        boxes: Vec::new(),
+        bars: Vec::new(),
+        runs: Vec::new(),
+        crosses: Vec::new(),
+        bus_labels: Vec::new(),
+        station_labels: Vec::new(),
+        dots: Vec::new(),
+    };
+    reading.sort_out();
+    Ok(reading)
+}
+
+/// The page in millimetres, and how its numbers become millimetres.
+fn page(root: &Element, file: &str) -> Result<(Span, Map), Fault> {
+    let side =
+        |name: &str| root.attribute(name).and_then(|v| v.strip_suffix("mm")).and_then(number).filter(|&v| v > 0.0);
+    let view = || -> Option<[f64; 4]> {
+        let list: Option<Vec<f64>> =
+            root.attribute("viewBox")?.split([' ', ',']).filter(|s| !s.is_empty()).map(number).collect();
+        list?.try_into().ok().filter(|v: &[f64; 4]| v[2] > 0.0 && v[3] > 0.0)
+    };
+    let (Some(width), Some(height), Some(v), "svg") = (side("width"), side("height"), view(), root.name.as_str())
+    else {
+        let place = Place { line: root.line, column: 1 };
+        return Err(Fault::content(file, place, "expected <svg> with a width and a height in mm and a viewBox"));
+    };
+    let (sx, sy) = (width / v[2], height / v[3]);
+    Ok((Span([0.0, 0.0, width, height]), Map([sx, 0.0, 0.0, sy, -v[0] * sx, -v[1] * sy])))
+}
+
+impl Reading {
+    fn sort_out(&mut self) {
+        let titles = self.titles();
+        for i in 0..self.elements.len() {
+            let element = &self.elements[i];
+            let (name, id) = (element.name.as_str(), element.attribute("id").unwrap_or(""));
+            if name == "g" {
+                continue;
+            }
+            let kind = |prefix: &str, data: &str| id.starts_with(prefix) || element.attribute(data).is_some();
+            let part = |data: &str| Part {
+                element: i,
+                title: titles.get(&i).cloned().unwrap_or_default(),
+                number: element.attribute(data).and_then(|v| v.parse().ok()),
+                stretches: self.geometry(i),
+            };
+            if name == "text" {
+                let data = if self.looks[i].group == "station-names" { "data-of" } else { "data-label" };
+                let label = self.label(i, data);
+                let list = if data == "data-of" { &mut self.station_labels } else { &mut self.bus_labels };
+                list.extend(label);
+            } else if kind("station-", "data-station") {
+                self.boxes.push(part("data-station"));
+            } else if kind("bus-", "data-bus") {
+                self.bars.push(part("data-bus"));
+            } else if kind("branch-", "data-branch") {
+                self.runs.push(part("data-branch"));
+            } else if element.attribute("data-cross").is_some() {
+                self.crosses.push(part("data-cross"));
+            } else if name == "circle" && self.looks[i].group == "dots" {
+                let middle = self.points(i).and_then(|points| Span::around(&points));
+                self.dots.extend(middle.map(|span| span.middle()));
+            }
+        }
+    }
+
+    /// Whether the sheet says that it was drawn from a file of this name with this SHA-256.
+    pub fn was_drawn_from(&self, name: &str, sha256: &str) -> bool {
+        let wanted = format!("{name} SHA-256 {sha256}");
+        self.elements.iter().any(|e| e.name == "desc" && e.text == wanted)
+    }
+
+    /// The text of each element's title.
+    fn titles(&self) -> HashMap<usize, String> {
+        let titles = self.elements.iter().filter(|e| e.name == "title");
+        titles.filter_map(|e| Some((e.parent?, e.text.clone()))).collect()
+    }
+
+    fn label(&self, i: usize, data: &str) -> Option<Label> {
+        let number = self.elements[i].attribute(data)?.parse().ok();
+        let span = self.points(i).and_then(|points| Span::around(&points));
+        Some(Label { element: i, number, text: self.elements[i].text.clone(), span })
+    }
+
+    fn numbers<const N: usize>(&self, i: usize, names: [&str; N]) -> Option<[f64; N]> {
+        let mut list = [0.0; N];
+        for (value, name) in list.iter_mut().zip(names) {
+            *value = match self.elements[i].attribute(name) {
+                Some(text) => number(text)?,
+                None => 0.0,
+            };
+        }
+        Some(list)
+    }
+
+    /// The stretches of an element's outline, in millimetres; none where they can't be read.
+    fn geometry(&self, i: usize) -> Option<Vec<Vec<Point>>> {
+        let element = &self.elements[i];
+        let own = match element.name.as_str() {
+            "path" => stretches(element.attribute("d")?)?,
+            "line" => {
+                let [x1, y1, x2, y2] = self.numbers(i, ["x1", "y1", "x2", "y2"])?;
+                vec![vec![[x1, y1], [x2, y2]]]
+            }
+            "rect" => {
+                let [x, y, w, h] = self.numbers(i, ["x", "y", "width", "height"])?;
+                vec![Span([x, y, x + w, y + h]).corners().to_vec()]
+            }
+            "circle" => {
+                let [x, y, r] = self.numbers(i, ["cx", "cy", "r"])?;
+                vec![vec![[x - r, y], [x, y - r], [x + r, y], [x, y + r]]]
+            }
+            "polyline" | "polygon" => stretches(&format!("M{}", element.attribute("points")?))?,
+            "text" => vec![self.lettering(i)?.corners().to_vec()],
+            _ => return None,
+        };
+        let map = &self.looks[i].map;
+        Some(own.into_iter().map(|points| points.into_iter().map(|p| map.at(p)).collect()).collect())
+    }
+
+    pub fn points(&self, i: usize) -> Option<Vec<Point>> {
+        Some(self.geometry(i)?.concat())
+    }
+
+    /// What a line of text covers, in its own numbers.
+    fn lettering(&self, i: usize) -> Option<Span> {
+        let element = &self.elements[i];
+        let [x, y] = self.numbers(i, ["x", "y"])?;
+        let size = self.looks[i].size?;
+        let wide = match element.attribute("textLength") {
+            Some(length) => number(length)?,
+            None => size * element.text.chars().map(character).sum::<f64>(),
+        };
+        let left = match self.looks[i].anchor.as_str() {
+            "middle" => x - wide / 2.0,
+            "end" => x - wide,
+            _ => x,
+        };
+        Some(Span([left, y - RISE * size, left + wide, y + DROP * size]))
+    }
+}

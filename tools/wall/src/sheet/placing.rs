@@ -1,0 +1,71 @@
+//! Everything that the sheet shows, each at its place: what is placed later keeps clear of what is there.
+use super::block::Lost;
+use super::bus_names::{self, BusName};
+use super::crosses::{self, Cross};
+use super::index::Contents;
+use super::marks::{self, Mark};
+use super::numbers::{self, Around, Numbers};
+use super::page::{Page, View};
+use super::palette::Palette;
+use super::scene::Scene;
+use super::squares::Squares;
+use super::station_names::{self, StationName};
+use super::taken::Taken;
+use super::together::{self, Stretch};
+use super::under;
+use crate::drawing::Drawing;
+use crate::network::Network;
+
+pub struct Placed {
+    pub scene: Scene,
+    pub stretches: Vec<Stretch>,
+    /// A label for each stretch.
+    pub marks: Vec<Mark>,
+    pub crosses: Vec<Cross>,
+    pub numbers: Numbers,
+    pub bus_names: Vec<BusName>,
+    pub station_names: Vec<StationName>,
+}
+
+impl Placed {
+    pub fn new(network: &Network, drawing: &Drawing, palette: &Palette, page: &Page, view: &View) -> Self {
+        let mut scene = Scene::new(network, drawing, palette, view);
+        let (pieces, boxes, bars) = (scene.pieces(&page.whole), scene.boxes(&page.whole), scene.bars_near(&page.whole));
+        under::cut(&mut scene, &boxes);
+        let crosses = crosses::placed(&scene, &pieces, &boxes, &bars, &page.whole);
+        let bus_names = bus_names::placed(network, &scene, page.text);
+        let mut taken = Taken::new(page);
+        crosses.iter().for_each(|cross| taken.add(cross.rect()));
+        bus_names.iter().filter_map(|name| name.line.as_ref()).for_each(|line| taken.add(line.rect()));
+        let around = Around { network, scene: &scene, pieces: &pieces, bars: &bars, boxes: &boxes, largest: page.text };
+        let numbers = numbers::placed(&around, &crosses, &mut taken);
+        scene.stations.iter().for_each(|s| taken.add(s.rect));
+        let station_names = station_names::placed(network, &scene, &pieces, 1.5 * page.text, &mut taken);
+        let stretches = together::found(&scene, &page.whole);
+        let marks = marks::placed(network, &scene, &stretches, &pieces, &mut taken);
+        Placed { scene, stretches, marks, crosses, numbers, bus_names, station_names }
+    }
+
+    /// What the index lists.
+    pub fn contents<'a>(&'a self, network: &'a Network, squares: &'a Squares) -> Contents<'a> {
+        Contents {
+            network,
+            scene: &self.scene,
+            squares,
+            stretches: &self.stretches,
+            bus_names: &self.bus_names,
+            station_names: &self.station_names,
+        }
+    }
+
+    pub fn lost(&self) -> Lost {
+        let buses = |test: fn(&BusName) -> bool| self.bus_names.iter().filter(|name| test(name)).count();
+        let stations = |test: fn(&StationName) -> bool| self.station_names.iter().filter(|name| test(name)).count();
+        Lost {
+            shortened: buses(|name| name.shortened) + stations(|name| name.shortened),
+            left_out: buses(|name| name.line.is_none()) + stations(|name| name.lines.is_empty()),
+            numbers: self.numbers.left_out,
+            marks: self.marks.iter().filter(|mark| mark.lines.is_empty()).count(),
+        }
+    }
+}
