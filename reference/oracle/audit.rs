@@ -1,4 +1,4 @@
-//! Audit: the original's `tx_layout_quality` behind 01's refusals, with 01's count of overlapping pairs.
+//! Audit: the original's `tx_layout_quality`, with layout's rule for a bus's point, behind 01's refusals, with 01's count of overlapping pairs.
 use crate::network::{refuse, Network};
 use crate::tx_schematic::{tx_layout_quality, TxLayout, TX_LAYOUT_VERSION, TX_ROLE_LINE};
 
@@ -65,7 +65,6 @@ impl Drawing {
             && (0..m).all(|e| !line(e) || known(net.from[e]) && known(net.to[e]))
             && self.boxes.iter().chain(&self.pieces).all(modest)
             && self.boxes.chunks(4).all(|b| b[0] <= b[2] && b[1] <= b[3])
-            && (0..n).all(|i| net.point(i).is_some())
     }
 
     /// Pairs of occupied stations whose boxes strictly overlap, that of the higher number shrunk by 1e-9 a side.

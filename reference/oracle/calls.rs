@@ -207,10 +207,31 @@ pub fn layout_call(seed: u64, case: u64, most: usize, kind: Kind) -> Call {
     call
 }
 
+/// Some buses lose their map point: the list is empty, short or odd, or holds numbers that aren't finite.
+fn unsurvey(r: &mut Random, net: &mut Network) {
+    let length = net.xy.len();
+    match r.below(6) {
+        0 => net.xy.clear(),
+        1 => net.xy.truncate(r.below(length)),
+        2 => net.xy.truncate(length.saturating_sub(1)),
+        often => {
+            for x in &mut net.xy {
+                if r.one_in(1 << (often - 2)) {
+                    *x = r.pick(&[f64::NAN, f64::INFINITY, f64::NEG_INFINITY]);
+                }
+            }
+        }
+    }
+}
+
 /// A drawing as layout left it, or with a few of its numbers changed; of the extreme ones every third times a power of two.
+/// In one of three some buses have no map point.
 pub fn audit_call(seed: u64, case: u64, most: usize, kind: Kind) -> AuditCall {
-    let Call { net, options, mesh, .. } = layout_call(seed, case, most, kind);
+    let Call { mut net, options, mesh, .. } = layout_call(seed, case, most, kind);
     let mut r = Random::new(!seed, case);
+    if r.one_in(3) {
+        unsurvey(&mut r, &mut net);
+    }
     let drawn = layout(&net, &options, &mesh, &Lent::ample());
     let mut drawing = drawn.map_or(Drawing::default(), |d| Drawing::of(&d));
     if kind == Kind::Extreme && r.one_in(3) {

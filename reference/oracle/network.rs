@@ -88,6 +88,11 @@ impl Network {
         }
     }
 
+    /// Whether some bus lacks two finite coordinates.
+    pub fn unsurveyed(&self) -> bool {
+        (0..self.sub.len()).any(|bus| self.point(bus).is_none())
+    }
+
     pub fn original(&self) -> TxLayoutInput {
         TxLayoutInput {
             bus_substation: self.sub.clone(),

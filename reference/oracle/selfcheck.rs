@@ -181,7 +181,7 @@ fn audits(c: &mut Check) {
         change(&mut net, &mut drawing);
         gives(&net, &drawing)
     };
-    c.that("a short xy", changed(&|n, _| n.xy.truncate(3)) == 13);
+    c.that("a short xy", changed(&|n, _| n.xy.truncate(3)) == 0);
     c.that("no such branch", changed(&|_, d| d.branches[0] = 1) == 13);
     c.that("an end at n", changed(&|n, _| n.to[0] = 2) == 13);
     c.that("an end below 0", changed(&|n, _| n.to[0] = -1) == 13);
@@ -191,6 +191,14 @@ fn audits(c: &mut Check) {
     c.that("NaN in a piece", changed(&|_, d| d.pieces[2] = f64::NAN) == 13);
     c.that("a piece far out", changed(&|_, d| d.pieces[2] = 1e30) == 8);
     c.that("boxes without size", changed(&|_, d| d.boxes.fill(1.0)) == 8);
+    // two buses in one station, with these coordinates; the box's middle is (2, 1) or (3, 4)
+    let moved = |xy: &[f64], boxes: [f64; 4]| {
+        let net = Network { sub: vec![0, 0], kv: vec![0; 2], xy: xy.to_vec(), ..Network::default() };
+        audit(&net, &Drawing { boxes: boxes.to_vec(), ..Drawing::default() }, &ROOM).map(|f| f.displacement)
+    };
+    c.that("one bus of two surveyed", moved(&[4.0, 2.0], [1.0, 0.0, 3.0, 2.0]) == Ok(vec![0.0]));
+    c.that("a NaN beside a number", moved(&[4.0, 2.0, f64::NAN, 5.0], [1.0, 0.0, 3.0, 2.0]) == Ok(vec![0.0]));
+    c.that("no bus surveyed", moved(&[], [2.0, 3.0, 4.0, 5.0]) == Ok(vec![5.0]));
     let short = Room { lengths: good.branches.len() - 1, ..ROOM };
     c.that("a short list of lengths", number(audit(&two, &good, &short)) == 7);
     c.that("a corner walked past", inside::first_hit(&[0.0, 0.0, 1.0, 1.0], (-1.0, 1.0), (1.0, -1.0)).is_none());

@@ -58,6 +58,8 @@ trait Compared: Clone + Send + 'static {
     fn case(seed: u64, case: u64, most: usize, kind: Kind) -> Self;
     fn want(&self, salt: u64) -> Self::Want;
     fn number(want: &Self::Want) -> u32;
+    /// Whether some bus has no map point.
+    fn unsurveyed(&self) -> bool;
     /// Whether a line is led through a mesh or round a box.
     fn routed(&self, want: &Self::Want) -> bool;
     fn wrong(&self, want: &Self::Want, salt: u64) -> Vec<String>;
@@ -107,6 +109,9 @@ impl Compared for Call {
     fn number(want: &Self::Want) -> u32 {
         want.as_ref().err().copied().unwrap_or(0)
     }
+    fn unsurveyed(&self) -> bool {
+        self.net.unsurveyed()
+    }
     fn routed(&self, want: &Self::Want) -> bool {
         self.options.iterations > 0 && want.as_ref().is_ok_and(|d| bent(&d.segment_edge))
     }
@@ -137,6 +142,9 @@ impl Compared for AuditCall {
     }
     fn number(want: &Self::Want) -> u32 {
         want.as_ref().err().copied().unwrap_or(0)
+    }
+    fn unsurveyed(&self) -> bool {
+        self.net.unsurveyed()
     }
     fn routed(&self, want: &Self::Want) -> bool {
         want.is_ok() && bent(&self.drawing.branches)
@@ -202,7 +210,7 @@ fn shrunk<C: Compared>(call: &C, salt: u64) -> C {
 }
 
 fn compare<C: Compared>(seed: u64, count: u64, most: usize, kind: Kind) -> bool {
-    let (mut compared, mut routed, mut panicked, mut too_long) = (0, 0, 0, 0);
+    let (mut compared, mut routed, mut unsurveyed, mut panicked, mut too_long) = (0, 0, 0, 0, 0);
     let mut answers: BTreeMap<u32, usize> = BTreeMap::new();
     let mut differing: Vec<(u64, C)> = Vec::new();
     for i in 0..count {
@@ -225,6 +233,7 @@ fn compare<C: Compared>(seed: u64, count: u64, most: usize, kind: Kind) -> bool 
         };
         compared += 1;
         routed += usize::from(call.routed(&want));
+        unsurveyed += usize::from(call.unsurveyed());
         *answers.entry(C::number(&want)).or_default() += 1;
         if !call.wrong(&want, salt).is_empty() {
             differing.push((i, call));
@@ -235,6 +244,7 @@ fn compare<C: Compared>(seed: u64, count: u64, most: usize, kind: Kind) -> bool 
         println!("  answer {number}: {times}");
     }
     println!("  answer 0 with lines led through a mesh or round boxes: {routed}");
+    println!("  with buses that have no map point: {unsurveyed}");
     differing.sort_by_key(|(_, call)| call.size());
     if let Some((i, call)) = differing.first() {
         let salt = seed ^ i << 20;

@@ -39,8 +39,8 @@ pub struct TxLayoutQuality {
 /// ```
 ///
 /// # Errors
-/// Refusals 1 to 4, 6, 13 and 8, in this order: 13 where the drawing doesn't fit its network or a bus lacks two finite
-/// coordinates. A drawing that was just made can be refused with 8, since segment ends are tested too.
+/// Refusals 1 to 4, 6, 13 and 8, in this order: 13 where the drawing doesn't fit its network. A drawing that was just made
+/// can be refused with 8, since segment ends are tested too.
 pub fn tx_layout_quality(input: &TxLayoutInput, layout: &TxLayout) -> Result<TxLayoutQuality, Refusal> {
     input.validate()?;
     let (n, k) = (input.bus_substation.len(), input.substations());

@@ -39,7 +39,7 @@ pub(crate) fn audited(
     ensures { λ r. ⌜ Inner (drawn (now (sub .entry)) (now (kv .entry)) (now (from .entry)) (now (to .entry)) (now (xy .entry)) (now (boxes .entry)) (now (roles .entry)) (now (pieces .entry)) (now (branches .entry)))
         (lists (now (displacement .entry)) (now (spacing .entry)) (now (relative .entry))) r (lists (now (displacement .exit)) (now (spacing .exit)) (now (relative .exit))) ⌝ }
 {
-    if !fits(sub, from, to, xy, boxes, roles, pieces, branches) {
+    if !fits(sub, from, to, boxes, roles, pieces, branches) {
         return Audit::Refused(13);
     }
     let k = station_count(sub);

@@ -11,7 +11,7 @@ use borrow.Author.Tests.{eqb-true}
 use Rattle.network.specs.Words.{stationCount, busCounts, occupied}
 use Rattle.network.specs.Views.{countsIn, boxesIn}
 use Rattle.runs.specs.Lists.{after}
-use Rattle.fit.specs.Fit.{allNamed, allJoin, allModerate, allUpright, allLocated, fits}
+use Rattle.fit.specs.Fit.{allNamed, allJoin, allModerate, allUpright, fits}
 use Rattle.fit.specs.Scale.{illDrawn}
 use Rattle.fit.proofs.Testing.{all-finite}
 use Rattle.overlaps.specs.Sweep.{Finite}
@@ -21,7 +21,7 @@ use Rattle.findings.specs.Drawn.{Drawn, Lists, lists}
 use Rattle.findings.specs.Answer.{boxesOf, stationsOf, lateBy, late, figuresOf, listsOf, listsAfter, answerBy, Inner, Figured}
 
 -- ---- by the tests
-module _ (D : Drawn) (b : Bool) (e : b ≡ fits (D .station) (D .from) (D .to) (D .xy) (D .boxes) (D .roles) (D .pieces) (D .branches)) where
+module _ (D : Drawn) (b : Bool) (e : b ≡ fits (D .station) (D .from) (D .to) (D .boxes) (D .roles) (D .pieces) (D .branches)) where
   pub late-unfit : b ≡ false → 13 ≡ late D
   unfolding late lateBy
   late-unfit h = rw (sym e, h)
@@ -45,17 +45,14 @@ both : (a b : Bool) → true ≡ a && b → (a ≡ true) × (b ≡ true)
 both true b h = (refl, sym h)
 both false b h = absurd (true≢false h)
 
-module _ (sub : List ℕ) (from to : List ℤ) (xy boxes : List Float) (roles : List ℕ) (pieces : List Float) (branches : List ℕ) (b : Bool)
-    (e : b ≡ fits sub from to xy boxes roles pieces branches) (h : b ≡ true) where
+module _ (sub : List ℕ) (from to : List ℤ) (boxes : List Float) (roles : List ℕ) (pieces : List Float) (branches : List ℕ) (b : Bool)
+    (e : b ≡ fits sub from to boxes roles pieces branches) (h : b ≡ true) where
   -- the tests from the third on
   abbrev third : Bool
   third = eqb (length pieces) (4 * length branches)
 
-  abbrev tests : Bool
-  tests = allUpright (stationCount sub) boxes && allLocated (length sub) xy
-
   abbrev later : Bool
-  later = allNamed (length from) branches && (allJoin (length sub) from to roles && (allModerate boxes && (allModerate pieces && tests)))
+  later = allNamed (length from) branches && (allJoin (length sub) from to roles && (allModerate boxes && (allModerate pieces && allUpright (stationCount sub) boxes)))
 
   parts : (length boxes ≡ 4 * stationCount sub) × (length pieces ≡ 4 * length branches) × (true ≡ later)
   unfolding fits
@@ -70,9 +67,9 @@ module _ (sub : List ℕ) (from to : List ℤ) (xy boxes : List Float) (roles : 
 
   pub fit-finite : Finite boxes
   fit-finite =
-      let p = both (allNamed (length from) branches) (allJoin (length sub) from to roles && (allModerate boxes && (allModerate pieces && tests))) (parts .2) in
-      let q = both (allJoin (length sub) from to roles) (allModerate boxes && (allModerate pieces && tests)) (sym (p .1)) in
-      let r = both (allModerate boxes) (allModerate pieces && tests) (sym (q .1)) in
+      let p = both (allNamed (length from) branches) (allJoin (length sub) from to roles && (allModerate boxes && (allModerate pieces && allUpright (stationCount sub) boxes))) (parts .2) in
+      let q = both (allJoin (length sub) from to roles) (allModerate boxes && (allModerate pieces && allUpright (stationCount sub) boxes)) (sym (p .1)) in
+      let r = both (allModerate boxes) (allModerate pieces && allUpright (stationCount sub) boxes) (sym (q .1)) in
       record { at = all-finite boxes (r .0) }
 
 -- ---- answers and lists

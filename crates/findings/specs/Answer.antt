@@ -59,7 +59,7 @@ lateBy fit ill = refuse (not fit) 13 (refuse ill 8 0)
 
 unfoldable pub late : Drawn → ℕ
 late D =
-    lateBy (fits (D .station) (D .from) (D .to) (D .xy) (D .boxes) (D .roles) (D .pieces) (D .branches)) (illDrawn (boxesOf D) (stationsOf D) (D .pieces))
+    lateBy (fits (D .station) (D .from) (D .to) (D .boxes) (D .roles) (D .pieces) (D .branches)) (illDrawn (boxesOf D) (stationsOf D) (D .pieces))
 
 -- 01's order, 1 to 4, 6, 7, 13, then 8: the first whose condition holds gives the number, 0 where none does.
 unfoldable pub auditNumber : Drawn → Room → ℕ
@@ -71,7 +71,7 @@ auditNumber D R =
     (refuse (numberTooHigh (D .station)) 4
     (refuse (tooFar n (D .xy)) 6
     (refuse (tooShort n (stationCount (D .station)) (length (D .branches)) R) 7
-    (refuse (not (fits (D .station) (D .from) (D .to) (D .xy) (D .boxes) (D .roles) (D .pieces) (D .branches))) 13
+    (refuse (not (fits (D .station) (D .from) (D .to) (D .boxes) (D .roles) (D .pieces) (D .branches))) 13
     (refuse (illDrawn (boxesOf D) (stationsOf D) (D .pieces)) 8 0)))))))
 
 -- ---- the figures

@@ -10,13 +10,11 @@ use lib.Ieee.{Float, nan, inf, fin, le, ofBits}
 use borrow.Author.Tests.{eq-eqb, ne-eqb}
 use Rattle.float.specs.Small.{absOf, isFinite}
 use Rattle.float.specs.Ops.{f0}
-use Rattle.geometry.specs.declared.Point.{Point}
 use Rattle.geometry.specs.declared.Box.{Box}
 use Rattle.network.specs.declared.words.Known.{Known}
 use Rattle.network.specs.Words.{stationCount}
 use Rattle.placement.specs.Modest.{largest, illSized}
-use Rattle.runs.specs.Finite.{finitePoint}
-use Rattle.fit.specs.Fit.{isLine, endAt, isKnown, joins, allNamed, allJoin, moderate, allModerate, allUpright, allLocated, fits}
+use Rattle.fit.specs.Fit.{isLine, endAt, isKnown, joins, allNamed, allJoin, moderate, allModerate, allUpright, fits}
 use Rattle.fit.specs.Scale.{modestEnds, illDrawn}
 use Rattle.fit.proofs.Each.{each-at}
 
@@ -25,16 +23,6 @@ and-last a b t x e h q = q ∙ ap (λ (y : Bool). y && b) (sym h ∙ e)
 
 pub and-first : (a b t : Bool) → t ≡ a → t ≡ false → false ≡ a && b
 and-first a b t e h = ap (λ (y : Bool). y && b) (sym h ∙ e)
-
--- ---- a bus with two finite coordinates
-module _ (p q : Point) (e : p ≡ q) (t : Bool) (f : t ≡ isFinite (p .x)) where
-  pub located-last : (x : Bool) → t ≡ true → x ≡ isFinite (p .y) → x ≡ finitePoint q
-  unfolding finitePoint
-  located-last x h g = and-last (isFinite (p .x)) (isFinite (p .y)) t x f h g ∙ ap finitePoint e
-
-  pub located-first : t ≡ false → false ≡ finitePoint q
-  unfolding finitePoint
-  located-first h = and-first (isFinite (p .x)) (isFinite (p .y)) t f h ∙ ap finitePoint e
 
 -- ---- a branch with line role
 module _ (n : ℕ) (from to : List ℤ) (roles : List ℕ) (e : ℕ) (t : Bool) (f : t ≡ isLine roles e) where
@@ -66,9 +54,9 @@ unfolding allModerate
 all-finite l e i h = moderate-finite (getD l i nan) (each-at (λ j. moderate (getD l j nan)) (length l) i e h)
 
 -- ---- the whole of 13
-module _ (sub : List ℕ) (from to : List ℤ) (xy boxes : List Float) (roles : List ℕ) (pieces : List Float) (branches : List ℕ) where
+module _ (sub : List ℕ) (from to : List ℤ) (boxes : List Float) (roles : List ℕ) (pieces : List Float) (branches : List ℕ) where
   abbrev Fits : Bool
-  Fits = fits sub from to xy boxes roles pieces branches
+  Fits = fits sub from to boxes roles pieces branches
 
   module _ (k : ℕ) (ke : k ≡ stationCount sub) where
     pub by-boxes : (length boxes ≡ 4 * k → ⊥) → false ≡ Fits
@@ -82,10 +70,10 @@ module _ (sub : List ℕ) (from to : List ℤ) (xy boxes : List Float) (roles : 
 
       module _ (r : length roles ≡ length from) where
         -- what is left once the first two hold
-        abbrev rest : Bool → Bool → Bool → Bool → Bool → Bool → Bool → Bool
-        rest p n j m o u l = p && (n && (j && (m && (o && (u && l)))))
+        abbrev rest : Bool → Bool → Bool → Bool → Bool → Bool → Bool
+        rest p n j m o u = p && (n && (j && (m && (o && u))))
 
-        fits-rest : rest (eqb (length pieces) (4 * length branches)) (allNamed (length from) branches) (allJoin (length sub) from to roles) (allModerate boxes) (allModerate pieces) (allUpright k boxes) (allLocated (length sub) xy) ≡ Fits
+        fits-rest : rest (eqb (length pieces) (4 * length branches)) (allNamed (length from) branches) (allJoin (length sub) from to roles) (allModerate boxes) (allModerate pieces) (allUpright k boxes) ≡ Fits
         unfolding fits
         fits-rest = rw (sym ke, eq-eqb (length boxes) (4 * k) b, eq-eqb (length roles) (length from) r) refl
 
@@ -109,12 +97,8 @@ module _ (sub : List ℕ) (from to : List ℤ) (xy boxes : List Float) (roles : 
                   pub by-numbers : o ≡ false → false ≡ Fits
                   by-numbers h = rw (sym pe, pt, sym ne, nt, sym je, jt, sym me, mt, sym oe, h) at fits-rest
 
-                  module _ (ot : o ≡ true) (u : Bool) (ue : u ≡ allUpright k boxes) where
-                    pub by-sides : u ≡ false → false ≡ Fits
-                    by-sides h = rw (sym pe, pt, sym ne, nt, sym je, jt, sym me, mt, sym oe, ot, sym ue, h) at fits-rest
-
-                    pub by-places : u ≡ true → (l : Bool) → l ≡ allLocated (length sub) xy → l ≡ Fits
-                    by-places ut l le = rw (sym pe, pt, sym ne, nt, sym je, jt, sym me, mt, sym oe, ot, sym ue, ut, sym le) at fits-rest
+                  pub by-sides : o ≡ true → (u : Bool) → u ≡ allUpright k boxes → u ≡ Fits
+                  by-sides ot u ue = rw (sym pe, pt, sym ne, nt, sym je, jt, sym me, mt, sym oe, ot, sym ue) at fits-rest
 
 -- ---- 8
 module _ (bs : List Box) (ss : List ℕ) (pieces : List Float) (i : Bool) (e : i ≡ illSized bs ss) where

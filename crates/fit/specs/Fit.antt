@@ -8,11 +8,10 @@ use lib.ListN.{length, getD}
 use lib.Ieee.{Float, nan, binary64, lt, le, ofBits}
 use Rattle.float.specs.Small.{absOf}
 use Rattle.geometry.specs.declared.Box.{Box}
-use Rattle.geometry.specs.Plane.{pointAt, boxAt}
+use Rattle.geometry.specs.Plane.{boxAt}
 use Rattle.network.specs.declared.words.Known.{Known}
 use Rattle.network.specs.declared.words.Known.the-variants.{Bus, Unknown}
 use Rattle.network.specs.Words.{stationCount, known}
-use Rattle.runs.specs.Finite.{finitePoint}
 
 -- all of 0, .., n - 1 pass a test
 unfoldable pub each : (ℕ → Bool) → ℕ → Bool
@@ -56,13 +55,9 @@ upright b = not (lt (b .right) (b .left)) && not (lt (b .bottom) (b .top))
 unfoldable pub allUpright : ℕ → List Float → Bool
 allUpright k boxes = each (λ s. upright (boxAt boxes s)) k
 
--- each of n buses has two finite coordinates
-unfoldable pub allLocated : ℕ → List Float → Bool
-allLocated n xy = each (λ i. finitePoint (pointAt xy i)) n
-
 -- 13 is given where this fails
-unfoldable pub fits : List ℕ → List ℤ → List ℤ → List Float → List Float → List ℕ → List Float → List ℕ → Bool
-fits sub from to xy boxes roles pieces branches =
+unfoldable pub fits : List ℕ → List ℤ → List ℤ → List Float → List ℕ → List Float → List ℕ → Bool
+fits sub from to boxes roles pieces branches =
     eqb (length boxes) (4 * stationCount sub)
     && (eqb (length roles) (length from)
     && (eqb (length pieces) (4 * length branches)
@@ -70,5 +65,4 @@ fits sub from to xy boxes roles pieces branches =
     && (allJoin (length sub) from to roles
     && (allModerate boxes
     && (allModerate pieces
-    && (allUpright (stationCount sub) boxes
-    && allLocated (length sub) xy)))))))
+    && allUpright (stationCount sub) boxes))))))

@@ -1,20 +1,16 @@
 // Refusal 13: whether the audited drawing fits its network.
 ghost use mathlib.Core.Path.{_≡_};
-ghost use Prim.Native.Nat.{_*_, _≤_, _<_, _^_};
+ghost use Prim.Native.Nat.{_*_, _≤_};
 ghost use lib.Dec.{eqb};
 ghost use lib.ListN.{length, getD};
-ghost use Rattle.geometry.specs.Plane.{pointAt};
-ghost use Rattle.runs.specs.Finite.{finitePoint};
-ghost use Rattle.fit.specs.Fit.{allNamed, isLine, endAt, isKnown, joins, allJoin, moderate, allModerate, upright, allUpright, allLocated, fits};
+ghost use Rattle.fit.specs.Fit.{allNamed, isLine, endAt, isKnown, joins, allJoin, moderate, allModerate, upright, allUpright, fits};
 use float::small::abs;
-use float::small::is_finite;
 use geometry::Box;
-use geometry::point_at;
+use geometry::box_at;
 use network::words::Known;
 use network::words::known_bus;
 use network::words::station_count;
 use network::words::station_of;
-use runs::run::box_at;
 
 // The branch that piece j names, 0 past the list's end.
 pub fn branch_of(branches: &[u32], j: usize) -> usize
@@ -131,41 +127,13 @@ fn upright(b: Box) -> bool
 
 // Whether all of k boxes are upright.
 fn all_upright(k: usize, boxes: &[f64]) -> bool
-    requires { ⌜ k ≤ 2 ^ 32 ⌝ }
+    requires { ⌜ 4 * k ≤ length (now boxes) ⌝ }
     ensures { λ r. ⌜ r ≡ allUpright k (now (boxes .entry)) ⌝ }
 {
     let mut s = 0;
     while s < k {
         if upright(box_at(boxes, s)) {
             s += 1;
-        } else {
-            return false;
-        }
-    }
-    true
-}
-
-// Whether bus i has two finite coordinates.
-fn located(xy: &[f64], i: usize) -> bool
-    requires { ⌜ i < 2 ^ 32 ⌝ }
-    ensures { λ r. ⌜ r ≡ finitePoint (pointAt (now (xy .entry)) i) ⌝ }
-{
-    let p = point_at(xy, i);
-    if is_finite(p.x) {
-        return is_finite(p.y);
-    }
-    false
-}
-
-// Whether all of n buses have two finite coordinates.
-fn all_located(n: usize, xy: &[f64]) -> bool
-    requires { ⌜ n ≤ 2 ^ 32 ⌝ }
-    ensures { λ r. ⌜ r ≡ allLocated n (now (xy .entry)) ⌝ }
-{
-    let mut i = 0;
-    while i < n {
-        if located(xy, i) {
-            i += 1;
         } else {
             return false;
         }
@@ -191,14 +159,13 @@ pub fn fits(
     sub: &[u32],
     from: &[i64],
     to: &[i64],
-    xy: &[f64],
     boxes: &[f64],
     roles: &[u8],
     pieces: &[f64],
     branches: &[u32],
 ) -> bool
     requires { ⌜ length (now sub) ≤ 4096 ⌝ }
-    ensures { λ r. ⌜ r ≡ fits (now (sub .entry)) (now (from .entry)) (now (to .entry)) (now (xy .entry)) (now (boxes .entry)) (now (roles .entry)) (now (pieces .entry)) (now (branches .entry)) ⌝ }
+    ensures { λ r. ⌜ r ≡ fits (now (sub .entry)) (now (from .entry)) (now (to .entry)) (now (boxes .entry)) (now (roles .entry)) (now (pieces .entry)) (now (branches .entry)) ⌝ }
 {
     let k = station_count(sub);
     if boxes.len() != 4 * k {
@@ -222,8 +189,5 @@ pub fn fits(
     if !all_moderate(pieces) {
         return false;
     }
-    if !all_upright(k, boxes) {
-        return false;
-    }
-    all_located(sub.len(), xy)
+    all_upright(k, boxes)
 }

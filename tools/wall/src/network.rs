@@ -50,7 +50,7 @@ impl Network {
         usize::try_from(number).ok().filter(|&i| i < self.buses.len())
     }
 
-    /// The columns that the library takes. A bus without a place counts as one at (0, 0), there as here.
+    /// The columns that the library takes. A bus without a place has no finite coordinates.
     pub fn input(&self) -> TxLayoutInput {
         TxLayoutInput {
             bus_substation: self.buses.iter().map(|b| b.station).collect(),
@@ -58,7 +58,7 @@ impl Network {
             from: self.branches.iter().map(|b| b.from).collect(),
             to: self.branches.iter().map(|b| b.to).collect(),
             in_service: self.branches.iter().map(|b| b.service).collect(),
-            xy: self.buses.iter().flat_map(|b| b.at.unwrap_or([0.0, 0.0])).collect(),
+            xy: self.buses.iter().flat_map(|b| b.at.unwrap_or([f64::NAN; 2])).collect(),
         }
     }
 
