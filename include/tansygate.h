@@ -23,8 +23,9 @@
 extern "C" {
 #endif
 
-/* Answers: 0, or the lowest refusal that applies.
- * A refusal changes no result list. Refusals 1 to 7 leave the work lists
+/* Answers: 0, or the first refusal that applies, in the order of their numbers, but that 15 is
+ * tested directly after 4 and, in the audit, 13 before 8.
+ * A refusal changes no result list. Refusals 1 to 7 and 15 leave the work lists
  * unchanged too; after any other call all work lists hold zeros. */
 enum {
     TANSYGATE_DONE = 0,               /* drawn or audited */
@@ -42,7 +43,8 @@ enum {
     TANSYGATE_PIECES = 11,            /* pieces outnumber the lent piece lists */
     TANSYGATE_NOT_FINITE = 12,        /* a seed, the unit, a box corner, bar end, crossing place or route point
                                          isn't finite */
-    TANSYGATE_NO_FIT = 13             /* the audited drawing doesn't fit its network */
+    TANSYGATE_NO_FIT = 13,            /* the audited drawing doesn't fit its network */
+    TANSYGATE_VOLTAGE = 15            /* a kv isn't finite and above zero */
 };
 
 /* A twin that isn't there. */

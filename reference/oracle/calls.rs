@@ -67,7 +67,7 @@ fn network(r: &mut Random, most: usize) -> Network {
         _ => r.below(groups),
     };
     let end = |r: &mut Random| if r.one_in(25) { r.within(-2, n as i64 + 1) } else { r.below(n) as i64 };
-    let kv = |r: &mut Random| if r.one_in(12) { r.pick(&EDGES) } else { f64::to_bits(r.pick(&[110.0, 220.0, 380.0])) };
+    let kv = |r: &mut Random| f64::to_bits(r.pick(&[110.0, 110.0, 220.0, 220.0, 380.0, 5e-324, f64::MAX]));
     let mut net = Network {
         sub: (0..n).map(|i| station(r, i) as u32).collect(),
         kv: (0..n).map(|_| kv(r)).collect(),
@@ -76,7 +76,7 @@ fn network(r: &mut Random, most: usize) -> Network {
         live: (0..m).map(|_| if r.one_in(6) { r.pick(&[0, 0, 2, 255]) } else { 1 }).collect(),
         xy: (0..2 * n).map(|_| coordinate(r)).collect(),
     };
-    // lists that do not fit each other
+    // lists that do not fit each other, a voltage that is none
     match r.below(rare(80, most)) {
         0 => drop(net.kv.pop()),
         1 => net.to.push(0),
@@ -85,6 +85,10 @@ fn network(r: &mut Random, most: usize) -> Network {
         4 => net.live.truncate(m / 2),
         5 if n > 0 => net.xy[0] = 1e12f64.next_up(),
         6 => net.xy.push(1.0),
+        7 | 8 if n > 0 => {
+            let i = r.below(n);
+            net.kv[i] = r.pick(&EDGES);
+        }
         _ => {}
     }
     net

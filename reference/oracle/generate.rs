@@ -51,10 +51,11 @@ fn point(r: &mut Random, kind: Points, scale: f64, pool: &[(f64, f64)]) -> (f64,
 }
 
 fn voltage(r: &mut Random, odd: bool) -> u64 {
-    match r.below(if odd { 3 } else { 12 }) {
+    match r.below(if odd { 60 } else { 1200 }) {
         0 => r.pick(&EDGES),
         1 if odd => 0x7FF0_0000_0000_0001 + r.below(3) as u64 | (r.below(2) as u64) << 63,
-        _ => f64::to_bits(r.pick(&[110.0, 110.0, 220.0, 380.0, 13.8, 0.0])),
+        2 => 0,
+        _ => f64::to_bits(r.pick(&[110.0, 110.0, 220.0, 380.0, 13.8, 5e-324, f64::MAX])),
     }
 }
 

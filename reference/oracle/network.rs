@@ -104,13 +104,15 @@ impl Network {
         }
     }
 
-    /// Refusals 1 to 4.
+    /// Refusals 1 to 4, then 15.
     pub fn shape(&self) -> Result<(), u32> {
         let n = self.sub.len();
         refuse(1, n > BUSES || self.from.len() > BRANCHES)?;
         refuse(2, self.kv.len() != n)?;
         refuse(3, self.to.len() != self.from.len())?;
-        refuse(4, self.sub.iter().any(|&s| s as usize >= n))
+        refuse(4, self.sub.iter().any(|&s| s as usize >= n))?;
+        let voltage = |&b: &u64| f64::from_bits(b).is_finite() && f64::from_bits(b) > 0.0;
+        refuse(15, !self.kv.iter().all(voltage))
     }
 
     /// Refusal 6.

@@ -98,7 +98,7 @@ fn worked(c: &mut Check) {
 }
 
 fn refusals(c: &mut Check) {
-    let many = |n: usize| Network { kv: vec![0; n], sub: vec![0; n], ..Network::default() };
+    let many = |n: usize| Network { kv: vec![1; n], sub: vec![0; n], ..Network::default() };
     let with = |net: &Network, options: &Options| number(drawn(net, options));
     let straight = Options { iterations: 0, ..half() };
     c.that("4,096 buses", with(&many(4096), &straight) == 0);
@@ -106,6 +106,8 @@ fn refusals(c: &mut Check) {
     c.that("a short kv", with(&Network { kv: vec![], ..many(1) }, &half()) == 2);
     c.that("a long to", with(&Network { to: vec![0], ..many(1) }, &half()) == 3);
     c.that("station 1 of one bus", with(&Network { sub: vec![1], ..many(1) }, &half()) == 4);
+    c.that("15 after 4", with(&Network { sub: vec![1], kv: vec![0], ..many(1) }, &half()) == 4);
+    c.that("15 before 5", with(&Network { kv: vec![0], ..many(1) }, &searching(21)) == 15);
     c.that("search 20", with(&many(1), &searching(20)) == 0);
     c.that("search 21", with(&many(1), &searching(21)) == 5);
     c.that("fill NaN", with(&many(1), &Options { fill: f64::NAN, ..half() }) == 5);
@@ -193,7 +195,7 @@ fn audits(c: &mut Check) {
     c.that("boxes without size", changed(&|_, d| d.boxes.fill(1.0)) == 8);
     // two buses in one station, with these coordinates; the box's middle is (2, 1) or (3, 4)
     let moved = |xy: &[f64], boxes: [f64; 4]| {
-        let net = Network { sub: vec![0, 0], kv: vec![0; 2], xy: xy.to_vec(), ..Network::default() };
+        let net = Network { sub: vec![0, 0], kv: vec![1; 2], xy: xy.to_vec(), ..Network::default() };
         audit(&net, &Drawing { boxes: boxes.to_vec(), ..Drawing::default() }, &ROOM).map(|f| f.displacement)
     };
     c.that("one bus of two surveyed", moved(&[4.0, 2.0], [1.0, 0.0, 3.0, 2.0]) == Ok(vec![0.0]));
@@ -210,10 +212,13 @@ fn orders(c: &mut Check) {
         let x = drawn(&net, &half()).unwrap().positions;
         x[0] < x[2]
     };
-    c.that("+0 left of -0", !pair([1 << 63, 0]));
-    c.that("a NaN left of infinity", !pair([0x7FF0 << 48, 0x7FF0_0000_0000_0001]));
-    c.that("by payload", pair([0x7FF8_0000_0000_0001, 0x7FF8 << 48]));
-    c.that("a negative NaN last", !pair([0xFFF8 << 48, 0xFFF0 << 48]));
+    c.that("the higher voltage left", pair([2, 1]) && !pair([1, 2]));
+    c.that("the lower bus number left at one voltage", pair([1, 1]));
+    let answer = |kv: u64| number(drawn(&Network { sub: vec![0], kv: vec![kv], ..stations(&[(0.0, 0.0)]) }, &half()));
+    for kv in [0, 1 << 63, 0xBFF0 << 48, 0x7FF0 << 48, 0xFFF0 << 48, 0x7FF8 << 48, 0xFFF8 << 48] {
+        c.that("no voltage", answer(kv) == 15);
+    }
+    c.that("the least and the largest voltage", answer(1) == 0 && answer(0x7FEF_FFFF_FFFF_FFFF) == 0);
     let low = inside::places(&[1.0; 6], 0.25, 0.4, 0.03)[0];
     c.that("a place below its lower end", low == 0.24999999999999992);
     let same = drawn(&joined(stations(&[(0.0, 0.0), (0.0, 9.0)]), 0, 1, 1), &half()).unwrap();

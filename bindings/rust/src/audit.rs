@@ -39,7 +39,7 @@ pub struct TxLayoutQuality {
 /// ```
 ///
 /// # Errors
-/// Refusals 1 to 4, 6, 13 and 8, in this order: 13 where the drawing doesn't fit its network. A drawing that was just made
+/// Refusals 1 to 4, 15, 6, 13 and 8, in this order: 13 where the drawing doesn't fit its network. A drawing that was just made
 /// can be refused with 8, since segment ends are tested too.
 pub fn tx_layout_quality(input: &TxLayoutInput, layout: &TxLayout) -> Result<TxLayoutQuality, Refusal> {
     input.validate()?;

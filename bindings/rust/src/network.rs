@@ -22,8 +22,8 @@ use crate::refusal::Refusal;
 pub struct TxLayoutInput {
     /// Substation of each bus, below n. A substation is occupied if a bus carries its number.
     pub bus_substation: Vec<u32>,
-    /// Nominal kV of each bus: n numbers. They are only ordered, by IEEE 754's totalOrder, so that +0 stands above
-    /// -0 and NaNs have their places.
+    /// Nominal kV of each bus: n numbers, finite and above zero. The original takes 0 for an unknown one; here that is
+    /// refused with 15.
     pub kv: Vec<f64>,
     /// First bus of each branch: m numbers. One below 0 or from n up is unknown, and such a branch isn't drawn.
     pub from: Vec<i64>,
@@ -37,7 +37,7 @@ pub struct TxLayoutInput {
 }
 
 impl TxLayoutInput {
-    /// Whether the columns agree and aren't too long: refusals 1 to 4. The two calls ask this first by themselves.
+    /// Whether the columns agree, aren't too long and hold voltages: refusals 1 to 4 and 15. The two calls ask this first by themselves.
     ///
     /// ```
     /// use tansygate::{Refusal, TxLayoutInput};
@@ -46,7 +46,7 @@ impl TxLayoutInput {
     /// assert_eq!(input.validate(), Err(Refusal::KvLength));
     /// ```
     pub fn validate(&self) -> Result<(), Refusal> {
-        // An audit that is lent nothing looks at these four first; what it says past them is about its lists.
+        // An audit that is lent nothing looks at these five first; what it says past them is about its lists.
         let a = ffi::audit(
             &mut [],
             &mut [],
@@ -68,7 +68,7 @@ impl TxLayoutInput {
             &[],
         );
         match a.number {
-            1..=4 => Refusal::check(a.number),
+            1..=4 | 15 => Refusal::check(a.number),
             _ => Ok(()),
         }
     }

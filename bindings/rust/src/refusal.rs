@@ -1,10 +1,10 @@
 //! Why a network isn't drawn, or a drawing isn't audited.
 use std::fmt;
 
-/// A refusal: the lowest that applies. Its number is the scope's.
+/// A refusal: the first that applies, in the scope's order. Its number is the scope's; 15 comes directly after 4.
 ///
-/// [`tx_schematic_layout`](crate::tx_schematic_layout) gives 1 to 6, 8, 9 and 12,
-/// [`tx_layout_quality`](crate::tx_layout_quality) 1 to 4, 6, 8 and 13. Numbers 7, 10 and 11 are about lists that
+/// [`tx_schematic_layout`](crate::tx_schematic_layout) gives 1 to 4, 15, 5, 6, 8, 9 and 12,
+/// [`tx_layout_quality`](crate::tx_layout_quality) 1 to 4, 15, 6, 13 and 8. Numbers 7, 10 and 11 are about lists that
 /// a caller lends; here the calls lend them, long enough.
 ///
 /// ```
@@ -43,11 +43,13 @@ pub enum Refusal {
     NotFinite = 12,
     /// The audited drawing doesn't fit its network.
     NoFit = 13,
+    /// A `kv` isn't finite and above zero.
+    Voltage = 15,
 }
 
 impl Refusal {
     /// All refusals, by number.
-    pub const ALL: [Refusal; 13] = [
+    pub const ALL: [Refusal; 14] = [
         Refusal::TooMany,
         Refusal::KvLength,
         Refusal::ToLength,
@@ -61,9 +63,10 @@ impl Refusal {
         Refusal::Pieces,
         Refusal::NotFinite,
         Refusal::NoFit,
+        Refusal::Voltage,
     ];
 
-    /// Its number, 1 to 13.
+    /// Its number, 1 to 13 or 15.
     pub fn number(self) -> u32 {
         self as u32
     }
@@ -84,16 +87,17 @@ impl Refusal {
             Refusal::Pieces => "segments outnumber the lent lists",
             Refusal::NotFinite => "a seed, the unit, a box corner, bar end, crossing place or route point isn't finite",
             Refusal::NoFit => "the audited drawing doesn't fit its network",
+            Refusal::Voltage => "a kv isn't finite and above zero",
         }
     }
 
     /// The answer with this number: 0 is no refusal.
     pub(crate) fn check(number: u32) -> Result<(), Refusal> {
-        match number {
-            0 => Ok(()),
-            1..=13 => Err(Refusal::ALL[number as usize - 1]),
-            _ => unreachable!("the library answers 0 to 13"),
+        if number == 0 {
+            return Ok(());
         }
+        let named = Refusal::ALL.into_iter().find(|r| r.number() == number);
+        Err(named.expect("the library answers 0 to 13 or 15"))
     }
 }
 

@@ -49,6 +49,22 @@ fn columns() {
 }
 
 #[test]
+fn voltages() {
+    for kv in [0.0, -0.0, -5e-324, -110.0, f64::INFINITY, f64::NEG_INFINITY, f64::NAN, -f64::NAN] {
+        assert_eq!(shape(&TxLayoutInput { kv: vec![110.0, kv], ..plain(2) }), 15, "{kv}");
+        assert_eq!(shape(&TxLayoutInput { kv: vec![kv, 110.0], ..plain(2) }), 15, "{kv}");
+    }
+    let extreme = TxLayoutInput { kv: vec![5e-324, f64::MAX], ..plain(2) };
+    assert_eq!(number(&extreme, &straight(), Mesh::default()), 0);
+    assert!(extreme.validate().is_ok());
+    // After 4, before 5 and 6.
+    let stray = TxLayoutInput { kv: vec![0.0; 2], ..plain(2) };
+    assert_eq!(shape(&TxLayoutInput { bus_substation: vec![0, 2], ..stray.clone() }), 4);
+    assert_eq!(number(&stray, &TxLayoutOptions { fill: 0.0, ..straight() }, Mesh::default()), 15);
+    assert_eq!(shape(&TxLayoutInput { xy: vec![1e13; 4], ..stray }), 15);
+}
+
+#[test]
 fn options() {
     let o = straight;
     let mesh = Mesh::default();
@@ -167,9 +183,9 @@ fn a_drawing_that_does_not_fit() {
 
 #[test]
 fn numbers_and_words() {
-    for (i, refusal) in Refusal::ALL.into_iter().enumerate() {
-        assert_eq!(refusal.number() as usize, i + 1);
-        assert_eq!(refusal.to_string(), format!("refused {}: {}", i + 1, refusal.words()));
+    for (refusal, number) in Refusal::ALL.into_iter().zip((1..=13).chain([15])) {
+        assert_eq!(refusal.number(), number);
+        assert_eq!(refusal.to_string(), format!("refused {number}: {}", refusal.words()));
     }
     let error: Box<dyn std::error::Error> = Box::new(Refusal::TooMany);
     assert!(error.to_string().contains("4,096 buses"));

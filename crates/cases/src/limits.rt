@@ -54,7 +54,7 @@ fn refusal_of_buses(o: Options, sub: &[u32], kv: &[u64], xy: &[f64]) -> u32 {
 // The refusal of n buses of one station at (0, 0).
 fn refusal_of_count(n: usize) -> u32 {
     let sub = [0u32; 4097];
-    let kv = [0u64; 4097];
+    let kv = [1u64; 4097];
     let xy = [0.0; 8194];
     if n <= 4097 {
         return refusal_of_buses(Options::default(), &sub[0..n], &kv[0..n], &xy[0..2 * n]);
@@ -76,7 +76,7 @@ fn refusal_of_one(search: i32, x: f64) -> u32 {
         route_iterations: d.route_iterations,
     };
     let sub = [0u32; 1];
-    let kv = [0u64; 1];
+    let kv = [1u64; 1];
     let xy = [x, 0.0];
     refusal_of_buses(o, &sub, &kv, &xy)
 }

@@ -9,7 +9,7 @@ use Rattle.geometry.specs.declared.Box.{Box}
 use Rattle.network.specs.declared.options.Options.{Options}
 use Rattle.network.specs.Options.{inRange}
 use Rattle.network.specs.Words.{stationCount, occupied}
-use Rattle.network.specs.Refusal.{refuse, tooMany, kvUnlike, toUnlike, numberTooHigh, tooFar, shapeRefusal}
+use Rattle.network.specs.Refusal.{refuse, tooMany, kvUnlike, toUnlike, numberTooHigh, strayVoltage, tooFar, shapeRefusal}
 use Rattle.placement.specs.Modest.{illSized}
 use Rattle.routes.specs.Routes.{routeRefusal}
 use Rattle.drawing.specs.Network.{Network, Lists, Work, Crossings}
@@ -22,13 +22,14 @@ later-later : (a b c : ℕ) → orLater (orLater a b) c ≡ orLater a (orLater b
 later-later zero b c = refl
 later-later (suc a) b c = refl
 
-first-rows : (a b c d : Bool) (later : ℕ)
-    → orLater (refuse a 1 (refuse b 2 (refuse c 3 (refuse d 4 0)))) later ≡ refuse a 1 (refuse b 2 (refuse c 3 (refuse d 4 later)))
-first-rows true b c d later = refl
-first-rows false true c d later = refl
-first-rows false false true d later = refl
-first-rows false false false true later = refl
-first-rows false false false false later = refl
+first-rows : (a b c d e : Bool) (later : ℕ)
+    → orLater (refuse a 1 (refuse b 2 (refuse c 3 (refuse d 4 (refuse e 15 0))))) later ≡ refuse a 1 (refuse b 2 (refuse c 3 (refuse d 4 (refuse e 15 later))))
+first-rows true b c d e later = refl
+first-rows false true c d e later = refl
+first-rows false false true d e later = refl
+first-rows false false false true e later = refl
+first-rows false false false false true later = refl
+first-rows false false false false false later = refl
 
 next-rows : (a b c d : Bool) (later : ℕ)
     → orLater (refuse a 5 (refuse b 6 (refuse c 7 (refuse d 7 0)))) later ≡ refuse a 5 (refuse b 6 (refuse (c || d) 7 later))
@@ -73,7 +74,7 @@ module _ (O : Options) (N : Network) (L : Lists) (W : Work) (X : Crossings) wher
       let options : ℕ = refuse (not (inRange O)) 5 (refuse (tooFar n (N .xy)) 6 (refuse short 7 (refuse shortWorks 7 0))) in
       number-by (early O N R)
       ∙ later-later shape options (late d R)
-      ∙ first-rows (tooMany (N .station) (N .from)) (kvUnlike (N .station) (N .kv)) (toUnlike (N .from) (N .to)) (numberTooHigh (N .station)) (orLater options (late d R))
+      ∙ first-rows (tooMany (N .station) (N .from)) (kvUnlike (N .station) (N .kv)) (toUnlike (N .from) (N .to)) (numberTooHigh (N .station)) (strayVoltage (N .kv)) (orLater options (late d R))
       ∙ rw (next-rows (not (inRange O)) (tooFar n (N .xy)) short shortWorks (late d R), last-rows ill (not (d .meshFits)) crowded ends)
 
   pub answered : (C : Call) → C ≡ layoutOf O N L W X → Answered O N L W X C

@@ -83,7 +83,7 @@ abbrev pub orLater : ℕ → ℕ → ℕ
 orLater zero later = later
 orLater (suc r) later = suc r
 
--- 1 to 7, 0 where none applies
+-- 1 to 7 and 15, 0 where none applies
 unfoldable pub early : Options → Network → Room → ℕ
 early O N R =
     orLater (shapeRefusal (N .station) (N .kv) (N .from) (N .to))
@@ -196,7 +196,7 @@ answerFor r d = answerBy r (d .unit) (d .bounds) (length (d .pieces))
 unfoldable pub callLate : ℕ → Drawing → Lists → Work → Crossings → Call
 callLate r d L W X = call (answerFor r d) (listsAfter r (listsOf d) L) (clearedWork W) (clearedCrossings X)
 
--- by the early refusal: 1 to 7 leave every list unchanged
+-- by the early refusal: 1 to 7 and 15 leave every list unchanged
 unfoldable pub callEarly : ℕ → Options → Network → Lists → Work → Crossings → Call
 callEarly zero O N L W X = let d = drawing O N in callLate (late d (roomOf L W X)) d L W X
 callEarly (suc r) O N L W X = call (Refused (suc r)) L W X

@@ -10,7 +10,7 @@ use Rattle.geometry.specs.declared.Box.{Box}
 use Rattle.network.specs.Words.{stationCount, busCounts, occupied}
 use Rattle.network.specs.Seed.{seeds}
 use Rattle.network.specs.Views.{boxesIn}
-use Rattle.network.specs.Refusal.{refuse, tooMany, kvUnlike, toUnlike, numberTooHigh, shapeRefusal, tooFar}
+use Rattle.network.specs.Refusal.{refuse, tooMany, kvUnlike, toUnlike, numberTooHigh, strayVoltage, shapeRefusal, tooFar}
 use Rattle.cells.specs.Index.{indexLength}
 use Rattle.runs.specs.Lists.{after}
 use Rattle.fit.specs.Fit.{fits}
@@ -38,7 +38,7 @@ tooShort n k p R =
     ltb (R .displacement) k || (ltb (R .spacing) k || (ltb (R .relative) p
     || (ltb (R .stations) (2 * n) || (ltb (R .spare) n || (ltb (R .keys) n || (ltb (R .points) (2 * n) || (ltb (R .path) (2 * n) || ltb (R .index) (indexLength n))))))))
 
--- 1 to 4, 6 and 7, 0 where none applies
+-- 1 to 4, 15, 6 and 7, 0 where none applies
 unfoldable pub early : Drawn → Room → ℕ
 early D R =
     let shape = shapeRefusal (D .station) (D .kv) (D .from) (D .to) in
@@ -61,7 +61,7 @@ unfoldable pub late : Drawn → ℕ
 late D =
     lateBy (fits (D .station) (D .from) (D .to) (D .boxes) (D .roles) (D .pieces) (D .branches)) (illDrawn (boxesOf D) (stationsOf D) (D .pieces))
 
--- 01's order, 1 to 4, 6, 7, 13, then 8: the first whose condition holds gives the number, 0 where none does.
+-- 01's order, 1 to 4, 02's 15, 6, 7, 13, then 8: the first whose condition holds gives the number, 0 where none does.
 unfoldable pub auditNumber : Drawn → Room → ℕ
 auditNumber D R =
     let n = length (D .station) in
@@ -69,10 +69,11 @@ auditNumber D R =
     (refuse (kvUnlike (D .station) (D .kv)) 2
     (refuse (toUnlike (D .from) (D .to)) 3
     (refuse (numberTooHigh (D .station)) 4
+    (refuse (strayVoltage (D .kv)) 15
     (refuse (tooFar n (D .xy)) 6
     (refuse (tooShort n (stationCount (D .station)) (length (D .branches)) R) 7
     (refuse (not (fits (D .station) (D .from) (D .to) (D .boxes) (D .roles) (D .pieces) (D .branches))) 13
-    (refuse (illDrawn (boxesOf D) (stationsOf D) (D .pieces)) 8 0)))))))
+    (refuse (illDrawn (boxesOf D) (stationsOf D) (D .pieces)) 8 0))))))))
 
 -- ---- the figures
 
@@ -125,7 +126,7 @@ answerBy (suc r) f = Refused (suc r)
 unfoldable pub callLate : ℕ → Drawn → Lists → Work → Call
 callLate r D L W = call (answerBy r (figuresOf D)) (listsAfter r (listsOf D) L) (cleared W)
 
--- by the early refusal: 1 to 7 leave every list unchanged
+-- by the early refusal: 1 to 7 and 15 leave every list unchanged
 unfoldable pub callEarly : ℕ → Drawn → Lists → Work → Call
 callEarly zero D L W = callLate (late D) D L W
 callEarly (suc r) D L W = call (Refused (suc r)) L W

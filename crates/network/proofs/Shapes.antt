@@ -9,7 +9,7 @@ use lib.IntN.{ℤ}
 use lib.ListN.{length}
 use borrow.Author.Tests.{ltb-false, eqb-true}
 use Rattle.network.specs.Words.{stationCount}
-use Rattle.network.specs.Refusal.{refuse, shapeRefusal}
+use Rattle.network.specs.Refusal.{refuse, strayVoltage, shapeRefusal}
 
 pub test-on : (b : Bool) → not b ≡ false → b ≡ true
 test-on true h = refl
@@ -23,7 +23,7 @@ pub neither : (a b : Bool) → (a || b) ≡ false → (a ≡ false) × (b ≡ fa
 neither true b h = absurd (true≢false h)
 neither false b h = (refl, h)
 
--- ---- refusals 1 to 4
+-- ---- refusals 1 to 4 and 15
 
 pub record Shape (sub kv : List ℕ) (from to : List ℤ) : Type 0 where
   pub few : length sub ≤ 4096
@@ -32,17 +32,18 @@ pub record Shape (sub kv : List ℕ) (from to : List ℤ) : Type 0 where
   pub ends : length to ≡ length from
   pub below : stationCount sub ≤ length sub
 
-none-of : (a b c d : Bool) → 0 ≡ refuse a 1 (refuse b 2 (refuse c 3 (refuse d 4 0))) → (a ≡ false) × (b ≡ false) × (c ≡ false) × (d ≡ false)
-none-of true b c d h = absurd (omega (arith, h))
-none-of false true c d h = absurd (omega (arith, h))
-none-of false false true d h = absurd (omega (arith, h))
-none-of false false false true h = absurd (omega (arith, h))
-none-of false false false false h = (refl, refl, refl, refl)
+none-of : (a b c d e : Bool) → 0 ≡ refuse a 1 (refuse b 2 (refuse c 3 (refuse d 4 (refuse e 15 0)))) → (a ≡ false) × (b ≡ false) × (c ≡ false) × (d ≡ false) × (e ≡ false)
+none-of true b c d e h = absurd (omega (arith, h))
+none-of false true c d e h = absurd (omega (arith, h))
+none-of false false true d e h = absurd (omega (arith, h))
+none-of false false false true e h = absurd (omega (arith, h))
+none-of false false false false true h = absurd (omega (arith, h))
+none-of false false false false false h = (refl, refl, refl, refl, refl)
 
 pub shape-fits : (sub kv : List ℕ) (from to : List ℤ) → 0 ≡ shapeRefusal sub kv from to → Shape sub kv from to
 unfolding shapeRefusal
 shape-fits sub kv from to h =
-    let z = none-of _ _ _ _ h in
+    let z = none-of _ _ _ _ (strayVoltage kv) h in
     let m = neither _ _ (z .0) in
     record {
       few = ltb-false _ _ (m .0);

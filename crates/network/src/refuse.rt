@@ -1,14 +1,40 @@
-// The refusals that the input alone decides: 1 to 4 and 6, and whether numbers are finite.
+// The refusals that the input alone decides: 1 to 4, 15 and 6, and whether numbers are finite.
 ghost use mathlib.Core.Path.{_≡_};
 ghost use Prim.Native.Nat.{_+_, _<_};
-ghost use Rattle.network.specs.Refusal.{shapeRefusal, above, farOut, tooFar, everyFinite};
+ghost use Rattle.network.specs.Refusal.{isVoltage, strayVoltage, shapeRefusal, above, farOut, tooFar, everyFinite};
 use crate::words::station_count;
+use float::bits::of_bits;
 use float::small::abs;
 use float::small::is_finite;
 use geometry::number_at;
 use geometry::point_at;
 
-// 1 to 4, 0 where none applies.
+// Whether a pattern is that of a voltage: finite and above zero.
+fn is_voltage(pattern: u64) -> bool
+    ensures { λ r. ⌜ r ≡ isVoltage pattern ⌝ }
+{
+    let v = of_bits(pattern);
+    if is_finite(v) {
+        return 0.0 < v;
+    }
+    false
+}
+
+// 15: whether one of these isn't a voltage.
+fn stray_voltage(kv: &[u64]) -> bool
+    ensures { λ r. ⌜ r ≡ strayVoltage (now (kv .entry)) ⌝ }
+{
+    let mut i = 0;
+    while i < kv.len() {
+        if !is_voltage(kv[i]) {
+            return true;
+        }
+        i += 1;
+    }
+    false
+}
+
+// 1 to 4, then 15, 0 where none applies.
 pub fn shape_refusal(sub: &[u32], kv: &[u64], from: &[i64], to: &[i64]) -> u32
     ensures { λ r. ⌜ r ≡ shapeRefusal (now (sub .entry)) (now (kv .entry)) (now (from .entry)) (now (to .entry)) ⌝ }
 {
@@ -26,6 +52,9 @@ pub fn shape_refusal(sub: &[u32], kv: &[u64], from: &[i64], to: &[i64]) -> u32
     }
     if station_count(sub) > sub.len() {
         return 4;
+    }
+    if stray_voltage(kv) {
+        return 15;
     }
     0
 }

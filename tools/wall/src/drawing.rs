@@ -63,6 +63,7 @@ fn explained(network: &Network, refusal: Refusal) -> Fault {
     let blamed = match refusal {
         Refusal::TooMany => too_many(network),
         Refusal::StationNumber => station_number(network),
+        Refusal::Voltage => stray_voltage(network),
         Refusal::TooFar => too_far(network),
         Refusal::IllSized => farthest(network),
         _ => None,
@@ -91,6 +92,12 @@ fn station_number(network: &Network) -> Option<String> {
     let bus = network.buses.iter().position(|b| b.station as usize >= n)?;
     let station = network.buses[bus].station;
     Some(format!("{} has substation {station}, and there are {}", network.bus_row(bus), counted(n, "bus", "buses")))
+}
+
+fn stray_voltage(network: &Network) -> Option<String> {
+    let bus = network.buses.iter().position(|b| !(b.kv.is_finite() && b.kv > 0.0))?;
+    let kv = network.buses[bus].kv;
+    Some(format!("{} has kv {kv:?}; 0 for an unknown voltage is not taken", network.bus_row(bus)))
 }
 
 fn counted(n: usize, one: &str, more: &str) -> String {

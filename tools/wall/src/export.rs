@@ -153,12 +153,12 @@ fn number(cell: &Cell, file: &str, what: &str) -> Result<f64, Fault> {
 }
 
 fn voltage(cell: &Cell, file: &str) -> Result<f64, Fault> {
-    let what = "a voltage in kV, a decimal number from 0 up";
+    let what = "a voltage in kV, a decimal number above 0 (0 for an unknown one is not taken)";
     let kv = number(cell, file, what)?;
-    if kv < 0.0 {
+    if kv <= 0.0 {
         return Err(Fault::content(file, cell.place, format!("expected {what}, found {}", shown(&cell.text))));
     }
-    Ok(kv.abs())
+    Ok(kv)
 }
 
 /// A bus's place; it has none where a coordinate is empty.

@@ -47,10 +47,9 @@ pub fn thousands(n: usize) -> String {
     groups.join(",")
 }
 
-/// A voltage in kV; 0 stands for an unknown one.
+/// A voltage in kV.
 pub fn voltage(kv: f64) -> String {
     match kv.abs() {
-        0.0 => "unknown".to_string(),
         a if a.is_finite() && (0.001..1e6).contains(&a) => format!("{kv} kV"),
         _ => format!("{kv:e} kV"),
     }
@@ -80,6 +79,6 @@ mod tests {
     fn shown_numbers() {
         assert_eq!([short(0.0), short(1.234), short(45.67), short(1234.5)], ["0.00", "1.23", "45.7", "1234"]);
         assert_eq!([thousands(7), thousands(4096), thousands(1234567)], ["7", "4,096", "1,234,567"]);
-        assert_eq!([voltage(66.0), voltage(0.4), voltage(0.0)], ["66 kV", "0.4 kV", "unknown"]);
+        assert_eq!([voltage(66.0), voltage(0.4), voltage(5e-324)], ["66 kV", "0.4 kV", "5e-324 kV"]);
     }
 }

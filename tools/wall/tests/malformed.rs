@@ -36,7 +36,7 @@ fn refused(folder: &Folder, network: &str) -> String {
 
 const BUS_HEADER: &str = "expected a header line with the columns name, substation, kv, x, y";
 const BRANCH_HEADER: &str = "expected a header line with the columns name, from, to, in_service";
-const KV: &str = "expected a voltage in kV, a decimal number from 0 up";
+const KV: &str = "expected a voltage in kV, a decimal number above 0 (0 for an unknown one is not taken)";
 const X: &str = "expected a coordinate x, a decimal number or nothing";
 const SERVICE: &str = "expected 1, true or yes (in service), or 0, false or no (open)";
 
@@ -49,6 +49,8 @@ fn bus_files() {
         ("A,S,,0,0\n", &format!("2:5: {KV}, found nothing")),
         ("A,S,66 kV,0,0\n", &format!("2:5: {KV}, found '66 kV'")),
         ("A,S,-66,0,0\n", &format!("2:5: {KV}, found '-66'")),
+        ("A,S,0,0,0\n", &format!("2:5: {KV}, found '0'")),
+        ("A,S,-0,0,0\n", &format!("2:5: {KV}, found '-0'")),
         ("A,S,NaN,0,0\n", &format!("2:5: {KV}, found 'NaN'")),
         ("A,S,1e999,0,0\n", &format!("2:5: {KV}, found '1e999'")),
         ("A,S,66,east,0\n", &format!("2:8: {X}, found 'east'")),

@@ -1,5 +1,6 @@
 -- `network::refuse::shape_refusal` meets its contract: each answer by the tests that led there.
 -- Assumes nothing.
+use mathlib.Core.Path.{sym, _∙_}
 use native.Mathlib.Omega.{arith}
 use borrow.Author.Tests.{lt-ltb, le-ltb, eq-eqb, ne-eqb}
 use lib.ListN.{length}
@@ -32,11 +33,18 @@ returns-5 : tie.Need-returns-5
 unfolding shapeRefusal
 returns-5 c = rw (le-ltb 4096 (length (c .before .before .before .before .before .before .before .before .args .sub .now)) (c .before .before .before .before .before .if1 .left), le-ltb 8192 (length (c .before .before .before .before .before .before .before .before .args .from .now)) (c .before .before .before .before .if2 .left), eq-eqb (length (c .before .before .before .before .before .before .before .before .args .kv .now)) (length (c .before .before .before .before .before .before .before .before .args .sub .now)) (c .before .before .before .if3 .left), eq-eqb (length (c .before .before .before .before .before .before .before .before .args .to .now)) (length (c .before .before .before .before .before .before .before .before .args .from .now)) (c .before .before .if4 .left), lt-ltb (length (c .before .before .before .before .before .before .before .before .args .sub .now)) (stationCount (c .before .before .before .before .before .before .before .before .args .sub .now)) (omega (arith, c .before .station-count .ensures .0, c .if5 .taken)))
 
+stray-voltage-requires : tie.Need-stray-voltage-requires
+stray-voltage-requires c κs = search needs
+
 returns-6 : tie.Need-returns-6
 unfolding shapeRefusal
-returns-6 c = rw (le-ltb 4096 (length (c .before .before .before .before .before .before .before .before .args .sub .now)) (c .before .before .before .before .before .if1 .left), le-ltb 8192 (length (c .before .before .before .before .before .before .before .before .args .from .now)) (c .before .before .before .before .if2 .left), eq-eqb (length (c .before .before .before .before .before .before .before .before .args .kv .now)) (length (c .before .before .before .before .before .before .before .before .args .sub .now)) (c .before .before .before .if3 .left), eq-eqb (length (c .before .before .before .before .before .before .before .before .args .to .now)) (length (c .before .before .before .before .before .before .before .before .args .from .now)) (c .before .before .if4 .left), le-ltb (length (c .before .before .before .before .before .before .before .before .args .sub .now)) (stationCount (c .before .before .before .before .before .before .before .before .args .sub .now)) (omega (arith, c .before .station-count .ensures .0, c .if5 .left)))
+returns-6 c = rw (le-ltb 4096 (length (c .before .before .before .before .before .before .before .before .before .before .args .sub .now)) (c .before .before .before .before .before .before .before .if1 .left), le-ltb 8192 (length (c .before .before .before .before .before .before .before .before .before .before .args .from .now)) (c .before .before .before .before .before .before .if2 .left), eq-eqb (length (c .before .before .before .before .before .before .before .before .before .before .args .kv .now)) (length (c .before .before .before .before .before .before .before .before .before .before .args .sub .now)) (c .before .before .before .before .before .if3 .left), eq-eqb (length (c .before .before .before .before .before .before .before .before .before .before .args .to .now)) (length (c .before .before .before .before .before .before .before .before .before .before .args .from .now)) (c .before .before .before .before .if4 .left), le-ltb (length (c .before .before .before .before .before .before .before .before .before .before .args .sub .now)) (stationCount (c .before .before .before .before .before .before .before .before .before .before .args .sub .now)) (omega (arith, c .before .before .before .station-count .ensures .0, c .before .before .if5 .left)), sym (c .before .stray-voltage .ensures) ∙ c .if6 .taken)
+
+returns-7 : tie.Need-returns-7
+unfolding shapeRefusal
+returns-7 c = rw (le-ltb 4096 (length (c .before .before .before .before .before .before .before .before .before .before .args .sub .now)) (c .before .before .before .before .before .before .before .if1 .left), le-ltb 8192 (length (c .before .before .before .before .before .before .before .before .before .before .args .from .now)) (c .before .before .before .before .before .before .if2 .left), eq-eqb (length (c .before .before .before .before .before .before .before .before .before .before .args .kv .now)) (length (c .before .before .before .before .before .before .before .before .before .before .args .sub .now)) (c .before .before .before .before .before .if3 .left), eq-eqb (length (c .before .before .before .before .before .before .before .before .before .before .args .to .now)) (length (c .before .before .before .before .before .before .before .before .before .before .args .from .now)) (c .before .before .before .before .if4 .left), le-ltb (length (c .before .before .before .before .before .before .before .before .before .before .args .sub .now)) (stationCount (c .before .before .before .before .before .before .before .before .before .before .args .sub .now)) (omega (arith, c .before .before .before .station-count .ensures .0, c .before .before .if5 .left)), sym (c .before .stray-voltage .ensures) ∙ c .if6 .left)
 
 pub shape-refusal-spec : {M : Type 1} → statement M
 shape-refusal-spec =
     tie.close
-    (tie.spec returns returns-2 returns-3 returns-4 station-count-requires returns-5 returns-6)
+    (tie.spec returns returns-2 returns-3 returns-4 station-count-requires returns-5 stray-voltage-requires returns-6 returns-7)
