@@ -4,6 +4,8 @@ pub mod Searching
 pub mod Placing
 pub mod PlaceLaw
 pub mod PlaceSizes
+pub mod SearchDoubles
+pub mod PlaceDoubles
 pub mod Cases
 pub mod Rank
 pub mod Clear

@@ -1,3 +1,4 @@
 pub mod Place
 pub mod Views
 pub mod Modest
+pub mod Doubles

@@ -2,3 +2,4 @@ pub mod Size
 pub mod Unit
 pub mod Scale
 pub mod Views
+pub mod Doubles

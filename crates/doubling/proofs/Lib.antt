@@ -1,0 +1,16 @@
+pub mod Seeds
+pub mod Frames
+pub mod Sizes
+pub mod Stage
+pub mod Bars
+pub mod Runs
+pub mod Whole
+pub mod Premises
+pub mod Distinct
+pub mod Passed
+pub mod Drawn
+pub mod Powers
+pub mod Buses
+pub mod Early
+pub mod Calls
+pub mod Example

@@ -1,0 +1,41 @@
+-- Boxes and frames of two drawings side by side, the second one's doubled, and what a search finds in both. Definitions only.
+use Prim.Native.Nat.{ℕ, _+_, _*_, _≤_}
+use mathlib.Core.List.{List, [], _∷_}
+use lib.IntN.{natAbs}
+use Rattle.float.specs.Double.{Limit, Doubles}
+use Rattle.geometry.specs.declared.Box.{Box}
+use Rattle.units.specs.Doubles.{DoublesPoint, DoublesSize}
+use Rattle.offsets.specs.declared.offset.Offset.{Offset}
+use Rattle.placement.specs.declared.search.Found.{Found}
+use Rattle.placement.specs.declared.search.Found.the-variants.{At, Nowhere}
+use Rattle.placement.specs.Place.{Frame}
+
+pub record DoublesBox (lo top : ℕ) (b b' : Box) : Type 0 where
+  pub left : Doubles lo top (b .left) (b' .left)
+  pub top-side : Doubles lo top (b .top) (b' .top)
+  pub right : Doubles lo top (b .right) (b' .right)
+  pub bottom : Doubles lo top (b .bottom) (b' .bottom)
+
+pub record DoublesFrame (lo top : ℕ) (r r' : Frame) : Type 0 where
+  pub half : DoublesSize lo top (r .half) (r' .half)
+  pub f : Doubles lo top (r .f) (r' .f)
+
+abbrev pub DoublesFound : ℕ → ℕ → Found → Found → Type 0
+DoublesFound lo top (At c) (At c') = DoublesPoint lo top c c'
+DoublesFound lo top (At c) Nowhere = ⊥
+DoublesFound lo top Nowhere (At c') = ⊥
+DoublesFound lo top Nowhere Nowhere = Unit
+
+-- offsets of at most 20 either way
+abbrev pub Small : List Offset → Type 0
+Small [] = Unit
+Small (o ∷ os) = (natAbs (o .a) ≤ 20) × (natAbs (o .b) ≤ 20) × Small os
+
+-- the limits that a search from seeds of up to t grains and half sides of up to u keeps to
+pub record Reach (lo t u : ℕ) : Type 0 where
+  pub fine : 52 ≤ lo
+  pub offset : Limit (20 * u)
+  pub widened : Limit (80 * u)
+  pub place : Limit (t + 80 * u)
+  pub box : Limit (t + 80 * u + u)
+  pub buffer : Limit (t + 80 * u + u + u)
