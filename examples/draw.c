@@ -32,7 +32,7 @@ int main(void) {
     uint32_t branches[PIECES];
     uint32_t stations[2 * N], buses[3 * N], ends[4 * M + 4], sorted[SORTING], spare[SORTING];
     uint64_t keys[SORTING];
-    double places[2 * N], blocks[3 * N], frames[4 * N], path[2 * N + 16];
+    double places[2 * N + 4 * M], blocks[3 * N], frames[4 * N], path[2 * N + 16];
     uint32_t crossing_numbers[3];
     double crossing_places[1], crossing_ways[2];
 

@@ -96,10 +96,10 @@ tansygate_plotted tansygate_layout(
     uint32_t *sorted, size_t sorted_len,                    /* n + 2m + L + 1681 and at least I; also 1 a crossing */
     uint32_t *spare, size_t spare_len,                      /* n + 2m + L + 1681; also 1 a crossing */
     uint64_t *keys, size_t keys_len,                        /* n + 2m + L + 1681; also 1 a crossing */
-    double *places, size_t places_len,                      /* 2n */
+    double *places, size_t places_len,                      /* 2n + 4m */
     double *blocks, size_t blocks_len,                      /* 3n */
     double *frames, size_t frames_len,                      /* 4n */
-    double *path, size_t path_len,                          /* 2n + 2L + 16 */
+    double *path, size_t path_len,                          /* 2n + 3L + 16 */
     /* The crossing list: these three and sorted, spare and keys. It holds as many crossings as each of the six
        has room for; with 0 iterations or fewer than three occupied stations there are none. */
     uint32_t *crossing_numbers, size_t crossing_numbers_len, /* any; 3 a crossing */

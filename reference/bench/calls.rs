@@ -21,7 +21,7 @@ impl Lists {
         let (n, m, k, l) = (net.sub.len(), net.from.len(), net.stations(), mesh.corners.len());
         let sorting = (n + 2 * m + l + 1681).max(crossings);
         let sorted = sorting.max(library::index_length(n));
-        let floats = [2 * n, 4 * n, 4 * k, k, 4 * pieces, 2 * n, 3 * n, 4 * n, 2 * n + 2 * l + 16, crossings, 2 * crossings];
+        let floats = [2 * n, 4 * n, 4 * k, k, 4 * pieces, 2 * n + 4 * m, 3 * n, 4 * n, 2 * n + 3 * l + 16, crossings, 2 * crossings];
         let wholes = [pieces, 2 * n, 3 * n, 4 * m + 4 * l + 4, sorted, sorting, 3 * crossings];
         Self {
             floats: floats.iter().map(|&length| vec![0.0; length]).collect(),

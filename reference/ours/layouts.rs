@@ -17,7 +17,7 @@ fn work_lengths(call: &Call, r: &mut Random) -> [usize; 10] {
     let sorting = n + 2 * m + mesh + 1681;
     let sorted = sorting.max(library::index_length(n));
     let mut lengths =
-        [2 * n, 3 * n, 4 * m + 4 * mesh + 4, sorted, sorting, sorting, 2 * n, 3 * n, 4 * n, 2 * n + 2 * mesh + 16];
+        [2 * n, 3 * n, 4 * m + 4 * mesh + 4, sorted, sorting, sorting, 2 * n + 4 * m, 3 * n, 4 * n, 2 * n + 3 * mesh + 16];
     let short = loop {
         let i = r.below(10);
         if lengths[i] > 0 {

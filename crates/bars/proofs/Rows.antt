@@ -24,7 +24,7 @@ use Rattle.network.specs.declared.words.Kind.the-variants.{Undrawn, Open, Inter
 use Rattle.network.specs.Words.{Safe, stationOf, kindBy, kindFor, known, live, kindOf, kinds, kindAt}
 use Rattle.network.specs.Views.{columnsIn, fromRowsIn, toRowsIn}
 use Rattle.bars.specs.Bar.{Span, bare, rows, spanOf, include, includeEnd, includeBranch, spanTo, spans}
-use Rattle.bars.specs.Span.{spanAt, spansIn, firstWith, Included}
+use Rattle.bars.specs.Stages.Span.{spanAt, spansIn, firstWith, Included}
 
 -- ---- the two numbers of a bus's rows with one more row
 pub first-none : (first past row : ℕ) → past ≡ 0 → row ≡ firstWith first past row

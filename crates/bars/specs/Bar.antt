@@ -60,12 +60,12 @@ reach box f x bare = record { x = x; y0 = box .top ⊕ pad ⊗ f; y1 = box .top 
 reach box f x (rows a b) = record { x = x; y0 = rowY box f a ⊖ f½ ⊗ f; y1 = rowY box f b ⊕ f½ ⊗ f }
 
 -- If shorter than 2 × f it gets that length about its middle.
-abbrev pub middle : Bar → Float
-middle b = (b .y0 ⊕ b .y1) ⊘ f2
+abbrev pub barMiddle : Bar → Float
+barMiddle b = (b .y0 ⊕ b .y1) ⊘ f2
 
 unfoldable pub lengthened : Float → Bar → Bar
 lengthened f b =
-    let l : Bar = record { x = b .x; y0 = middle b ⊖ minBar ⊗ f ⊘ f2; y1 = middle b ⊕ minBar ⊗ f ⊘ f2 } in
+    let l : Bar = record { x = b .x; y0 = barMiddle b ⊖ minBar ⊗ f ⊘ f2; y1 = barMiddle b ⊕ minBar ⊗ f ⊘ f2 } in
     pick (lt (b .y1 ⊖ b .y0) (minBar ⊗ f)) l b
 
 unfoldable pub barFor : Box → Float → ℕ → Span → Bar
@@ -89,7 +89,7 @@ barAt bs i = getD bs i (record { x = f0; y0 = f0; y1 = f0 })
 
 -- `positions` holds its x and middle.
 unfoldable pub position : Bar → Point
-position b = point (b .x) (middle b)
+position b = point (b .x) (barMiddle b)
 
 -- A row end has its bar's x and its row's y.
 unfoldable pub rowEnd : List ℕ → List Float → List Box → List Bar → ℕ → ℕ → Point

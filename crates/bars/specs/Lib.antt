@@ -1,3 +1,3 @@
 pub mod Bar
 pub mod Exit
-pub mod Span
+pub mod Stages

@@ -7,7 +7,7 @@ ghost use Rattle.order.specs.Table.{table};
 ghost use Rattle.network.specs.Words.{kindOf, kinds};
 ghost use Rattle.network.specs.Views.{columnsIn, fromRowsIn, toRowsIn};
 ghost use Rattle.bars.specs.Bar.{bare, includeEnd, includeBranch, spans};
-ghost use Rattle.bars.specs.Span.{spansIn, firstWith, Included};
+ghost use Rattle.bars.specs.Stages.Span.{spansIn, firstWith, Included};
 use network::words::Kind;
 use network::words::kind_of;
 use order::at;

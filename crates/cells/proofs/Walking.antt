@@ -12,7 +12,7 @@ use Rattle.geometry.specs.declared.Point.{Point}
 use Rattle.cells.specs.declared.walk.Best.{Best}
 use Rattle.cells.specs.declared.walk.Best.the-variants.{Nothing}
 use Rattle.cells.specs.Cells.{cellOf, ahead, signOf, firstSide, sideStep, sameCell, Ray, Spot, atEnd, settled, onward, walk, rayOf, spotOf, cellCount, walked}
-use Rattle.cells.specs.Parts.{ray, spot}
+use Rattle.cells.specs.Stages.Parts.{ray, spot}
 
 -- one cell of a walk: what is found there, and what the rest of the walk makes of it
 abbrev pub cellStep : Ray → Spot → (Best → Best) → Best → Best

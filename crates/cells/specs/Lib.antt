@@ -1,3 +1,3 @@
 pub mod Cells
 pub mod Index
-pub mod Parts
+pub mod Stages

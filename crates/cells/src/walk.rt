@@ -12,7 +12,7 @@ ghost use Rattle.cells.specs.Cells as Cells;
 ghost use Rattle.placement.specs.Place.{boxIn};
 ghost use Rattle.cells.specs.Cells.{covers, far, nearer, struck, settled, found, firstHit, walked};
 ghost use Rattle.cells.specs.Index.{tableSide, entered, lookIn, Cleared, FilledFor, Indexed};
-ghost use Rattle.cells.specs.Parts.{ray, spot};
+ghost use Rattle.cells.specs.Stages.Parts.{ray, spot};
 use crate::cells::box_in;
 use crate::cells::cell_of;
 use crate::cells::covers;

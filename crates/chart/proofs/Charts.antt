@@ -17,29 +17,30 @@ use Rattle.geometry.specs.declared.Box.{Box}
 use Rattle.network.specs.declared.options.Options.{Options}
 use Rattle.network.specs.Words.{stationOf, busCounts, kinds, kindOf, occupied}
 use Rattle.network.specs.Views.{countsIn, fromRowsIn, toRowsIn, pointsIn, boxesIn}
-use Rattle.units.specs.Views.{scalesIn}
-use Rattle.placement.specs.Modest.{illSized}
-use Rattle.placement.specs.Views.{framesIn}
+use Rattle.units.specs.Stages.Views.{scalesIn}
+use Rattle.placement.specs.Sized.{illSized}
+use Rattle.placement.specs.Stages.Views.{framesIn}
 use Rattle.bars.specs.declared.Bar.{Bar}
 use Rattle.cells.specs.Cells.{cellSize}
-use Rattle.detour.specs.Paths.{pathIn}
+use Rattle.detour.specs.Stages.Paths.{pathIn}
 use Rattle.runs.specs.Run as Run
 use Rattle.runs.specs.Run.{Scene}
 use Rattle.runs.specs.Finite.{allOf, finitePoint}
-use Rattle.runs.specs.Views.{wayOf, waysOf, held, lead, Fits}
-use Rattle.pieces.specs.Pieces.{runsIn}
-use Rattle.results.specs.Bars.{barsIn}
+use Rattle.runs.specs.Stages.Views.{wayOf, wayCount, held, lead, Fits}
+use Rattle.pieces.specs.Stages.Pieces.{runsIn}
+use Rattle.results.specs.Stages.Bars.{barsIn}
 use Rattle.crossings.specs.Route as Route
-use Rattle.crossings.specs.Views.{Grid, grid, linesIn}
+use Rattle.crossings.specs.Stages.Views.{Grid, grid, linesIn}
 use Rattle.crossings.specs.Gap.{gapOf}
+use Rattle.exits.proofs.Keeping.{exited-rows}
 use Rattle.routes.specs.Routes.{meshUsed, meshFits, crossingsOf, routeRefusal}
-use Rattle.routes.specs.Routed.{routedIn, Routes}
+use Rattle.routes.specs.Stages.Routed.{routedIn, Routes}
 use Rattle.drawing.specs.Network.{Network}
 use Rattle.drawing.specs.Drawing as Drawing
 use Rattle.drawing.specs.Drawing.{planned, drawing, straightScene, ledScene, routedScene, routedOf, sceneOf}
 use Rattle.drawing.specs.Answer.{routedBy}
-use Rattle.chart.specs.Held.{Holds, Laid}
-use Rattle.chart.specs.Charted.{routedLate, Charted}
+use Rattle.chart.specs.Stages.Held.{Holds, Laid}
+use Rattle.chart.specs.Stages.Charted.{routedLate, Charted}
 use Rattle.chart.proofs.Scenes.{blocksBy, barsBy, bars-held, sceneBy, lines-held, runs-held}
 
 routed-cong : (S S' : Scene) (a a' : List ℕ) (b b' : List Float) (c c' : Float) (d d' e e' : List ℕ)
@@ -124,13 +125,14 @@ module _ (o : Options) (N : Network) (k : ℕ) (unit : Float) (fin : Bool) (stat
         (Drawing.waysOf (routedOf o N (planned o N)) (crossingsOf (routedOf o N (planned o N)) its))
         refl
         c
+        (exited-rows (N .station) (N .from) (N .to) (N .service) unit blocks places frames ends ends' (R .fromRows) (R .toRows) (G .exits))
         (λ e h. R .along z e h ∙ way-is e h)
         ∙ ap Run.runs
         (led-cong _ _ (ltb 0 its) _ _ _ _ _ _ (scene-is ends' (R .fromRows) (R .toRows)) (ap occupied counts-are) (ap gapOf (G .holds .unitIs)) refl)
 
     -- The lists hold the drawing with its routes.
     pub charted : (ill g : Bool) → g ≡ (fin && f) → ill ≡ illSized (boxesIn k frames) (occupied (countsIn k stations)) → ill ≡ false
-        → 2 * min (length (N .corners)) 24576 + 16 ≤ length path
+        → 2 * k + 3 * min (length (N .corners)) 24576 + 16 ≤ length path
         → Charted o N k room unit g l stations' buses ends' blocks places frames path ways
     unfolding drawing routedLate routedBy
     charted ill g ge i e p =

@@ -29,30 +29,31 @@ use Rattle.units.specs.Size as Sizes
 use Rattle.units.specs.Size.{Size, sizeAt}
 use Rattle.units.specs.Unit.{spacing, typical, unitFor}
 use Rattle.units.specs.Scale as Scale
-use Rattle.units.specs.Views.{sizeIn, sizesIn, scalesIn}
+use Rattle.units.specs.Stages.Views.{sizeIn, sizesIn, scalesIn}
 use Rattle.offsets.specs.Offset.{offsets}
 use Rattle.turns.specs.Turns.{placementOrder}
 use Rattle.placement.specs.Place as Place
 use Rattle.placement.specs.Place.{Frame, frameFor, noBox, boxIn}
-use Rattle.placement.specs.Views.{framesIn}
+use Rattle.placement.specs.Stages.Views.{framesIn}
 use Rattle.bars.specs.declared.Bar.{Bar}
 use Rattle.bars.specs.Bar as Bars
 use Rattle.bars.specs.Bar.{Span, bare, barFor, blockAt, barAt, rowEnd}
-use Rattle.bars.specs.Span.{spanAt, spansIn}
+use Rattle.bars.specs.Stages.Span.{spanAt, spansIn}
 use Rattle.bars.specs.Exit.{exit}
 use Rattle.runs.specs.Run as Run
-use Rattle.runs.specs.Run.{Scene, slot, between, linePoints, runFor, runOf}
+use Rattle.runs.specs.Run.{Scene, slot, ledPath, linePoints, runFor, runOf}
 use Rattle.cells.specs.Cells.{cellSize}
-use Rattle.detour.specs.Paths.{pathIn}
-use Rattle.runs.specs.Views.{Held, held, lead, blockOf, barOf, slotOf, exitOf, openFrom, internalFrom, ledIn, ledRun, lineFrom, runFrom, wayOf, waysOf, runIn}
-use Rattle.crossings.specs.Views as Routing
-use Rattle.crossings.specs.Views.{grid, exitAt, lineBetween, lineIn, linesIn}
-use Rattle.pieces.specs.Pieces.{runsIn}
-use Rattle.results.specs.Bars.{barsIn}
-use Rattle.plan.specs.Stages.{Interiors, Settled}
+use Rattle.detour.specs.Stages.Paths.{pathIn}
+use Rattle.runs.specs.Stages.Views.{Held, held, lead, blockOf, barOf, slotOf, exitOf, firstExit, secondExit, openFrom, internalFrom, ledIn, ledRun, lineFrom, runFrom, wayOf, wayCount, runIn}
+use Rattle.crossings.specs.Stages.Views as Routing
+use Rattle.crossings.specs.Stages.Views.{grid, exitAt, lineBetween, lineIn, linesIn}
+use Rattle.exits.specs.Stages.Exits.{exitsOf, exitsIn, Exited}
+use Rattle.pieces.specs.Stages.Pieces.{runsIn}
+use Rattle.results.specs.Stages.Bars.{barsIn}
+use Rattle.plan.specs.Stages.Plan.{Interiors, Settled}
 use Rattle.drawing.specs.Network.{Network}
 use Rattle.drawing.specs.Drawing.{straightScene, ledScene, lineFor, lineOf, planned}
-use Rattle.chart.specs.Held.{Holds}
+use Rattle.chart.specs.Stages.Held.{Holds}
 
 map-table : {A B : Type 0} (g : A → B) (f : ℕ → A) (a n : ℕ) → map g (tableFrom f a n) ≡ tableFrom (λ i. g (f i)) a n
 unfolding tableFrom
@@ -170,37 +171,38 @@ module _ (sub : List ℕ) (unit : Float) (buses : List ℕ) (blocks frames : Lis
         abbrev ledBy : Scene
         ledBy = ledScene (sceneBy from to service) led occ gap W
 
-        led-held : (s t : ℕ) (path : List Point) → ledIn led cell gap k stations frames s t path ≡ between ledBy s t path
-        unfolding ledIn between ledScene straightScene
+        led-held : (s t : ℕ) (path : List Point) → ledIn led cell gap k stations frames s t path ≡ ledPath ledBy s t path
+        unfolding ledIn ledPath ledScene straightScene
         led-held s t path = cc
 
-        run-held : (ra rb w n : ℕ) (K : Kind) → Safe sub K → runFrom heldBy ra rb w n K ≡ runFor ledBy ra rb (pathIn w n ways) K
-        unfolding Safe runFrom runFor slot linePoints openFrom internalFrom lineFrom ledRun ledScene straightScene
-        run-held ra rb w n Undrawn h = refl
-        run-held ra rb w n (Open a b) h = cc (bar-at a (h .0), bar-at b (h .1))
-        run-held ra rb w n (Internal a b) h = cc (slot-held a ra (h .0), slot-held b rb (h .1))
-        run-held ra rb w n (Line a b) h =
+        run-held : (e ra rb w n : ℕ) (K : Kind) → Safe sub K → firstExit (length sub) places e ≡ exitsOf (Routing.lineFor (grid sub from to service unit ends blocks places frames) ra rb K) .first
+            → secondExit (length sub) places e ≡ exitsOf (Routing.lineFor (grid sub from to service unit ends blocks places frames) ra rb K) .second → runFrom heldBy e ra rb w n K ≡ runFor ledBy ra rb (pathIn w n ways) K
+        unfolding Safe runFrom runFor slot linePoints openFrom internalFrom lineFrom ledRun ledScene straightScene exitsOf Routing.lineFor lineBetween exitAt slotOf
+        run-held e ra rb w n Undrawn h f g = refl
+        run-held e ra rb w n (Open a b) h f g = cc (bar-at a (h .0), bar-at b (h .1))
+        run-held e ra rb w n (Internal a b) h f g = cc (slot-held a ra (h .0), slot-held b rb (h .1))
+        run-held e ra rb w n (Line a b) h f g =
             let s = stationOf sub a in
             let t = stationOf sub b in
             let p = slotOf unit buses blocks frames s a ra in
             let q = slotOf unit buses blocks frames t b rb in
             let pe = sym (slot-held a ra (h .0)) in
             let qe = sym (slot-held b rb (h .1)) in
-            let x = sym (exit-held s t (p .y) (below a (h .0)) (below b (h .1))) ∙ ap (λ (z : Point). exit (boxesIn k frames) (pointsIn k places) s t (z .y)) pe in
-            let y = sym (exit-held t s (q .y) (below b (h .1)) (below a (h .0))) ∙ ap (λ (z : Point). exit (boxesIn k frames) (pointsIn k places) t s (z .y)) qe in
-            line-cong _ _ _ _ _ _ pe qe (led-held s t _ ∙ ap (between ledBy s t) (via-cong _ _ _ _ (pathIn w n ways) x y))
+            let x = f ∙ sym (exit-held s t (p .y) (below a (h .0)) (below b (h .1))) ∙ ap (λ (z : Point). exit (boxesIn k frames) (pointsIn k places) s t (z .y)) pe in
+            let y = g ∙ sym (exit-held t s (q .y) (below b (h .1)) (below a (h .0))) ∙ ap (λ (z : Point). exit (boxesIn k frames) (pointsIn k places) t s (z .y)) qe in
+            line-cong _ _ _ _ _ _ pe qe (led-held s t _ ∙ ap (ledPath ledBy s t) (via-cong _ _ _ _ (pathIn w n ways) x y))
 
-        run-at : ((e : ℕ) → e < length from → pathIn (wayOf ends e) (waysOf ends e) ways ≡ getD W e [])
+        run-at : Exited (grid sub from to service unit ends blocks places frames) → ((e : ℕ) → e < length from → pathIn (wayOf ends e) (wayCount ends e) ways ≡ getD W e [])
             → (e : ℕ) → e < length from → runIn heldBy e (kindOf sub from to service e) ≡ runOf ledBy e
-        unfolding runIn runOf kinds ledScene straightScene
-        run-at v e h =
-            run-held (getD ends (4 * e) 0) (getD ends (4 * e + 1) 0) (wayOf ends e) (waysOf ends e) (kindOf sub from to service e) (kind-safe sub from to service e)
+        unfolding runIn runOf kinds ledScene straightScene exitsIn lineIn
+        run-at E v e h =
+            run-held e (getD ends (4 * e) 0) (getD ends (4 * e + 1) 0) (wayOf ends e) (wayCount ends e) (kindOf sub from to service e) (kind-safe sub from to service e) (E .first e h) (E .second e h)
             ∙ cc (v e h, getD-first 4 0 (length from) e ends 0 h, getD-strided 4 1 0 (length from) e ends 0 h, getD-table (kindOf sub from to service) (length from) e Undrawn h)
 
-        pub runs-held : ((e : ℕ) → e < length from → pathIn (wayOf ends e) (waysOf ends e) ways ≡ getD W e []) → runsIn heldBy from to service ≡ Run.runs ledBy
+        pub runs-held : Exited (grid sub from to service unit ends blocks places frames) → ((e : ℕ) → e < length from → pathIn (wayOf ends e) (wayCount ends e) ways ≡ getD W e []) → runsIn heldBy from to service ≡ Run.runs ledBy
         unfolding runsIn Run.runs kinds ledScene straightScene
-        runs-held v =
-            table-ext _ _ (length from) (run-at v)
+        runs-held E v =
+            table-ext _ _ (length from) (run-at E v)
             ∙ ap (λ (n : ℕ). table (runOf ledBy) n) (sym (length-table (kindOf sub from to service) (length from)))
 
 -- ---- the whole drawing

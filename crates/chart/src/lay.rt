@@ -5,8 +5,9 @@ ghost use lib.ListN.{length};
 ghost use Rattle.network.specs.Options.{searchOf};
 ghost use Rattle.network.specs.Words.{stationCount};
 ghost use Rattle.drawing.specs.Network.{network};
-ghost use Rattle.chart.specs.Held.{Laid};
+ghost use Rattle.chart.specs.Stages.Held.{Laid};
 use bars::span::spans;
+use exits::write_exits;
 use network::options::Options;
 use network::options::search_of;
 use plan::Inside;
@@ -20,6 +21,7 @@ fn search_in(o: Options) -> usize
     search_of(o.search)
 }
 
+// Lays a drawing out: rows, sizes, places and boxes of its stations, and the exits of its lines.
 pub(crate) fn lay(
     o: Options,
     sub: &[u32],
@@ -43,7 +45,7 @@ pub(crate) fn lay(
     path: &mut [f64],
 ) -> Inside
     requires { ⌜ (k ≡ stationCount (now sub)) × (length (now sub) ≤ 4096) × (k ≤ length (now sub)) × (length (now from) ≤ 8192) × (length (now kv) ≡ length (now sub)) × (searchOf (o .search) ≤ 20) ⌝ }
-    requires { ⌜ (2 * length (now sub) ≤ length (now stations)) × (3 * length (now sub) ≤ length (now buses)) × (4 * length (now from) ≤ length (now ends)) × (2 * length (now sub) ≤ length (now places)) × (3 * length (now sub) ≤ length (now blocks)) × (4 * length (now sub) ≤ length (now frames)) × (2 * length (now sub) ≤ length (now path)) ⌝ }
+    requires { ⌜ (2 * length (now sub) ≤ length (now stations)) × (3 * length (now sub) ≤ length (now buses)) × (4 * length (now from) ≤ length (now ends)) × (2 * length (now sub) + 4 * length (now from) ≤ length (now places)) × (3 * length (now sub) ≤ length (now blocks)) × (4 * length (now sub) ≤ length (now frames)) × (2 * length (now sub) ≤ length (now path)) ⌝ }
     requires { ⌜ (length (now sub) + 2 * length (now from) + 1681 ≤ length (now sorted)) × (length (now sub) + 2 * length (now from) + 1681 ≤ length (now spare)) × (length (now sub) + 2 * length (now from) + 1681 ≤ length (now keys)) ⌝ }
     ensures { λ r. ⌜ Laid o (network (now (sub .entry)) (now (kv .entry)) (now (from .entry)) (now (to .entry)) (now (service .entry)) (now (xy .entry)) (now (corners .entry)) (now (twins .entry))) k (r .unit) (r .finite) (now (stations .exit)) (now (buses .exit)) (now (ends .exit)) (now (blocks .exit)) (now (places .exit)) (now (frames .exit)) ⌝ }
 {
@@ -82,6 +84,17 @@ pub(crate) fn lay(
         blocks,
         places,
         frames,
+    );
+    write_exits(
+        sub,
+        from,
+        to,
+        service,
+        inside.unit,
+        ends,
+        blocks,
+        frames,
+        places,
     );
     inside
 }

@@ -7,14 +7,14 @@ ghost use lib.ListN.{length};
 ghost use Rattle.network.specs.Options.{searchOf};
 ghost use Rattle.network.specs.Words.{stationCount, occupied};
 ghost use Rattle.network.specs.Views.{countsIn, boxesIn};
-ghost use Rattle.placement.specs.Modest.{illSized};
+ghost use Rattle.placement.specs.Sized.{illSized};
 ghost use Rattle.drawing.specs.Network.{network};
-ghost use Rattle.chart.specs.Held.{Laid};
-ghost use Rattle.chart.specs.Charted.{Charted};
+ghost use Rattle.chart.specs.Stages.Held.{Laid};
+ghost use Rattle.chart.specs.Stages.Charted.{Charted};
 use crate::lay::lay;
 use network::options::Options;
 use pieces::both;
-use placement::modest::ill_sized;
+use placement::sized::ill_sized;
 use plan::Inside;
 use routes::route_lines;
 
@@ -54,9 +54,9 @@ fn route(
     along: &mut [f64],
     ways: &mut [f64],
 ) -> Course
-    requires { ⌜ (k ≡ stationCount (now sub)) × (length (now from) ≤ 8192) × (k ≤ 4096) × (2 * k ≤ length (now stations)) × (2 * k ≤ length (now places)) × (4 * k ≤ length (now frames)) × (2 * k ≤ length (now path)) ⌝ }
+    requires { ⌜ (k ≡ stationCount (now sub)) × (length (now from) ≤ 8192) × (k ≤ 4096) × (2 * k ≤ length (now stations)) × (2 * k ≤ length (now places)) × (4 * k ≤ length (now frames)) × (2 * k ≤ length (now path)) × (length (now sub) ≤ 4096) ⌝ }
     requires { ⌜ (3 * room ≤ length (now numbers)) × (room ≤ length (now along)) × (2 * room ≤ length (now ways)) × (room ≤ length (now sorted)) × (room ≤ length (now spare)) × (room ≤ length (now keys)) ⌝ }
-    requires { ⌜ (4 * length (now from) + 4 * min (length (now corners)) 24576 + 4 ≤ length (now ends)) × (min (length (now corners)) 24576 ≤ length (now sorted)) × (min (length (now corners)) 24576 ≤ length (now spare)) × (min (length (now corners)) 24576 ≤ length (now keys)) × (2 * min (length (now corners)) 24576 + 16 ≤ length (now path)) ⌝ }
+    requires { ⌜ (4 * length (now from) + 4 * min (length (now corners)) 24576 + 4 ≤ length (now ends)) × (min (length (now corners)) 24576 ≤ length (now sorted)) × (min (length (now corners)) 24576 ≤ length (now spare)) × (min (length (now corners)) 24576 ≤ length (now keys)) × (2 * k + 3 * min (length (now corners)) 24576 + 16 ≤ length (now path)) ⌝ }
     requires { ⌜ ill ≡ illSized (boxesIn k (now frames)) (occupied (countsIn k (now stations))) ⌝ }
     requires { ⌜ Laid o (network (now sub) (now kv) (now from) (now to) (now service) (now xy) (now corners) (now twins)) k (inside .unit) (inside .finite) (now stations) (now buses) (now ends) (now blocks) (now places) (now frames) ⌝ }
     ensures { λ r. ⌜ Charted o (network (now (sub .entry)) (now (kv .entry)) (now (from .entry)) (now (to .entry)) (now (service .entry)) (now (xy .entry)) (now (corners .entry)) (now (twins .entry))) k room (r .unit) (r .finite) (r .late) (now (stations .exit)) (now (buses .entry)) (now (ends .exit)) (now (blocks .entry)) (now (places .entry)) (now (frames .entry)) (now (path .exit)) (now (ways .exit)) ⌝ }
@@ -129,10 +129,10 @@ pub fn chart(
     ways: &mut [f64],
 ) -> Course
     requires { ⌜ (k ≡ stationCount (now sub)) × (length (now sub) ≤ 4096) × (k ≤ length (now sub)) × (length (now from) ≤ 8192) × (length (now kv) ≡ length (now sub)) × (searchOf (o .search) ≤ 20) ⌝ }
-    requires { ⌜ (2 * length (now sub) ≤ length (now stations)) × (3 * length (now sub) ≤ length (now buses)) × (4 * length (now from) ≤ length (now ends)) × (2 * length (now sub) ≤ length (now places)) × (3 * length (now sub) ≤ length (now blocks)) × (4 * length (now sub) ≤ length (now frames)) × (2 * length (now sub) ≤ length (now path)) ⌝ }
+    requires { ⌜ (2 * length (now sub) ≤ length (now stations)) × (3 * length (now sub) ≤ length (now buses)) × (4 * length (now from) ≤ length (now ends)) × (2 * length (now sub) + 4 * length (now from) ≤ length (now places)) × (3 * length (now sub) ≤ length (now blocks)) × (4 * length (now sub) ≤ length (now frames)) × (2 * length (now sub) ≤ length (now path)) ⌝ }
     requires { ⌜ (length (now sub) + 2 * length (now from) + 1681 ≤ length (now sorted)) × (length (now sub) + 2 * length (now from) + 1681 ≤ length (now spare)) × (length (now sub) + 2 * length (now from) + 1681 ≤ length (now keys)) ⌝ }
     requires { ⌜ (3 * room ≤ length (now numbers)) × (room ≤ length (now along)) × (2 * room ≤ length (now ways)) × (room ≤ length (now sorted)) × (room ≤ length (now spare)) × (room ≤ length (now keys)) ⌝ }
-    requires { ⌜ (4 * length (now from) + 4 * min (length (now corners)) 24576 + 4 ≤ length (now ends)) × (min (length (now corners)) 24576 ≤ length (now sorted)) × (min (length (now corners)) 24576 ≤ length (now spare)) × (min (length (now corners)) 24576 ≤ length (now keys)) × (2 * min (length (now corners)) 24576 + 16 ≤ length (now path)) ⌝ }
+    requires { ⌜ (4 * length (now from) + 4 * min (length (now corners)) 24576 + 4 ≤ length (now ends)) × (min (length (now corners)) 24576 ≤ length (now sorted)) × (min (length (now corners)) 24576 ≤ length (now spare)) × (min (length (now corners)) 24576 ≤ length (now keys)) × (2 * length (now sub) + 3 * min (length (now corners)) 24576 + 16 ≤ length (now path)) ⌝ }
     ensures { λ r. ⌜ Charted o (network (now (sub .entry)) (now (kv .entry)) (now (from .entry)) (now (to .entry)) (now (service .entry)) (now (xy .entry)) (now (corners .entry)) (now (twins .entry))) k room (r .unit) (r .finite) (r .late) (now (stations .exit)) (now (buses .exit)) (now (ends .exit)) (now (blocks .exit)) (now (places .exit)) (now (frames .exit)) (now (path .exit)) (now (ways .exit)) ⌝ }
 {
     let inside = lay(

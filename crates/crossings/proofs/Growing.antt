@@ -16,7 +16,7 @@ use Rattle.order.specs.Table.{strided}
 use Rattle.order.proofs.Strides.{strided-push, strided-other, first-push, first-other}
 use Rattle.mesh.specs.Mesh.{lowAt, highAt}
 use Rattle.crossings.specs.Route.{Scene, Routing, Keyed, Crossing, numberOf, makeChannel, withChannel, crossingOf, cross, crossAll}
-use Rattle.crossings.specs.Store.{numberFor, marksFor, withMarks, countWith, placeOn, Marked, Stock, stock, Held, meshed, Grown}
+use Rattle.crossings.specs.Stages.Store.{numberFor, marksFor, withMarks, countWith, placeOn, Marked, Stock, stock, Held, meshed, Grown}
 use Rattle.crossings.proofs.Numbers.{with-old, with-new}
 use Rattle.crossings.proofs.Marks.{mark-none, mark-some, marked-more, with-beside}
 

@@ -14,7 +14,7 @@ use Rattle.order.proofs.Laws.{keep-yes, keep-no}
 use Rattle.mesh.specs.Mesh.{at, endAt}
 use Rattle.walk.specs.Round.{roundOf, firstAt}
 use Rattle.walk.proofs.Rounds.{own, length-round, around-first, around-over, round-out, round-read}
-use Rattle.crossings.specs.Store.{between, stamp}
+use Rattle.crossings.specs.Stages.Store.{edgesFrom, stamp}
 
 keep-nil : (p : ℕ → Bool) → keep p [] ≡ []
 unfolding keep
@@ -29,7 +29,7 @@ module _ (corners : List ℕ) (m v w mark : ℕ) where
   rest p = keep ends-there (keep (own corners v) (drop p (roundOf corners)))
 
   abbrev whole : List ℕ → List ℕ
-  whole l = stamp m mark (between corners v w) l
+  whole l = stamp m mark (edgesFrom corners v w) l
 
   -- the loop has come to place p
   pub record Marking (before now : List ℕ) (p : ℕ) : Type 0 where
@@ -38,7 +38,7 @@ module _ (corners : List ℕ) (m v w mark : ℕ) where
     pub same : whole before ≡ stamp m mark (rest p) now
 
   pub mark-start : (l : List ℕ) (p : ℕ) → p ≡ firstAt corners v → Marking l l p
-  unfolding between
+  unfolding edgesFrom
   mark-start l p e =
       record {
         past = omega arith;

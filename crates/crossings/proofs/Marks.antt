@@ -15,10 +15,10 @@ use Rattle.mesh.specs.Mesh.{at, endAt, lowAt, highAt}
 use Rattle.mesh.proofs.Pigeons.{channels-few}
 use Rattle.mesh.proofs.Tests.{both}
 use Rattle.crossings.specs.Route.{Scene, Keyed, noChannel, numberOf, makeChannel, withChannel}
-use Rattle.crossings.specs.Views.{Edged}
-use Rattle.crossings.specs.Store.{between, stamp, withMarks, numberFor, marksFor, countWith, markOf, Marked}
+use Rattle.crossings.specs.Stages.Views.{Edged}
+use Rattle.crossings.specs.Stages.Store.{edgesFrom, stamp, withMarks, numberFor, marksFor, countWith, markOf, Marked}
 use Rattle.crossings.proofs.Numbers.{keyed, same-key, other-key, number-le, number-front, number-new, number-other, with-old, with-new, made-low, made-high}
-use Rattle.crossings.proofs.Stamps.{Has, length-stamp, stamp-rest, stamp-beside, stamp-out, stamp-in, between-has, between-is}
+use Rattle.crossings.proofs.Stamps.{Has, length-stamp, stamp-rest, stamp-beside, stamp-out, stamp-in, edgesFrom-has, edgesFrom-is}
 
 mark-yes : (k c : ℕ) → c < k → markOf k c ≡ suc c
 unfolding markOf
@@ -80,58 +80,58 @@ module _ (m : ℕ) (corners : List ℕ) where
     noted = set ends (4 * (m + k) + 2) h
 
     abbrev first : List ℕ
-    first = stamp m (suc k) (between corners from to) noted
+    first = stamp m (suc k) (edgesFrom corners from to) noted
 
     pub with-length : length (withMarks corners m h k ends) ≡ length ends
     unfolding withMarks
-    with-length = length-stamp m (suc k) (between corners to from) first ∙ length-stamp m (suc k) (between corners from to) noted ∙ length-set ends (4 * (m + k) + 2) h
+    with-length = length-stamp m (suc k) (edgesFrom corners to from) first ∙ length-stamp m (suc k) (edgesFrom corners from to) noted ∙ length-set ends (4 * (m + k) + 2) h
 
     pub with-beside : take (4 * m) (withMarks corners m h k ends) ≡ take (4 * m) ends
     unfolding withMarks
     with-beside =
-        stamp-beside m (suc k) (between corners to from) first ∙ stamp-beside m (suc k) (between corners from to) noted ∙ take-set-le (4 * m) ends (4 * (m + k) + 2) h (omega arith)
+        stamp-beside m (suc k) (edgesFrom corners to from) first ∙ stamp-beside m (suc k) (edgesFrom corners from to) noted ∙ take-set-le (4 * m) ends (4 * (m + k) + 2) h (omega arith)
 
     with-rest : (i : ℕ) → ((g : ℕ) → i ≡ 4 * (m + g) + 1 → ⊥) → getD (withMarks corners m h k ends) i 0 ≡ getD noted i 0
     unfolding withMarks
-    with-rest i n = stamp-rest m (suc k) (between corners to from) first i n ∙ stamp-rest m (suc k) (between corners from to) noted i n
+    with-rest i n = stamp-rest m (suc k) (edgesFrom corners to from) first i n ∙ stamp-rest m (suc k) (edgesFrom corners from to) noted i n
 
     module _ (g : ℕ) where
       abbrev place : ℕ
       place = 4 * (m + g) + 1
 
-      with-in : place < length ends → Has g (between corners from to) ⊎ Has g (between corners to from) → getD (withMarks corners m h k ends) place 0 ≡ suc k
+      with-in : place < length ends → Has g (edgesFrom corners from to) ⊎ Has g (edgesFrom corners to from) → getD (withMarks corners m h k ends) place 0 ≡ suc k
       unfolding withMarks
       with-in l e =
           let i : place < length noted = omega (arith, length-set ends (4 * (m + k) + 2) h) in
-          let j : place < length first = omega (arith, length-stamp m (suc k) (between corners from to) noted) in
+          let j : place < length first = omega (arith, length-stamp m (suc k) (edgesFrom corners from to) noted) in
           ⊎-elim
-          (λ (z : count (λ x. eqb x g) (between corners to from) ≤ 0).
-          stamp-out m (suc k) g (between corners to from) first (λ y. omega arith)
-          ∙ stamp-in m (suc k) g (between corners from to) noted i (⊎-elim (λ (y : Has g (between corners from to)). y) (λ (y : Has g (between corners to from)). absurd (omega arith)) e))
-          (λ (z : 0 < count (λ x. eqb x g) (between corners to from)). stamp-in m (suc k) g (between corners to from) first j z)
-          (le-or-lt (count (λ x. eqb x g) (between corners to from)) 0)
+          (λ (z : count (λ x. eqb x g) (edgesFrom corners to from) ≤ 0).
+          stamp-out m (suc k) g (edgesFrom corners to from) first (λ y. omega arith)
+          ∙ stamp-in m (suc k) g (edgesFrom corners from to) noted i (⊎-elim (λ (y : Has g (edgesFrom corners from to)). y) (λ (y : Has g (edgesFrom corners to from)). absurd (omega arith)) e))
+          (λ (z : 0 < count (λ x. eqb x g) (edgesFrom corners to from)). stamp-in m (suc k) g (edgesFrom corners to from) first j z)
+          (le-or-lt (count (λ x. eqb x g) (edgesFrom corners to from)) 0)
 
-      with-out : (Has g (between corners from to) → ⊥) → (Has g (between corners to from) → ⊥) → getD (withMarks corners m h k ends) place 0 ≡ getD ends place 0
+      with-out : (Has g (edgesFrom corners from to) → ⊥) → (Has g (edgesFrom corners to from) → ⊥) → getD (withMarks corners m h k ends) place 0 ≡ getD ends place 0
       unfolding withMarks
       with-out p q =
-          stamp-out m (suc k) g (between corners to from) first q ∙ stamp-out m (suc k) g (between corners from to) noted p
+          stamp-out m (suc k) g (edgesFrom corners to from) first q ∙ stamp-out m (suc k) g (edgesFrom corners from to) noted p
           ∙ getD-set-other ends (4 * (m + k) + 2) place h 0 (λ z. omega arith)
 
       -- a marked half-edge has the two corners of h
-      has-key : Has g (between corners from to) ⊎ Has g (between corners to from) → (lowAt corners g ≡ lowAt corners h) × (highAt corners g ≡ highAt corners h)
+      has-key : Has g (edgesFrom corners from to) ⊎ Has g (edgesFrom corners to from) → (lowAt corners g ≡ lowAt corners h) × (highAt corners g ≡ highAt corners h)
       unfolding lowAt highAt
       has-key e =
           ⊎-elim
-          (λ (y : Has g (between corners from to)). let w = between-is corners from to g y in (omega (arith, w .0, w .1), omega (arith, w .0, w .1)))
-          (λ (y : Has g (between corners to from)). let w = between-is corners to from g y in (omega (arith, w .0, w .1), omega (arith, w .0, w .1)))
+          (λ (y : Has g (edgesFrom corners from to)). let w = edgesFrom-is corners from to g y in (omega (arith, w .0, w .1), omega (arith, w .0, w .1)))
+          (λ (y : Has g (edgesFrom corners to from)). let w = edgesFrom-is corners to from g y in (omega (arith, w .0, w .1), omega (arith, w .0, w .1)))
           e
 
-      key-has : g < length corners → lowAt corners g ≡ lowAt corners h → highAt corners g ≡ highAt corners h → Has g (between corners from to) ⊎ Has g (between corners to from)
+      key-has : g < length corners → lowAt corners g ≡ lowAt corners h → highAt corners g ≡ highAt corners h → Has g (edgesFrom corners from to) ⊎ Has g (edgesFrom corners to from)
       unfolding lowAt highAt
       key-has l p q =
           ⊎-elim
-          (λ (w : (at corners g ≡ from) × (endAt corners g ≡ to)). inl (between-has corners from to g l (w .0) (w .1)))
-          (λ (w : (at corners g ≡ to) × (endAt corners g ≡ from)). inr (between-has corners to from g l (w .0) (w .1)))
+          (λ (w : (at corners g ≡ from) × (endAt corners g ≡ to)). inl (edgesFrom-has corners from to g l (w .0) (w .1)))
+          (λ (w : (at corners g ≡ to) × (endAt corners g ≡ from)). inr (edgesFrom-has corners to from g l (w .0) (w .1)))
           (ways-round (at corners g) (endAt corners g) from to p q)
 
   module _ (S : Scene) (ks : List Keyed) (ends : List ℕ) (h : ℕ) (v : Marked m corners ks ends) (inside : h < length corners) (room : 4 * (m + length corners) + 4 ≤ length ends) (none : numberAt ks h ≡ length ks) where

@@ -19,24 +19,24 @@ use Rattle.order.proofs.Strides.{length-strided, getD-strided, strided-ext, str
 use Rattle.network.specs.Words.{isOccupied, occupied}
 use Rattle.network.specs.Views.{countsIn, orderIn}
 use Rattle.units.proofs.Occupied.{passed, passedCount, passed-all, count-all, passed-no, passed-yes, count-no, count-yes}
-use Rattle.crossings.specs.Route.{placeIn}
-use Rattle.crossings.specs.Store.{Rising}
+use Rattle.crossings.specs.Route.{vertexOf}
+use Rattle.crossings.specs.Stages.Store.{Rising}
 
 -- ---- where a station stands
 
-pub place-is : (s : ℕ) (l : List ℕ) (i : ℕ) → i < length l → ((j : ℕ) → j < i → getD l j 0 ≡ s → ⊥) → getD l i 0 ≡ s → placeIn s l ≡ i
-unfolding placeIn
+pub place-is : (s : ℕ) (l : List ℕ) (i : ℕ) → i < length l → ((j : ℕ) → j < i → getD l j 0 ≡ s → ⊥) → getD l i 0 ≡ s → vertexOf s l ≡ i
+unfolding vertexOf
 place-is s [] i h f e = absurd (omega arith)
-place-is s (x ∷ xs) zero h f e = ap (λ (b : Bool). cond b 0 (suc (placeIn s xs))) (eq-eqb x s e)
+place-is s (x ∷ xs) zero h f e = ap (λ (b : Bool). cond b 0 (suc (vertexOf s xs))) (eq-eqb x s e)
 place-is s (x ∷ xs) (suc i) h f e =
-    ap (λ (b : Bool). cond b 0 (suc (placeIn s xs))) (ne-eqb x s (f 0 (omega arith)))
+    ap (λ (b : Bool). cond b 0 (suc (vertexOf s xs))) (ne-eqb x s (f 0 (omega arith)))
     ∙ ap suc (place-is s xs i (omega arith) (λ j g. f (suc j) (omega arith)) e)
 
-pub place-none : (s : ℕ) (l : List ℕ) → ((j : ℕ) → j < length l → getD l j 0 ≡ s → ⊥) → placeIn s l ≡ length l
-unfolding placeIn
+pub place-none : (s : ℕ) (l : List ℕ) → ((j : ℕ) → j < length l → getD l j 0 ≡ s → ⊥) → vertexOf s l ≡ length l
+unfolding vertexOf
 place-none s [] f = refl
 place-none s (x ∷ xs) f =
-    ap (λ (b : Bool). cond b 0 (suc (placeIn s xs))) (ne-eqb x s (f 0 (omega arith))) ∙ ap suc (place-none s xs (λ j g. f (suc j) (omega arith)))
+    ap (λ (b : Bool). cond b 0 (suc (vertexOf s xs))) (ne-eqb x s (f 0 (omega arith))) ∙ ap suc (place-none s xs (λ j g. f (suc j) (omega arith)))
 
 -- ---- occupied stations rise
 
@@ -100,20 +100,20 @@ module _ (c : ℕ) (stations : List ℕ) (s : ℕ) where
       read : (j : ℕ) → j < c → getD (orderIn c stations) j 0 ≡ stationAt j
       read j l = getD-strided 2 1 0 c j stations 0 l
 
-      pub halve-found : (x : ℕ) → lo < c → x ≡ stationAt lo → x ≡ s → lo ≡ placeIn s (orderIn c stations)
+      pub halve-found : (x : ℕ) → lo < c → x ≡ stationAt lo → x ≡ s → lo ≡ vertexOf s (orderIn c stations)
       halve-found x l q z =
           sym (place-is s (orderIn c stations) lo (subst (λ (n : ℕ). lo < n) (sym (length-strided 2 1 0 c stations)) l)
           (λ j k w. omega (arith, v .below j k, read j (omega arith))) (read lo l ∙ sym q ∙ z))
 
-      none : ((j : ℕ) → j < c → stationAt j ≡ s → ⊥) → c ≡ placeIn s (orderIn c stations)
+      none : ((j : ℕ) → j < c → stationAt j ≡ s → ⊥) → c ≡ vertexOf s (orderIn c stations)
       none f =
           sym (place-none s (orderIn c stations) (λ j k w. let l : j < c = subst (λ (n : ℕ). j < n) (length-strided 2 1 0 c stations) k in f j l (sym (read j l) ∙ w))
           ∙ length-strided 2 1 0 c stations)
 
-      pub halve-past : c ≤ lo → c ≡ placeIn s (orderIn c stations)
+      pub halve-past : c ≤ lo → c ≡ vertexOf s (orderIn c stations)
       halve-past l = none (λ j k w. omega (arith, v .below j (omega arith)))
 
-      pub halve-missed : (x : ℕ) → lo < c → x ≡ stationAt lo → (x ≡ s → ⊥) → c ≡ placeIn s (orderIn c stations)
+      pub halve-missed : (x : ℕ) → lo < c → x ≡ stationAt lo → (x ≡ s → ⊥) → c ≡ vertexOf s (orderIn c stations)
       halve-missed x l q n =
           none
           (λ j k w.

@@ -15,7 +15,7 @@ use Rattle.order.proofs.Laws.{count-nil, count-yes, count-no, count-at, occurs,
 use Rattle.order.proofs.Merging.{le-or-lt}
 use Rattle.mesh.specs.Mesh.{at, endAt}
 use Rattle.walk.specs.Round.{around}
-use Rattle.crossings.specs.Store.{between, stamp}
+use Rattle.crossings.specs.Stages.Store.{edgesFrom, stamp}
 
 -- g is one of a list
 abbrev pub Has : ℕ → List ℕ → Type 0
@@ -76,14 +76,14 @@ module _ (corners : List ℕ) (v w g : ℕ) where
   abbrev test : ℕ → Bool
   test j = pick (eqb (at corners j) v) (pick (eqb (endAt corners j) w) (eqb j g) false) false
 
-  counted : count (λ x. eqb x g) (between corners v w) ≡ count test (upFrom 0 (length corners))
-  unfolding between around
+  counted : count (λ x. eqb x g) (edgesFrom corners v w) ≡ count test (upFrom 0 (length corners))
+  unfolding edgesFrom around
   counted =
       count-keep (λ h. eqb (endAt corners h) w) (λ x. eqb x g) (keep (λ h. eqb (at corners h) v) (upFrom 0 (length corners)))
       ∙ count-keep (λ h. eqb (at corners h) v) (λ j. pick (eqb (endAt corners j) w) (eqb j g) false) (upFrom 0 (length corners))
 
-  pub between-has : g < length corners → at corners g ≡ v → endAt corners g ≡ w → Has g (between corners v w)
-  between-has l p q =
+  pub edgesFrom-has : g < length corners → at corners g ≡ v → endAt corners g ≡ w → Has g (edgesFrom corners v w)
+  edgesFrom-has l p q =
       let i : g < length (upFrom 0 (length corners)) = omega (arith, length-up 0 (length corners)) in
       let e : getD (upFrom 0 (length corners)) g 0 ≡ g = getD-up 0 (length corners) g l ∙ zero-add g in
       let t : test g ≡ true = simp (eq-eqb (at corners g) v p, eq-eqb (endAt corners g) w q, eq-eqb g g refl) in
@@ -102,8 +102,8 @@ module _ (corners : List ℕ) (v w g : ℕ) where
       go true p false q c r z = absurd (true≢false (sym z))
       go false p b q c r z = absurd (true≢false (sym z))
 
-  pub between-is : Has g (between corners v w) → (at corners g ≡ v) × (endAt corners g ≡ w)
-  between-is h =
+  pub edgesFrom-is : Has g (edgesFrom corners v w) → (at corners g ≡ v) × (endAt corners g ≡ w)
+  edgesFrom-is h =
       let z : 0 < count test (upFrom 0 (length corners)) = omega (arith, counted) in
       let o = occurs test (upFrom 0 (length corners)) z in
       tested (getD (upFrom 0 (length corners)) (o .0) 0) (o .2)

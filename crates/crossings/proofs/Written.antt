@@ -14,14 +14,14 @@ use Rattle.mesh.specs.Mesh.{at, endAt}
 use Rattle.network.specs.declared.words.Kind.{Kind}
 use Rattle.network.specs.declared.words.Kind.the-variants.{Undrawn, Open, Internal, Line}
 use Rattle.network.specs.Words.{kindOf}
-use Rattle.crossings.specs.Store.{between, stamp, withMarks, numberFor, marksFor, way, wayFor, wayOf, SameRows, Wayed}
+use Rattle.crossings.specs.Stages.Store.{edgesFrom, stamp, withMarks, numberFor, marksFor, way, wayFor, wayOf, SameRows, Wayed}
 use Rattle.crossings.specs.declared.ways.Way.{Way}
 
 -- ---- channels
 
 module _ (corners : List ℕ) (m h k : ℕ) where
   pub channel-made : (v w mark : ℕ) (l l1 l2 l3 : List ℕ) → v ≡ at corners h → w ≡ endAt corners h → mark ≡ k + 1 → l1 ≡ set l (4 * (m + k) + 2) h
-      → l2 ≡ stamp m mark (between corners v w) l1 → l3 ≡ stamp m mark (between corners w v) l2 → l3 ≡ withMarks corners m h k l
+      → l2 ≡ stamp m mark (edgesFrom corners v w) l1 → l3 ≡ stamp m mark (edgesFrom corners w v) l2 → l3 ≡ withMarks corners m h k l
   unfolding withMarks
   channel-made v w mark l l1 l2 l3 p q r a b c = let z : mark ≡ suc k = r ∙ add-one k in cc
 

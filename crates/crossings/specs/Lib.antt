@@ -1,4 +1,3 @@
 pub mod Route
 pub mod Gap
-pub mod Views
-pub mod Store
+pub mod Stages

@@ -42,9 +42,9 @@ pub record Scene : Type 0 where
   pub lines : List (Option Line)
 
 -- the number of a station among the occupied ones (`vertex_of`)
-unfoldable pub placeIn : ℕ → List ℕ → ℕ
-placeIn s [] = 0
-placeIn s (x ∷ xs) = cond (eqb x s) 0 (suc (placeIn s xs))
+unfoldable pub vertexOf : ℕ → List ℕ → ℕ
+vertexOf s [] = 0
+vertexOf s (x ∷ xs) = cond (eqb x s) 0 (suc (vertexOf s xs))
 
 -- A channel, keyed by its two corners, the lower first: two half-edges that aren't twins may share one.
 pub record Keyed : Type 0 where
@@ -155,8 +155,8 @@ module _ (S : Scene) where
   unfoldable pub addBranch : ℕ → Option Line → Routing → Routing
   addBranch e none r = record { channels = r .channels; crossings = r .crossings; paths = r .paths ++ (noPath ∷ []) }
   addBranch e (some l) r =
-      let va = placeIn (l .sa) (S .occupied) in
-      let vb = placeIn (l .sb) (S .occupied) in
+      let va = vertexOf (l .sa) (S .occupied) in
+      let vb = vertexOf (l .sb) (S .occupied) in
       addWalk va vb e (traced (S .corners) (S .twins) centreAt va vb) r
 
   -- the first e branches traced

@@ -3,7 +3,7 @@ ghost use mathlib.Core.Path.{_≡_};
 ghost use Prim.Native.Nat.{_+_, _*_, _≤_, _<_};
 ghost use lib.ListN.{length, getD, take, set};
 ghost use Rattle.walk.specs.Round.{roundOf};
-ghost use Rattle.crossings.specs.Store.{between, stamp, withMarks, numberFor, marksFor, countWith};
+ghost use Rattle.crossings.specs.Stages.Store.{edgesFrom, stamp, withMarks, numberFor, marksFor, countWith};
 use mesh::end_at;
 use order::at;
 use walk::round::first_at;
@@ -29,7 +29,7 @@ fn mark_from(
 )
     requires { ⌜ (m ≤ 8192) × (length (now corners) ≤ 24576) ⌝ }
     requires { ⌜ take (length (now corners)) (now around) ≡ roundOf (now corners) ⌝ }
-    ensures { λ _. ⌜ now (ends .exit) ≡ stamp m mark (between (now (corners .entry)) v w) (now (ends .entry)) ⌝ }
+    ensures { λ _. ⌜ now (ends .exit) ≡ stamp m mark (edgesFrom (now (corners .entry)) v w) (now (ends .entry)) ⌝ }
 {
     let mut p = first_at(corners, around, v);
     while p < corners.len() {

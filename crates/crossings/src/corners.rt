@@ -5,8 +5,8 @@ ghost use lib.ListN.{length, take};
 ghost use Rattle.network.specs.Words.{occupied};
 ghost use Rattle.network.specs.Views.{countsIn, orderIn, pointsIn};
 ghost use Rattle.units.specs.Unit.{coordinates};
-ghost use Rattle.crossings.specs.Route.{placeIn};
-ghost use Rattle.crossings.specs.Store.{Rising};
+ghost use Rattle.crossings.specs.Route.{vertexOf};
+ghost use Rattle.crossings.specs.Stages.Store.{Rising};
 use order::at;
 
 // Writes the occupied stations, in order, as the second of two numbers each.
@@ -45,7 +45,7 @@ pub fn occupied_corners(k: usize, stations: &mut [u32], places: &[f64], path: &m
 // Where station s stands among the c occupied ones, by halving; c where it isn't one.
 pub fn corner_of(c: usize, stations: &[u32], s: usize) -> usize
     requires { ⌜ (c ≤ 4096) × Rising (orderIn c (now stations)) ⌝ }
-    ensures { λ r. ⌜ r ≡ placeIn s (orderIn c (now (stations .entry))) ⌝ }
+    ensures { λ r. ⌜ r ≡ vertexOf s (orderIn c (now (stations .entry))) ⌝ }
     ensures { λ r. ⌜ r ≤ c ⌝ }
 {
     let mut lo = 0;

@@ -5,7 +5,7 @@ ghost use lib.ListN.{length, getD, take, set};
 ghost use Rattle.mesh.specs.Mesh.{lowAt, highAt};
 ghost use Rattle.walk.specs.Round.{roundOf};
 ghost use Rattle.crossings.specs.Route.{cross, crossAll};
-ghost use Rattle.crossings.specs.Store.{placeOn, stock, Grown};
+ghost use Rattle.crossings.specs.Stages.Store.{placeOn, stock, Grown};
 use crate::channels::channel_for;
 use crate::channels::count_with;
 use geometry::line_param;

@@ -2,4 +2,5 @@
 pub mod channels;
 pub mod corners;
 pub mod crossings;
+pub mod gap;
 pub mod ways;

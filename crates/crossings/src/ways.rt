@@ -4,7 +4,7 @@ ghost use Prim.Native.Nat.{_+_, _*_, _≤_, _<_};
 ghost use lib.ListN.{length, getD};
 ghost use Rattle.network.specs.declared.words.Kind.the-variants.{Line};
 ghost use Rattle.network.specs.Views.{orderIn};
-ghost use Rattle.crossings.specs.Store.{wayFor, wayOf, Rising, Wayed};
+ghost use Rattle.crossings.specs.Stages.Store.{wayFor, wayOf, Rising, Wayed};
 use crate::corners::corner_of;
 use network::words::Kind;
 use network::words::kind_of;

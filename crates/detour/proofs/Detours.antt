@@ -13,7 +13,7 @@ use Rattle.cells.specs.declared.walk.FirstHit.{FirstHit}
 use Rattle.cells.specs.declared.walk.FirstHit.the-variants.{Free, At}
 use Rattle.cells.specs.Cells.{firstHit}
 use Rattle.detour.specs.Detour.{corner, detourOn, detourTo, detour}
-use Rattle.detour.specs.Paths.{pathIn, PutIn, Led}
+use Rattle.detour.specs.Stages.Paths.{pathIn, PutIn, Led}
 use Rattle.detour.proofs.Shifting.{point-before, path-zero, path-more, path-cons, path-join, path-kept, path-moved, length-path}
 
 -- the last point of p, rest

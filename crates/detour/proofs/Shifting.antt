@@ -14,7 +14,7 @@ use Rattle.order.proofs.Tables.{length-tableFrom}
 use Rattle.geometry.specs.declared.Point.{Point}
 use Rattle.geometry.specs.Plane.{point, pointAt}
 use Rattle.network.proofs.Views.{putPoint, point-same, point-other}
-use Rattle.detour.specs.Paths.{pathIn, Shifted, PutIn}
+use Rattle.detour.specs.Stages.Paths.{pathIn, Shifted, PutIn}
 
 -- ---- moving
 pub shift-start : (i end : ℕ) (l : List Float) → Shifted i end end l l

@@ -1,3 +1,3 @@
 pub mod Detour
-pub mod Paths
 pub mod Cases
+pub mod Stages

@@ -7,6 +7,7 @@ use float::key::order_key;
 use geometry::Box;
 use geometry::Point;
 use geometry::piece_hits;
+use geometry::shrunk;
 
 // The cheapest point so far, or none.
 pub enum Choice {
@@ -36,12 +37,7 @@ fn cost_key(p: Point, q: Point, c: Point) -> u64
 fn clears(p: Point, q: Point, b: Box, c: Point) -> bool
     ensures { λ r. ⌜ r ≡ clears p q b c ⌝ }
 {
-    let s = Box {
-        left: b.left + 1e-9,
-        top: b.top + 1e-9,
-        right: b.right - 1e-9,
-        bottom: b.bottom - 1e-9,
-    };
+    let s = shrunk(b);
     if piece_hits(p, c, s) {
         return false;
     }

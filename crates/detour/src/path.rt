@@ -7,7 +7,7 @@ ghost use Rattle.network.specs.Words.{occupied};
 ghost use Rattle.network.specs.Views.{countsIn, boxesIn};
 ghost use Rattle.detour.specs.Detour.{detour};
 ghost use Rattle.cells.specs.Index.{Indexed};
-ghost use Rattle.detour.specs.Paths.{pathIn, Shifted, PutIn, Led};
+ghost use Rattle.detour.specs.Stages.Paths.{pathIn, Shifted, PutIn, Led};
 use crate::boxes::hit_among;
 use crate::corner::corner;
 use cells::cells::box_in;

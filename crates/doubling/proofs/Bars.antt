@@ -15,7 +15,7 @@ use Rattle.order.specs.Order.{pick}
 use Rattle.geometry.specs.declared.Box.{Box}
 use Rattle.network.specs.Options.{barGap, pad, minBar}
 use Rattle.bars.specs.declared.Bar.{Bar}
-use Rattle.bars.specs.Bar.{Span, bare, rows, barX, rowY, reach, middle, lengthened, barFor}
+use Rattle.bars.specs.Bar.{Span, bare, rows, barX, rowY, reach, barMiddle, lengthened, barFor}
 use Rattle.placement.specs.Doubles.{DoublesBox}
 use Rattle.doubling.proofs.Sizes.{power, one, two, two-positive}
 
@@ -97,7 +97,7 @@ module _ (box box' : Box) (f f' : Float) (B : DoublesBox 171 (2 ^ 1153) box box'
   }
 
 -- the middle: 170 - 53
-pub middle-doubles : (b b' : Bar) → DoublesBar 170 (2 ^ 1163) b b' → Doubles 117 (2 ^ 1164) (middle b) (middle b')
+pub middle-doubles : (b b' : Bar) → DoublesBar 170 (2 ^ 1163) b b' → Doubles 117 (2 ^ 1164) (barMiddle b) (barMiddle b')
 middle-doubles b b' h = div-doubles 117 (2 ^ 1164) (add-doubles (h .y0) (h .y1) (power 1164 (lit< tt))) two two-positive (lit≤ tt) (lit≤ tt) (lit≤ tt) (power 1164 (lit< tt))
 
 pick-bar : {lo top : ℕ} {p p' q q' : Bar} (b : Bool) → DoublesBar lo top p p' → DoublesBar lo top q q' → DoublesBar lo top (pick b p q) (pick b p' q')
@@ -115,8 +115,8 @@ module _ (f f' : Float) (F : Block f f') where
   pub lengthened-doubles : (b b' : Bar) → DoublesBar 170 (2 ^ 1163) b b' → DoublesBar 117 (2 ^ 1165) (lengthened f b) (lengthened f' b')
   unfolding lengthened
   lengthened-doubles b b' h =
-      let long : Bar = record { x = b .x; y0 = middle b ⊖ minBar ⊗ f ⊘ f2; y1 = middle b ⊕ minBar ⊗ f ⊘ f2 } in
-      let long' : Bar = record { x = b' .x; y0 = middle b' ⊖ minBar ⊗ f' ⊘ f2; y1 = middle b' ⊕ minBar ⊗ f' ⊘ f2 } in
+      let long : Bar = record { x = b .x; y0 = barMiddle b ⊖ minBar ⊗ f ⊘ f2; y1 = barMiddle b ⊕ minBar ⊗ f ⊘ f2 } in
+      let long' : Bar = record { x = b' .x; y0 = barMiddle b' ⊖ minBar ⊗ f' ⊘ f2; y1 = barMiddle b' ⊕ minBar ⊗ f' ⊘ f2 } in
       let x : Doubles 117 (2 ^ 1165) (b .x) (b' .x) = widen-doubles 117 (2 ^ 1165) (lit≤ tt) (lit≤ tt) (h .x) in
       let made : DoublesBar 117 (2 ^ 1165) long long' = record { x = x; y0 = sub-doubles (middle-doubles b b' h) shortest-half (power 1165 (lit< tt)); y1 = add-doubles (middle-doubles b b' h) shortest-half (power 1165 (lit< tt)) } in
       let kept : DoublesBar 117 (2 ^ 1165) b b' = record { x = x; y0 = widen-doubles 117 (2 ^ 1165) (lit≤ tt) (lit≤ tt) (h .y0); y1 = widen-doubles 117 (2 ^ 1165) (lit≤ tt) (lit≤ tt) (h .y1) } in

@@ -27,7 +27,7 @@ use Rattle.network.specs.declared.words.Kind.{Kind}
 use Rattle.network.specs.Words.{busCounts, kinds, occupied}
 use Rattle.network.specs.Seed.{seeds}
 use Rattle.placement.specs.Place.{noBox, boxes}
-use Rattle.placement.specs.Modest.{illSized}
+use Rattle.placement.specs.Sized.{illSized}
 use Rattle.bars.specs.declared.Bar.{Bar}
 use Rattle.bars.specs.Bar.{bars, position}
 use Rattle.crossings.specs.Route as Route

@@ -25,7 +25,7 @@ use Rattle.detour.specs.Detour.{detour}
 use Rattle.bars.specs.declared.Bar.{Bar}
 use Rattle.bars.specs.Bar.{blockAt, barAt, position, rowEnd}
 use Rattle.bars.specs.Exit.{exitX, exit}
-use Rattle.runs.specs.Run.{Scene, Piece, slot, between, linePoints, runFor, runOf, apart, pieces, isLine, allPieces}
+use Rattle.runs.specs.Run.{Scene, Piece, slot, ledPath, linePoints, runFor, runOf, apart, pieces, isLine, allPieces}
 use Rattle.results.specs.Bounds.{around, aroundAll, nowhere, boundsOf}
 use Rattle.units.specs.Doubles.{DoublesPoint, Paired}
 use Rattle.placement.specs.Doubles.{DoublesBox}
@@ -91,7 +91,7 @@ module _ (S S' : Scene) (H : Scenes S S') where
 
   -- a line without waypoints and detours: slot, exit, exit, slot
   straight : (T : Scene) (s t : ℕ) (p q : Point) → T .led ≡ false → linePoints T s t [] p q ≡ p ∷ exit (T .boxes) (T .places) s t (p .y) ∷ exit (T .boxes) (T .places) t s (q .y) ∷ q ∷ []
-  unfolding linePoints between
+  unfolding linePoints ledPath
   straight T s t p q e =
       let path = exit (T .boxes) (T .places) s t (p .y) ∷ exit (T .boxes) (T .places) t s (q .y) ∷ [] in
       ap (λ (b : Bool). p ∷ (cond b (detour (T .boxes) (T .occupied) (cellSize (T .boxes) (T .occupied)) (T .gap) s t path) path ++ (q ∷ []))) e

@@ -29,8 +29,8 @@ use Rattle.units.specs.Scale.{scales}
 use Rattle.offsets.specs.Offset.{offsets}
 use Rattle.placement.specs.Place.{Frame, frameFor, frames, frameAt, places, boxes, boxIn}
 use Rattle.turns.specs.Turns.{placementOrder}
-use Rattle.placement.specs.Modest.{illSized}
-use Rattle.turns.specs.Listed.{Turns}
+use Rattle.placement.specs.Sized.{illSized}
+use Rattle.turns.specs.Stages.Listed.{Turns}
 use Rattle.turns.proofs.Queue.{order-turns}
 use Rattle.units.specs.Doubles.{DoublesPoint}
 use Rattle.placement.specs.Doubles.{DoublesBox, DoublesFrame, Reach}

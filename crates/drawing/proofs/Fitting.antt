@@ -36,10 +36,10 @@ pub record Fits (o : Options) (N : Network) (R : Room) : Type 0 where
   pub sorted : length (N .station) + 2 * length (N .from) + meshLength N + 1681 ≤ R .sorted
   pub spare : length (N .station) + 2 * length (N .from) + meshLength N + 1681 ≤ R .spare
   pub keys : length (N .station) + 2 * length (N .from) + meshLength N + 1681 ≤ R .keys
-  pub places : 2 * length (N .station) ≤ R .places
+  pub places : 2 * length (N .station) + 4 * length (N .from) ≤ R .places
   pub blocks : 3 * length (N .station) ≤ R .blocks
   pub frames : 4 * length (N .station) ≤ R .frames
-  pub path : 2 * length (N .station) + 2 * meshLength N + 16 ≤ R .path
+  pub path : 2 * length (N .station) + 3 * meshLength N + 16 ≤ R .path
 
 -- The first of these lengths is enough, and the rest are not too short.
 enough : (have need : ℕ) (rest : Bool) → (ltb have need || rest) ≡ false → (need ≤ have) × (rest ≡ false)
@@ -118,7 +118,7 @@ fits-of o N R h =
     in
     let p = five (R .positions) (2 * n) (R .bars) (4 * n) (R .boxes) (4 * k) (R .scales) k (R .roles) m (z .2) in
     let rest : Bool =
-    ltb (R .keys) s || (ltb (R .places) (2 * n) || (ltb (R .blocks) (3 * n) || (ltb (R .frames) (4 * n) || (ltb (R .path) (2 * n + 2 * meshLength N + 16) || ltb (R .sorted) (indexLength n)))))
+    ltb (R .keys) s || (ltb (R .places) (2 * n + 4 * m) || (ltb (R .blocks) (3 * n) || (ltb (R .frames) (4 * n) || (ltb (R .path) (2 * n + 3 * meshLength N + 16) || ltb (R .sorted) (indexLength n)))))
     in
     let w1 =
     enough (R .stations) (2 * n)
@@ -131,10 +131,10 @@ fits-of o N R h =
     let w5 = enough (R .spare) s rest (w4 .1) in
     let w6 =
     enough (R .keys) s
-    (ltb (R .places) (2 * n) || (ltb (R .blocks) (3 * n) || (ltb (R .frames) (4 * n) || (ltb (R .path) (2 * n + 2 * meshLength N + 16) || ltb (R .sorted) (indexLength n)))))
+    (ltb (R .places) (2 * n + 4 * m) || (ltb (R .blocks) (3 * n) || (ltb (R .frames) (4 * n) || (ltb (R .path) (2 * n + 3 * meshLength N + 16) || ltb (R .sorted) (indexLength n)))))
     (w5 .1)
     in
-    let w = five (R .places) (2 * n) (R .blocks) (3 * n) (R .frames) (4 * n) (R .path) (2 * n + 2 * meshLength N + 16) (R .sorted) (indexLength n) (w6 .1) in
+    let w = five (R .places) (2 * n + 4 * m) (R .blocks) (3 * n) (R .frames) (4 * n) (R .path) (2 * n + 3 * meshLength N + 16) (R .sorted) (indexLength n) (w6 .1) in
     record {
       shape = shape-fits _ _ _ _ (z .0);
       search = search-in o (test-on _ (z .1));

@@ -10,7 +10,7 @@ use Rattle.network.specs.declared.options.Options.{Options}
 use Rattle.network.specs.Options.{inRange}
 use Rattle.network.specs.Words.{stationCount, occupied}
 use Rattle.network.specs.Refusal.{refuse, tooMany, kvUnlike, toUnlike, numberTooHigh, strayVoltage, tooFar, shapeRefusal}
-use Rattle.placement.specs.Modest.{illSized}
+use Rattle.placement.specs.Sized.{illSized}
 use Rattle.routes.specs.Routes.{routeRefusal}
 use Rattle.drawing.specs.Network.{Network, Lists, Work, Crossings}
 use Rattle.drawing.specs.Drawing.{drawing}

@@ -13,7 +13,7 @@ use Rattle.network.specs.declared.options.Options.{Options}
 use Rattle.network.specs.Options.{inRange}
 use Rattle.network.specs.Words.{stationCount, occupied}
 use Rattle.network.specs.Refusal.{refuse, shapeRefusal, tooFar}
-use Rattle.placement.specs.Modest.{illSized}
+use Rattle.placement.specs.Sized.{illSized}
 use Rattle.cells.specs.Index.{indexLength}
 use Rattle.bars.specs.declared.Bar.{Bar}
 use Rattle.bars.specs.Bar.{position}
@@ -76,7 +76,7 @@ unfoldable pub shortWork : ℕ → ℕ → ℕ → Room → Bool
 shortWork n m mesh R =
     ltb (R .stations) (2 * n) || (ltb (R .buses) (3 * n) || (ltb (R .ends) (4 * m + 4 * mesh + 4)
     || (ltb (R .sorted) (sorting n m mesh) || (ltb (R .spare) (sorting n m mesh) || (ltb (R .keys) (sorting n m mesh)
-    || (ltb (R .places) (2 * n) || (ltb (R .blocks) (3 * n) || (ltb (R .frames) (4 * n) || (ltb (R .path) (2 * n + 2 * mesh + 16) || ltb (R .sorted) (indexLength n))))))))))
+    || (ltb (R .places) (2 * n + 4 * m) || (ltb (R .blocks) (3 * n) || (ltb (R .frames) (4 * n) || (ltb (R .path) (2 * n + 3 * mesh + 16) || ltb (R .sorted) (indexLength n))))))))))
 
 -- r, or where it is 0 what comes after it
 abbrev pub orLater : ℕ → ℕ → ℕ
@@ -149,8 +149,8 @@ listsAfter r D L =
     (after r (D .branches) (L .branches))
 
 -- After a call that isn't refused by 1 to 7 all work lists hold zeros.
-abbrev pub noughts : List ℕ → List ℕ
-noughts l = replicate (length l) 0
+abbrev pub zeroNumbers : List ℕ → List ℕ
+zeroNumbers l = replicate (length l) 0
 
 abbrev pub zeros : List Float → List Float
 zeros l = replicate (length l) f0
@@ -158,12 +158,12 @@ zeros l = replicate (length l) f0
 unfoldable pub clearedWork : Work → Work
 clearedWork W =
     work
-    (noughts (W .stations))
-    (noughts (W .buses))
-    (noughts (W .ends))
-    (noughts (W .sorted))
-    (noughts (W .spare))
-    (noughts (W .keys))
+    (zeroNumbers (W .stations))
+    (zeroNumbers (W .buses))
+    (zeroNumbers (W .ends))
+    (zeroNumbers (W .sorted))
+    (zeroNumbers (W .spare))
+    (zeroNumbers (W .keys))
     (zeros (W .places))
     (zeros (W .blocks))
     (zeros (W .frames))
@@ -171,7 +171,7 @@ clearedWork W =
 
 unfoldable pub clearedCrossings : Crossings → Crossings
 clearedCrossings X =
-    crossings (noughts (X .numbers)) (zeros (X .places)) (zeros (X .ways))
+    crossings (zeroNumbers (X .numbers)) (zeros (X .places)) (zeros (X .ways))
 
 -- ---- the whole of a call: its answer, and the lists after it
 

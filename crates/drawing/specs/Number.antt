@@ -8,7 +8,7 @@ use Rattle.network.specs.declared.options.Options.{Options}
 use Rattle.network.specs.Options.{inRange}
 use Rattle.network.specs.Words.{stationCount, occupied}
 use Rattle.network.specs.Refusal.{refuse, tooMany, kvUnlike, toUnlike, numberTooHigh, strayVoltage, tooFar}
-use Rattle.placement.specs.Modest.{illSized}
+use Rattle.placement.specs.Sized.{illSized}
 use Rattle.drawing.specs.declared.room.Room.{Room}
 use Rattle.drawing.specs.Network.{Network, Lists, Work, Crossings}
 use Rattle.drawing.specs.Drawing.{drawing}

@@ -55,7 +55,7 @@ fn short_work(n: usize, m: usize, mesh: usize, room: Room) -> bool
     if room.keys < sorting {
         return true;
     }
-    if room.places < 2 * n {
+    if room.places < 2 * n + 4 * m {
         return true;
     }
     if room.blocks < 3 * n {
@@ -64,7 +64,7 @@ fn short_work(n: usize, m: usize, mesh: usize, room: Room) -> bool
     if room.frames < 4 * n {
         return true;
     }
-    if room.path < 2 * n + 2 * mesh + 16 {
+    if room.path < 2 * n + 3 * mesh + 16 {
         return true;
     }
     room.sorted < index_length(n)

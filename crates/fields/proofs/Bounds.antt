@@ -8,7 +8,7 @@ use borrow.Author.Tests.{leb-true, ltb-true}
 use Rattle.fields.specs.declared.field.Field.{Field}
 use Rattle.fields.specs.declared.field.Field.the-variants.{Value, Wrong}
 use Rattle.fields.specs.Field.{Read, got, wrong, digit, closed, digitsTo, limited, positive, whole, minus, plus}
-use Rattle.fields.specs.Places.{fieldOf, signedOf, minusOf, plusOf, Between}
+use Rattle.fields.specs.Stages.Places.{fieldOf, signedOf, minusOf, plusOf, Between}
 use Rattle.fields.proofs.Fields.{on-test}
 
 pub not-got : {A P : Type 0} {v : A} {l : List ℕ} → wrong ≡ got v l → P

@@ -1,3 +1,3 @@
 pub mod Field
-pub mod Places
 pub mod Spell
+pub mod Stages

@@ -3,7 +3,7 @@ ghost use mathlib.Core.Path.{_≡_};
 ghost use Prim.Native.Nat.{_+_, _-_, _^_, _≤_, _<_};
 ghost use lib.ListN.{drop};
 ghost use Rattle.fields.specs.Field.{digit as digitOf, closed as closedBy, digitsTo, limited, positive as positiveTo, whole as wholeTo, pattern as patternTo, busNumber};
-ghost use Rattle.fields.specs.Places.{fieldOf, signedOf, Between, minusOf, plusOf};
+ghost use Rattle.fields.specs.Stages.Places.{fieldOf, signedOf, Between, minusOf, plusOf};
 
 pub enum Field {
     Value { value: u64, next: usize },

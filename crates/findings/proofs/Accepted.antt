@@ -9,7 +9,7 @@ use Rattle.proximity.specs.Overlap.{overlap}
 use Rattle.network.specs.Words.{busCounts, isOccupied}
 use Rattle.placement.specs.Place.{boxIn}
 use Rattle.overlaps.specs.Overlaps.{overlaps}
-use Rattle.overlaps.proofs.NoClash.{no-clashes}
+use Rattle.overlaps.proofs.NoOverlapping.{no-overlapping}
 use Rattle.findings.specs.declared.answer.Figures.{Figures}
 use Rattle.findings.specs.declared.answer.Audit.the-variants.{Audited, Refused}
 use Rattle.findings.specs.Drawn.{Drawn, Lists, Work, roomOf}
@@ -34,4 +34,4 @@ module _ (D : Drawn) (L : Lists) (W : Work) (f : Figures) where
   pub accepted-apart : ((s t : ℕ) → s ≢ t → isOccupied (busCounts (D .station)) s ≡ true → isOccupied (busCounts (D .station)) t ≡ true
       → overlap (shrunk (boxIn (boxesOf D) t)) (boxIn (boxesOf D) s) ≡ false) → auditOf D L W .answer ≡ Audited f → f .overlaps ≡ 0
   unfolding figuresOf stationsOf
-  accepted-apart free e = ap (λ (g : Figures). g .overlaps) (accepted e) ∙ no-clashes (busCounts (D .station)) (boxesOf D) free
+  accepted-apart free e = ap (λ (g : Figures). g .overlaps) (accepted e) ∙ no-overlapping (busCounts (D .station)) (boxesOf D) free

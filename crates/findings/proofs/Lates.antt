@@ -11,10 +11,10 @@ use borrow.Author.Tests.{eqb-true}
 use Rattle.network.specs.Words.{stationCount, busCounts, occupied}
 use Rattle.network.specs.Views.{countsIn, boxesIn}
 use Rattle.runs.specs.Lists.{after}
-use Rattle.fit.specs.Fit.{allNamed, allJoin, allModerate, allUpright, fits}
+use Rattle.fit.specs.Fit.{allNamed, allJoin, allModerate, allOrdered, fits}
 use Rattle.fit.specs.Scale.{illDrawn}
 use Rattle.fit.proofs.Testing.{all-finite}
-use Rattle.overlaps.specs.Sweep.{Finite}
+use Rattle.overlaps.specs.Stages.Sweep.{Finite}
 use Rattle.findings.specs.declared.answer.Figures.{Figures}
 use Rattle.findings.specs.declared.answer.Audit.the-variants.{Audited, Refused}
 use Rattle.findings.specs.Drawn.{Drawn, Lists, lists}
@@ -52,7 +52,7 @@ module _ (sub : List ℕ) (from to : List ℤ) (boxes : List Float) (roles : Lis
   third = eqb (length pieces) (4 * length branches)
 
   abbrev later : Bool
-  later = allNamed (length from) branches && (allJoin (length sub) from to roles && (allModerate boxes && (allModerate pieces && allUpright (stationCount sub) boxes)))
+  later = allNamed (length from) branches && (allJoin (length sub) from to roles && (allModerate boxes && (allModerate pieces && allOrdered (stationCount sub) boxes)))
 
   parts : (length boxes ≡ 4 * stationCount sub) × (length pieces ≡ 4 * length branches) × (true ≡ later)
   unfolding fits
@@ -67,9 +67,9 @@ module _ (sub : List ℕ) (from to : List ℤ) (boxes : List Float) (roles : Lis
 
   pub fit-finite : Finite boxes
   fit-finite =
-      let p = both (allNamed (length from) branches) (allJoin (length sub) from to roles && (allModerate boxes && (allModerate pieces && allUpright (stationCount sub) boxes))) (parts .2) in
-      let q = both (allJoin (length sub) from to roles) (allModerate boxes && (allModerate pieces && allUpright (stationCount sub) boxes)) (sym (p .1)) in
-      let r = both (allModerate boxes) (allModerate pieces && allUpright (stationCount sub) boxes) (sym (q .1)) in
+      let p = both (allNamed (length from) branches) (allJoin (length sub) from to roles && (allModerate boxes && (allModerate pieces && allOrdered (stationCount sub) boxes))) (parts .2) in
+      let q = both (allJoin (length sub) from to roles) (allModerate boxes && (allModerate pieces && allOrdered (stationCount sub) boxes)) (sym (p .1)) in
+      let r = both (allModerate boxes) (allModerate pieces && allOrdered (stationCount sub) boxes) (sym (q .1)) in
       record { at = all-finite boxes (r .0) }
 
 -- ---- answers and lists

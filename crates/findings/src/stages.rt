@@ -4,7 +4,7 @@ ghost use Prim.Native.Nat.{_*_, _≤_};
 ghost use lib.ListN.{length};
 ghost use Rattle.network.specs.Words.{stationCount, busCounts};
 ghost use Rattle.network.specs.Views.{countsIn};
-ghost use Rattle.overlaps.specs.Sweep.{Finite};
+ghost use Rattle.overlaps.specs.Stages.Sweep.{Finite};
 ghost use Rattle.findings.specs.Drawn.{drawn, lists};
 ghost use Rattle.findings.specs.Answer.{Figured};
 use crate::answer::Figures;

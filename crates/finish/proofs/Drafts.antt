@@ -15,15 +15,15 @@ use Rattle.network.specs.declared.options.Options.{Options}
 use Rattle.network.specs.Words.{kinds, occupied}
 use Rattle.network.specs.Refusal.{everyFinite}
 use Rattle.network.specs.Views.{countsIn, boxesIn}
-use Rattle.units.specs.Views.{scalesIn}
+use Rattle.units.specs.Stages.Views.{scalesIn}
 use Rattle.bars.specs.Bar.{position}
 use Rattle.cells.specs.Cells.{cellSize}
 use Rattle.runs.specs.Run.{Piece, allPieces, role}
 use Rattle.runs.specs.Finite.{allOf, finitePoint, finiteBox, finiteBar}
 use Rattle.runs.specs.Lists.{flat, pointNumbers, boxNumbers, barNumbers, pieceNumbers, after}
-use Rattle.runs.specs.Views.{Held, held, lead}
-use Rattle.pieces.specs.Pieces.{runsIn, branchOf}
-use Rattle.results.specs.Bars.{barsIn}
+use Rattle.runs.specs.Stages.Views.{Held, held, lead}
+use Rattle.pieces.specs.Stages.Pieces.{runsIn, branchOf}
+use Rattle.results.specs.Stages.Bars.{barsIn}
 use Rattle.results.specs.Bounds.{boundsOf}
 use Rattle.results.proofs.Finites.{finite-boxes}
 use Rattle.crossings.specs.Gap.{gapOf}
@@ -33,8 +33,8 @@ use Rattle.drawing.specs.declared.room.Room.{Room}
 use Rattle.drawing.specs.Network.{Network, Lists, lists}
 use Rattle.drawing.specs.Drawing.{drawing}
 use Rattle.drawing.specs.Answer.{orLater, routedBy, lateBy, late, crossingRoom, allFinite, listsOf, listsAfter, answerBy, answerFor}
-use Rattle.chart.specs.Charted.{routedLate, Charted}
-use Rattle.finish.specs.Draft.{Judged, Drew}
+use Rattle.chart.specs.Stages.Charted.{routedLate, Charted}
+use Rattle.finish.specs.Stages.Draft.{Judged, Drew}
 use Rattle.drawing.proofs.Lates.{room-of}
 
 lists-eq : {a a' b b' c c' d d' : List Float} {e e' : List ℕ} {f f' : List Float} {g g' : List ℕ}

@@ -7,16 +7,18 @@ ghost use Rattle.network.specs.Words.{occupied};
 ghost use Rattle.network.specs.Views.{countsIn, boxesIn};
 ghost use Rattle.cells.specs.Cells.{cellSize};
 ghost use Rattle.cells.specs.Index.{Indexed};
-ghost use Rattle.crossings.specs.Gap.{gapOf};
 ghost use Rattle.drawing.specs.Network.{network};
 ghost use Rattle.drawing.specs.Answer.{crossingRoom};
-ghost use Rattle.chart.specs.Charted.{Charted};
-ghost use Rattle.finish.specs.Draft.{Judged};
+ghost use Rattle.chart.specs.Stages.Charted.{Charted};
+ghost use Rattle.finish.specs.Stages.Draft.{Judged};
 use cells::cells::cell_size;
 use cells::index::index_boxes;
 use chart::Course;
+use crossings::gap::gap_of;
 use drawing::late::all_finite;
+use crossings::gap::gap_of;
 use drawing::late::late_of;
+use crossings::gap::gap_of;
 use drawing::room::Room;
 use geometry::Box;
 use network::options::Options;
@@ -31,13 +33,6 @@ pub struct Draft {
     pub pieces: usize,
     pub late: u32,
     pub cell: f64,
-}
-
-// The gap between lines, 0.8 × unit.
-pub(crate) fn gap_of(unit: f64) -> f64
-    ensures { λ r. ⌜ r ≡ gapOf unit ⌝ }
-{
-    0.8 * unit
 }
 
 // Whether lines are led: there are iterations.

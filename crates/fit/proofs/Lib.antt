@@ -1,3 +1,3 @@
 -- Laws that the functions' proofs and the crates above use.
-pub mod Each
+pub mod AllTo
 pub mod Testing

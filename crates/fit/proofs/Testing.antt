@@ -13,10 +13,10 @@ use Rattle.float.specs.Ops.{f0}
 use Rattle.geometry.specs.declared.Box.{Box}
 use Rattle.network.specs.declared.words.Known.{Known}
 use Rattle.network.specs.Words.{stationCount}
-use Rattle.placement.specs.Modest.{largest, illSized}
-use Rattle.fit.specs.Fit.{isLine, endAt, isKnown, joins, allNamed, allJoin, moderate, allModerate, allUpright, fits}
-use Rattle.fit.specs.Scale.{modestEnds, illDrawn}
-use Rattle.fit.proofs.Each.{each-at}
+use Rattle.placement.specs.Sized.{largest, illSized}
+use Rattle.fit.specs.Fit.{isLine, endAt, isKnown, joins, allNamed, allJoin, moderate, allModerate, allOrdered, fits}
+use Rattle.fit.specs.Scale.{sizedEnds, illDrawn}
+use Rattle.fit.proofs.AllTo.{all-to-at}
 
 pub and-last : (a b t x : Bool) → t ≡ a → t ≡ true → x ≡ b → x ≡ a && b
 and-last a b t x e h q = q ∙ ap (λ (y : Bool). y && b) (sym h ∙ e)
@@ -51,7 +51,7 @@ moderate-finite (fin s m d) e = refl
 
 pub all-finite : (l : List Float) → allModerate l ≡ true → (i : ℕ) → i < length l → isFinite (getD l i nan) ≡ true
 unfolding allModerate
-all-finite l e i h = moderate-finite (getD l i nan) (each-at (λ j. moderate (getD l j nan)) (length l) i e h)
+all-finite l e i h = moderate-finite (getD l i nan) (all-to-at (λ j. moderate (getD l j nan)) (length l) i e h)
 
 -- ---- the whole of 13
 module _ (sub : List ℕ) (from to : List ℤ) (boxes : List Float) (roles : List ℕ) (pieces : List Float) (branches : List ℕ) where
@@ -73,7 +73,7 @@ module _ (sub : List ℕ) (from to : List ℤ) (boxes : List Float) (roles : Lis
         abbrev rest : Bool → Bool → Bool → Bool → Bool → Bool → Bool
         rest p n j m o u = p && (n && (j && (m && (o && u))))
 
-        fits-rest : rest (eqb (length pieces) (4 * length branches)) (allNamed (length from) branches) (allJoin (length sub) from to roles) (allModerate boxes) (allModerate pieces) (allUpright k boxes) ≡ Fits
+        fits-rest : rest (eqb (length pieces) (4 * length branches)) (allNamed (length from) branches) (allJoin (length sub) from to roles) (allModerate boxes) (allModerate pieces) (allOrdered k boxes) ≡ Fits
         unfolding fits
         fits-rest = rw (sym ke, eq-eqb (length boxes) (4 * k) b, eq-eqb (length roles) (length from) r) refl
 
@@ -97,26 +97,26 @@ module _ (sub : List ℕ) (from to : List ℤ) (boxes : List Float) (roles : Lis
                   pub by-numbers : o ≡ false → false ≡ Fits
                   by-numbers h = rw (sym pe, pt, sym ne, nt, sym je, jt, sym me, mt, sym oe, h) at fits-rest
 
-                  pub by-sides : o ≡ true → (u : Bool) → u ≡ allUpright k boxes → u ≡ Fits
+                  pub by-sides : o ≡ true → (u : Bool) → u ≡ allOrdered k boxes → u ≡ Fits
                   by-sides ot u ue = rw (sym pe, pt, sym ne, nt, sym je, jt, sym me, mt, sym oe, ot, sym ue) at fits-rest
 
 -- ---- 8
 module _ (bs : List Box) (ss : List ℕ) (pieces : List Float) (i : Bool) (e : i ≡ illSized bs ss) where
   pub ill-boxes : i ≡ true → true ≡ illDrawn bs ss pieces
   unfolding illDrawn
-  ill-boxes h = ap (λ (x : Bool). x || (ltb 0 (length ss) && not (modestEnds (largest bs f0 ss) pieces))) (sym h ∙ e)
+  ill-boxes h = ap (λ (x : Bool). x || (ltb 0 (length ss) && not (sizedEnds (largest bs f0 ss) pieces))) (sym h ∙ e)
 
   module _ (h : i ≡ false) (a : Bool) (f : a ≡ ltb 0 (length ss)) where
-    ill-rest : (a && not (modestEnds (largest bs f0 ss) pieces)) ≡ illDrawn bs ss pieces
+    ill-rest : (a && not (sizedEnds (largest bs f0 ss) pieces)) ≡ illDrawn bs ss pieces
     unfolding illDrawn
     ill-rest =
-        ap (λ (x : Bool). x && not (modestEnds (largest bs f0 ss) pieces)) f
-        ∙ ap (λ (x : Bool). x || (ltb 0 (length ss) && not (modestEnds (largest bs f0 ss) pieces))) (sym h ∙ e)
+        ap (λ (x : Bool). x && not (sizedEnds (largest bs f0 ss) pieces)) f
+        ∙ ap (λ (x : Bool). x || (ltb 0 (length ss) && not (sizedEnds (largest bs f0 ss) pieces))) (sym h ∙ e)
 
     pub ill-skipped : a ≡ false → false ≡ illDrawn bs ss pieces
-    ill-skipped g = ap (λ (x : Bool). x && not (modestEnds (largest bs f0 ss) pieces)) (sym g) ∙ ill-rest
+    ill-skipped g = ap (λ (x : Bool). x && not (sizedEnds (largest bs f0 ss) pieces)) (sym g) ∙ ill-rest
 
-    pub ill-ends : a ≡ true → (l : Float) (m : Bool) → l ≡ largest bs f0 ss → m ≡ modestEnds l pieces → not m ≡ illDrawn bs ss pieces
+    pub ill-ends : a ≡ true → (l : Float) (m : Bool) → l ≡ largest bs f0 ss → m ≡ sizedEnds l pieces → not m ≡ illDrawn bs ss pieces
     ill-ends g l m p q =
-        ap not (q ∙ ap (λ (x : Float). modestEnds x pieces) p)
-        ∙ ap (λ (x : Bool). x && not (modestEnds (largest bs f0 ss) pieces)) (sym g) ∙ ill-rest
+        ap not (q ∙ ap (λ (x : Float). sizedEnds x pieces) p)
+        ∙ ap (λ (x : Bool). x && not (sizedEnds (largest bs f0 ss) pieces)) (sym g) ∙ ill-rest

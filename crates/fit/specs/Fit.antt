@@ -7,20 +7,16 @@ use lib.IntN.{ℤ, negsuc}
 use lib.ListN.{length, getD}
 use lib.Ieee.{Float, nan, binary64, lt, le, ofBits}
 use Rattle.float.specs.Small.{absOf}
+use Rattle.order.specs.Order.{allTo}
 use Rattle.geometry.specs.declared.Box.{Box}
 use Rattle.geometry.specs.Plane.{boxAt}
 use Rattle.network.specs.declared.words.Known.{Known}
 use Rattle.network.specs.declared.words.Known.the-variants.{Bus, Unknown}
 use Rattle.network.specs.Words.{stationCount, known}
 
--- all of 0, .., n - 1 pass a test
-unfoldable pub each : (ℕ → Bool) → ℕ → Bool
-each p zero = true
-each p (suc n) = each p n && p n
-
 -- every piece names a branch, of m
 unfoldable pub allNamed : ℕ → List ℕ → Bool
-allNamed m branches = each (λ j. ltb (getD branches j 0) m) (length branches)
+allNamed m branches = allTo (λ j. ltb (getD branches j 0) m) (length branches)
 
 -- a line-role branch: role 0
 unfoldable pub isLine : List ℕ → ℕ → Bool
@@ -39,21 +35,21 @@ unfoldable pub joins : ℕ → List ℤ → List ℤ → List ℕ → ℕ → Bo
 joins n from to roles e = not (isLine roles e) || (isKnown (endAt n from e) && isKnown (endAt n to e))
 
 unfoldable pub allJoin : ℕ → List ℤ → List ℤ → List ℕ → Bool
-allJoin n from to roles = each (joins n from to roles) (length from)
+allJoin n from to roles = allTo (joins n from to roles) (length from)
 
 -- a box or piece number is at most 2^100 in size
 unfoldable pub moderate : Float → Bool
 moderate x = le (absOf x) (ofBits binary64 0x4630_0000_0000_0000)
 
 unfoldable pub allModerate : List Float → Bool
-allModerate l = each (λ i. moderate (getD l i nan)) (length l)
+allModerate l = allTo (λ i. moderate (getD l i nan)) (length l)
 
 -- a box's left isn't above its right nor its top above its bottom; all of k
-unfoldable pub upright : Box → Bool
-upright b = not (lt (b .right) (b .left)) && not (lt (b .bottom) (b .top))
+unfoldable pub ordered : Box → Bool
+ordered b = not (lt (b .right) (b .left)) && not (lt (b .bottom) (b .top))
 
-unfoldable pub allUpright : ℕ → List Float → Bool
-allUpright k boxes = each (λ s. upright (boxAt boxes s)) k
+unfoldable pub allOrdered : ℕ → List Float → Bool
+allOrdered k boxes = allTo (λ s. ordered (boxAt boxes s)) k
 
 -- 13 is given where this fails
 unfoldable pub fits : List ℕ → List ℤ → List ℤ → List Float → List ℕ → List Float → List ℕ → Bool
@@ -65,4 +61,4 @@ fits sub from to boxes roles pieces branches =
     && (allJoin (length sub) from to roles
     && (allModerate boxes
     && (allModerate pieces
-    && allUpright (stationCount sub) boxes))))))
+    && allOrdered (stationCount sub) boxes))))))

@@ -3,7 +3,7 @@ ghost use mathlib.Core.Path.{_≡_};
 ghost use Prim.Native.Nat.{_*_, _≤_};
 ghost use lib.Dec.{eqb};
 ghost use lib.ListN.{length, getD};
-ghost use Rattle.fit.specs.Fit.{allNamed, isLine, endAt, isKnown, joins, allJoin, moderate, allModerate, upright, allUpright, fits};
+ghost use Rattle.fit.specs.Fit.{allNamed, isLine, endAt, isKnown, joins, allJoin, moderate, allModerate, ordered, allOrdered, fits};
 use float::small::abs;
 use geometry::Box;
 use geometry::box_at;
@@ -116,8 +116,8 @@ fn all_moderate(list: &[f64]) -> bool
 }
 
 // Whether a box's left isn't above its right nor its top above its bottom.
-fn upright(b: Box) -> bool
-    ensures { λ r. ⌜ r ≡ upright b ⌝ }
+fn ordered(b: Box) -> bool
+    ensures { λ r. ⌜ r ≡ ordered b ⌝ }
 {
     if b.right < b.left {
         return false;
@@ -125,14 +125,14 @@ fn upright(b: Box) -> bool
     !(b.bottom < b.top)
 }
 
-// Whether all of k boxes are upright.
-fn all_upright(k: usize, boxes: &[f64]) -> bool
+// Whether all of k boxes are ordered.
+fn all_ordered(k: usize, boxes: &[f64]) -> bool
     requires { ⌜ 4 * k ≤ length (now boxes) ⌝ }
-    ensures { λ r. ⌜ r ≡ allUpright k (now (boxes .entry)) ⌝ }
+    ensures { λ r. ⌜ r ≡ allOrdered k (now (boxes .entry)) ⌝ }
 {
     let mut s = 0;
     while s < k {
-        if upright(box_at(boxes, s)) {
+        if ordered(box_at(boxes, s)) {
             s += 1;
         } else {
             return false;
@@ -189,5 +189,5 @@ pub fn fits(
     if !all_moderate(pieces) {
         return false;
     }
-    all_upright(k, boxes)
+    all_ordered(k, boxes)
 }

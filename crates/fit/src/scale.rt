@@ -4,19 +4,19 @@ ghost use Prim.Native.Nat.{_*_, _≤_};
 ghost use lib.ListN.{length};
 ghost use Rattle.network.specs.Words.{occupied};
 ghost use Rattle.network.specs.Views.{countsIn, boxesIn};
-ghost use Rattle.fit.specs.Scale.{modestEnds, illDrawn};
-use placement::modest::any_occupied;
-use placement::modest::ill_sized;
-use placement::modest::largest;
-use placement::modest::modest;
+ghost use Rattle.fit.specs.Scale.{sizedEnds, illDrawn};
+use placement::sized::any_occupied;
+use placement::sized::ill_sized;
+use placement::sized::largest;
+use placement::sized::sized;
 
 // Whether every piece end's coordinate divided by l is at most 2^40 in size.
-fn modest_ends(l: f64, pieces: &[f64]) -> bool
-    ensures { λ r. ⌜ r ≡ modestEnds l (now (pieces .entry)) ⌝ }
+fn sized_ends(l: f64, pieces: &[f64]) -> bool
+    ensures { λ r. ⌜ r ≡ sizedEnds l (now (pieces .entry)) ⌝ }
 {
     let mut i = 0;
     while i < pieces.len() {
-        if modest(l, pieces[i]) {
+        if sized(l, pieces[i]) {
             i += 1;
         } else {
             return false;
@@ -34,7 +34,7 @@ pub fn ill_drawn(k: usize, stations: &[u32], boxes: &[f64], pieces: &[f64]) -> b
         return true;
     }
     if any_occupied(k, stations) {
-        return !modest_ends(largest(k, stations, boxes), pieces);
+        return !sized_ends(largest(k, stations, boxes), pieces);
     }
     false
 }

@@ -16,7 +16,7 @@ use lib.Ieee.Bits.{ofBits-toBits}
 use borrow.Author.Tests.{eq-eqb, ne-eqb}
 use Rattle.float.specs.Small.{absOf, isFinite}
 use Rattle.float.specs.Hypot.{grains, nearestRoot, hypotOf}
-use Rattle.float.specs.Steps.{Close, upBy}
+use Rattle.float.specs.Stages.Steps.{Close, upBy}
 use Rattle.float.proofs.Pack.{bits-under}
 use Rattle.float.proofs.Rounding.{root, root-unique, root-is, from-digits, sq-lt-back, sq-le, nearest-lt, nearest-eq, nearest-gt, nearest-is}
 use Rattle.float.proofs.Keys.{parts}

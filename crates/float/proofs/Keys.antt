@@ -17,7 +17,7 @@ use borrow.Author.Tests.{le-leb, lt-leb, eq-eqb, ne-eqb}
 use Rattle.float.specs.Key.{keyOf}
 use Rattle.float.specs.Ops.{orderKey}
 use Rattle.float.specs.Small.{isFinite}
-use Rattle.float.specs.Steps.{Packed}
+use Rattle.float.specs.Stages.Steps.{Packed}
 use Rattle.float.proofs.Signs.{zero-bits, inf-bits, odd-neg}
 use Rattle.float.proofs.Pack.{packed-value}
 

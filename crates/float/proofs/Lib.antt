@@ -6,6 +6,7 @@ pub mod RoundLaws
 pub mod OperationLaws
 pub mod FloorLaws
 pub mod Extend
+pub mod Guess
 pub mod Hypots
 pub mod Sums
 pub mod Floors

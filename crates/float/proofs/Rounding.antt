@@ -13,7 +13,7 @@ use lib.Ieee.{Float, size, nearest, units, binary64}
 use lib.Ieee.Digits.{size-lt, size-le, size-reaches}
 use borrow.Author.Tests.{le-leb, lt-leb, eq-eqb, ne-eqb}
 use Rattle.float.specs.Hypot.{rootIn, nearestRoot}
-use Rattle.float.specs.Steps.{Close, upBy}
+use Rattle.float.specs.Stages.Steps.{Close, upBy}
 use Rattle.float.proofs.Pack.{size-exact}
 
 -- ---- the whole part of the square root

@@ -4,10 +4,10 @@ pub mod Key
 pub mod TotalOrder
 pub mod Hypot
 pub mod Cases
-pub mod Steps
 pub mod Floor
 pub mod Rounding
 pub mod Operations
 pub mod Size
 pub mod Double
 pub mod DoubleCases
+pub mod Stages

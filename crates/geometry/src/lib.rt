@@ -4,7 +4,7 @@ ghost use mathlib.Core.Bool.{true, false, _&&_};
 ghost use Prim.Native.Nat.{_+_, _*_, _<_};
 ghost use lib.ListN.{length, getD};
 ghost use lib.Ieee.{nan};
-ghost use Rattle.geometry.specs.Plane.{point, pointAt, boxAt};
+ghost use Rattle.geometry.specs.Plane.{point, pointAt, boxAt, shrunk};
 ghost use Rattle.geometry.specs.Clip.{part, clipBy, met, hits};
 ghost use Rattle.geometry.specs.Cross.{orient, crosses, parallel, param, placeOr};
 use float::hypot::hypot;
@@ -49,6 +49,18 @@ pub fn box_at(frames: &[f64], s: usize) -> Box
         top: frames[4 * s + 1],
         right: frames[4 * s + 2],
         bottom: frames[4 * s + 3],
+    }
+}
+
+// A box with its sides moved in by 1e-9.
+pub fn shrunk(b: Box) -> Box
+    ensures { λ r. ⌜ r ≡ shrunk b ⌝ }
+{
+    Box {
+        left: b.left + 1e-9,
+        top: b.top + 1e-9,
+        right: b.right - 1e-9,
+        bottom: b.bottom - 1e-9,
     }
 }
 

@@ -5,7 +5,7 @@ ghost use Prim.Native.Nat.{_+_, _-_, _*_, _^_, _≤_, _<_};
 ghost use lib.ListN.{length, getD, take, drop, replicate};
 ghost use Rattle.order.specs.Table.{strided};
 ghost use Rattle.walk.specs.Round.{roundOf};
-ghost use Rattle.grouping.specs.Grouped.{Started, Copied, Grouped};
+ghost use Rattle.grouping.specs.Stages.Grouped.{Started, Copied, Grouped};
 use order::at;
 use order::key_at;
 use order::number;

@@ -9,7 +9,7 @@ use Rattle.drawing.specs.declared.answer.Answer.the-variants.{Refused}
 use Rattle.drawing.specs.Network.{Network, Lists, Work, Crossings}
 use Rattle.drawing.specs.Drawing.{drawing}
 use Rattle.drawing.specs.Answer.{roomOf, early, late, clearedWork, clearedCrossings, call, callLate, callEarly, layoutOf}
-use Rattle.finish.specs.Draft.{Drew}
+use Rattle.finish.specs.Stages.Draft.{Drew}
 use Rattle.drawing.specs.Number.{Answered}
 use Rattle.drawing.proofs.Number.{answered}
 

@@ -10,7 +10,7 @@ use Rattle.drawing.specs.declared.answer.Answer.{Answer}
 use Rattle.drawing.specs.declared.answer.Answer.the-variants.{Drawn, Refused}
 use Rattle.drawing.specs.Network.{Network, network, Lists, lists}
 use Rattle.drawing.specs.Answer.{Call}
-use Rattle.small.specs.Held.{noughts, zeros, heldCall}
+use Rattle.small.specs.Held.{zeroNumbers, zeros, heldCall}
 use Rattle.listing.specs.Input.{Input, parsed}
 use Rattle.listing.specs.LinePlaces.{answer, numberOf}
 use Rattle.listing.specs.Output.{listing, refusal}
@@ -32,7 +32,7 @@ listOptions =
 
 -- the lists that it lends, long enough for 64 buses and 64 branches, whose runs have three pieces at most
 abbrev pub resultLists : Lists
-resultLists = lists (zeros 128) (zeros 256) (zeros 256) (zeros 64) (noughts 64) (zeros 768) (noughts 192)
+resultLists = lists (zeros 128) (zeros 256) (zeros 256) (zeros 64) (zeroNumbers 64) (zeros 768) (zeroNumbers 192)
 
 -- the call of layout, with these result lists, room for 64 stations and none for crossings
 unfoldable pub plotted : Network → Lists → Call

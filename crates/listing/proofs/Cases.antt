@@ -16,12 +16,12 @@ use Rattle.fields.specs.Spell.{numberField, shown}
 abbrev hundred : List ℕ
 hundred = 52 ∷ 48 ∷ 53 ∷ 57 ∷ replicate 12 48
 
-abbrev nought : List ℕ
-nought = replicate 16 48
+abbrev zeroDigits : List ℕ
+zeroDigits = replicate 16 48
 
 -- `0 4059000000000000 0000000000000000 0000000000000000`, with other bytes in the place of its number, its first space, its kv and its line end
 abbrev bus : List ℕ → List ℕ → List ℕ → List ℕ → List ℕ
-bus number space kv end = number ++ space ++ kv ++ (32 ∷ []) ++ nought ++ (32 ∷ []) ++ nought ++ end
+bus number space kv end = number ++ space ++ kv ++ (32 ∷ []) ++ zeroDigits ++ (32 ∷ []) ++ zeroDigits ++ end
 
 abbrev goodBus : List ℕ
 goodBus = bus (48 ∷ []) (32 ∷ []) hundred (10 ∷ [])

@@ -9,7 +9,8 @@ use native.Mathlib.Numerals.{add-one}
 use lib.ListN.{length}
 use borrow.Author.Tests.{not-true}
 use Rattle.order.proofs.Merging.{le-or-lt}
-use Rattle.mesh.specs.Mesh.{allTo, cornerOk, twinOk, edgesOk}
+use Rattle.order.specs.Order.{allTo}
+use Rattle.mesh.specs.Mesh.{cornerOk, twinOk, edgesOk}
 
 pub both : (a b : Bool) → (a && b) ≡ true → (a ≡ true) × (b ≡ true)
 both true b h = (refl, h)

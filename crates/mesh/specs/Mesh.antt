@@ -4,6 +4,7 @@ use mathlib.Core.Bool.{Bool, true, not, cond, _&&_, _||_}
 use mathlib.Core.List.{List}
 use lib.Dec.{leb, ltb, eqb}
 use lib.ListN.{length, getD}
+use Rattle.order.specs.Order.{allTo}
 
 -- A half-edge is a place h of the mesh. Three in a row are a triangle, and the next of the last is the first.
 unfoldable pub next : ℕ → ℕ
@@ -30,11 +31,6 @@ highAt corners h = max (at corners h) (endAt corners h)
 -- the twin of a half-edge that has none
 abbrev pub noTwin : ℕ
 noTwin = 4294967295
-
--- all of 0, .., k - 1 pass the test
-unfoldable pub allTo : (ℕ → Bool) → ℕ → Bool
-allTo p zero = true
-allTo p (suc k) = allTo p k && p k
 
 -- corners are below the occupied count n and distinct in each triangle: each is another than the next
 unfoldable pub cornerOk : List ℕ → ℕ → ℕ → Bool

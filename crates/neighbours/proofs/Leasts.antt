@@ -16,7 +16,7 @@ use Rattle.float.proofs.Keys.{key-cases, order-key-le, order-key-lt, order-key-
 use Rattle.float.proofs.Extremes.{min-first, min-second}
 use Rattle.order.specs.Order.{pick}
 use Rattle.proximity.specs.Near.{nearer}
-use Rattle.neighbours.specs.Sweep.{Least}
+use Rattle.neighbours.specs.Stages.Sweep.{Least}
 
 truth : (b : Bool) → b ≡ true → T b
 truth b h = subst T (sym h) tt

@@ -17,7 +17,7 @@ use Rattle.float.proofs.Keys.{order-key-le, finite-no-nan}
 use Rattle.order.specs.Order.{keyAt, sortBy, upFrom}
 use Rattle.order.proofs.Merging.{length-sort}
 use Rattle.order.proofs.Laws.{length-up, up-more}
-use Rattle.neighbours.specs.Sweep.{xAt, Numbered, Swept}
+use Rattle.neighbours.specs.Stages.Sweep.{xAt, Numbered, Swept}
 
 pub numbered-none : (ps : List Float) (ks o : List ℕ) → Numbered ps 0 ks o
 unfolding upFrom

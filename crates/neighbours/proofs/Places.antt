@@ -13,7 +13,7 @@ use Rattle.order.specs.Table.{howMany}
 use Rattle.order.proofs.Merging.{length-sort}
 use Rattle.order.proofs.Laws.{length-up, sorted, below-sort, place-law, rank-found, count-sort}
 use Rattle.order.proofs.Tables.{howMany-ext}
-use Rattle.neighbours.specs.Sweep.{xAt, Swept}
+use Rattle.neighbours.specs.Stages.Sweep.{xAt, Swept}
 
 -- a count by places
 count-later : (p : ℕ → Bool) (a n : ℕ) → count p (upFrom (suc a) n) ≡ count (λ q. p (suc q)) (upFrom a n)

@@ -18,7 +18,7 @@ use Rattle.float.specs.Ops.{_⊖_, f0}
 use Rattle.float.proofs.Signs.{zero-bits}
 use Rattle.float.proofs.Keys.{le-neg, le-self, finite-no-nan}
 use Rattle.float.proofs.Sums.{sub-mono, le-number}
-use Rattle.neighbours.specs.Sweep.{xAt, Swept, away}
+use Rattle.neighbours.specs.Stages.Sweep.{xAt, Swept, away}
 use Rattle.proximity.proofs.Sides.{cycle, hypot-past, raise}
 use Rattle.neighbours.proofs.Places.{place-below, place-rising}
 

@@ -21,7 +21,7 @@ use Rattle.order.specs.Table.{howMany}
 use Rattle.order.proofs.Merging.{le-or-lt}
 use Rattle.order.proofs.Tables.{howMany-yes, howMany-no, howMany-zero, howMany-ext}
 use Rattle.proximity.specs.Near.{distance, nearer, nearestTo, nearest, near, within}
-use Rattle.neighbours.specs.Sweep.{xAt, Swept, away, inReach, Others, Least}
+use Rattle.neighbours.specs.Stages.Sweep.{xAt, Swept, away, inReach, Others, Least}
 use Rattle.neighbours.proofs.Scans.{reach}
 use Rattle.neighbours.proofs.Leasts.{least-above, least-none, least-same, least-more, least-one}
 use Rattle.neighbours.proofs.Places.{place-below, place-once, place-of, place-count}

@@ -9,7 +9,7 @@ ghost use Rattle.float.specs.Small.{isFinite};
 ghost use Rattle.float.specs.Ops.{f0};
 ghost use Rattle.order.specs.Table.{table, howMany};
 ghost use Rattle.proximity.specs.Near.{nearest, neighbours};
-ghost use Rattle.neighbours.specs.Sweep.{Numbered, Swept, Others, Least, away, inReach};
+ghost use Rattle.neighbours.specs.Stages.Sweep.{Numbered, Swept, Others, Least, away, inReach};
 use float::key::order_key;
 use float::small::is_finite;
 use proximity::closer;

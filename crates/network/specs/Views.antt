@@ -14,7 +14,7 @@ countsIn k l = strided 2 0 0 k l
 abbrev pub orderIn : ℕ → List ℕ → List ℕ
 orderIn r l = strided 2 1 0 r l
 
--- three numbers for each bus: its column, and one more than its last row, 0 where it has none, beside its first row
+-- three numbers for each bus: its column, its first row, and one more than its last row, 0 where it has none
 abbrev pub columnsIn : ℕ → List ℕ → List ℕ
 columnsIn n l = strided 3 0 0 n l
 

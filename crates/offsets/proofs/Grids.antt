@@ -22,7 +22,7 @@ use Rattle.order.proofs.Tables.{length-table, getD-table, table-ext}
 use Rattle.neighbours.proofs.Fills.{fill-more}
 use Rattle.offsets.specs.declared.offset.Offset.{Offset}
 use Rattle.offsets.specs.Offset.{square, offsetNumber, offsetOf, gridNumber, offsetGrid, offsets}
-use Rattle.offsets.specs.OffsetList.{offsetAt, offsetsIn}
+use Rattle.offsets.specs.Stages.OffsetList.{offsetAt, offsetsIn}
 use Rattle.order.proofs.Sorting.{map-agree, table-map, sort-map, sort-front}
 
 -- ---- squares and their bounds

@@ -1,2 +1,2 @@
 pub mod Offset
-pub mod OffsetList
+pub mod Stages

@@ -6,7 +6,7 @@ ghost use lib.ListN.{length, drop};
 ghost use Rattle.order.specs.Order.{upFrom};
 ghost use Rattle.order.specs.Table.{table};
 ghost use Rattle.offsets.specs.Offset.{square, offsetNumber, gridNumber, offsets};
-ghost use Rattle.offsets.specs.OffsetList.{offsetAt, offsetsIn};
+ghost use Rattle.offsets.specs.Stages.OffsetList.{offsetAt, offsetsIn};
 use order::at;
 use order::key_at;
 use order::number;

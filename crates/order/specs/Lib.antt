@@ -1,5 +1,5 @@
 pub mod Order
-pub mod Merge
 pub mod Table
 pub mod Median
 pub mod Over
+pub mod Stages

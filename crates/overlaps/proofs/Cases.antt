@@ -8,7 +8,7 @@ use lib.Ieee.{binary64, ofBits, ofFields, odd, units, round, size, span, climb, 
 use Rattle.order.specs.Order.{count, upFrom}
 use Rattle.geometry.specs.declared.Box.{Box}
 use Rattle.proximity.specs.Overlap.{meet, overlap}
-use Rattle.overlaps.specs.Overlaps.{clash, clashes, overlaps}
+use Rattle.overlaps.specs.Overlaps.{overlapping, overlappingPairs, overlaps}
 
 abbrev box : ℕ → ℕ → ℕ → ℕ → Box
 box a b c d = record { left = ofBits binary64 a; top = ofBits binary64 b; right = ofBits binary64 c; bottom = ofBits binary64 d }
@@ -37,5 +37,5 @@ abbrev drawings : List (List Box)
 drawings = (one ∷ one ∷ []) ∷ (one ∷ one ∷ one ∷ []) ∷ (unit ∷ beside ∷ []) ∷ (unit ∷ nearly ∷ []) ∷ (tiny ∷ tiny ∷ []) ∷ []
 
 pub overlap-cases : map (λ bs. overlaps bs (upFrom 0 (length bs))) drawings ≡ 1 ∷ 3 ∷ 0 ∷ 1 ∷ 1 ∷ []
-unfolding overlaps clashes clash count upFrom meet overlap ofBits ofFields odd units round size span climb sum neg lt add sub trailingZeros
+unfolding overlaps overlappingPairs overlapping count upFrom meet overlap ofBits ofFields odd units round size span climb sum neg lt add sub trailingZeros
 overlap-cases = refl

@@ -1,5 +1,5 @@
 -- Laws that the functions' proofs and the crates above use.
-pub mod NoClash
+pub mod NoOverlapping
 pub mod Pairs
 pub mod Stops
 pub mod Sweeps

@@ -17,7 +17,7 @@ use Rattle.geometry.specs.Plane.{edge, shrunk}
 use Rattle.proximity.specs.Overlap.{meet, overlap}
 use Rattle.placement.proofs.Rank.{rank, Number, Plus, lt-rank, add-up, sub-down, add-number, sub-number, finite-number}
 use Rattle.placement.proofs.Clear.{Good}
-use Rattle.overlaps.specs.Sweep.{paired}
+use Rattle.overlaps.specs.Stages.Sweep.{paired}
 
 edge-plus : Plus edge
 unfolding ofBits ofFields odd trailingZeros

@@ -27,8 +27,8 @@ use Rattle.network.specs.Views.{countsIn, boxesIn}
 use Rattle.network.proofs.Views.{getD-boxes}
 use Rattle.placement.specs.Place.{noBox, boxIn}
 use Rattle.placement.proofs.Clear.{Good}
-use Rattle.overlaps.specs.Overlaps.{clash, overlaps}
-use Rattle.overlaps.specs.Sweep.{leftAt, Finite, Sorted, Lefts, paired, either, pairs}
+use Rattle.overlaps.specs.Overlaps.{overlapping, overlaps}
+use Rattle.overlaps.specs.Stages.Sweep.{leftAt, Finite, Sorted, Lefts, paired, either, pairs}
 use Rattle.overlaps.proofs.Pairs.{pairs-sorted}
 use Rattle.overlaps.proofs.Stops.{stop}
 
@@ -97,7 +97,7 @@ lefts-pairs boxes k bs ss n o r L e = e ∙ ap (pairs bs) (L .listed) ∙ pairs-
 -- the test of two stations is that of their boxes
 pub either-paired : (boxes : List Float) (k s t : ℕ) (p q : Box) (b : Bool) → s < k → t < k → p ≡ boxAt boxes s → q ≡ boxAt boxes t → b ≡ paired p q s t
     → either (boxesIn k boxes) s t ≡ b
-unfolding either clash paired
+unfolding either overlapping paired
 either-paired boxes k s t p q b h l e f g =
     let bs : List Box = boxesIn k boxes in
     let u : boxIn bs s ≡ p = getD-boxes k s boxes noBox h ∙ sym e in

@@ -1,2 +1,2 @@
 pub mod Overlaps
-pub mod Sweep
+pub mod Stages

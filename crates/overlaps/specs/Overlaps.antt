@@ -10,13 +10,13 @@ use Rattle.proximity.specs.Overlap.{overlap}
 use Rattle.placement.specs.Place.{boxIn}
 
 -- stations t and s, of which s is the higher number, overlap
-unfoldable pub clash : List Box → ℕ → ℕ → Bool
-clash bs s t = ltb t s && overlap (shrunk (boxIn bs s)) (boxIn bs t)
+unfoldable pub overlapping : List Box → ℕ → ℕ → Bool
+overlapping bs s t = ltb t s && overlap (shrunk (boxIn bs s)) (boxIn bs t)
 
 -- the pairs of one of these stations, as the higher number, with one of ss
-unfoldable pub clashes : List Box → List ℕ → List ℕ → ℕ
-clashes bs ss [] = 0
-clashes bs ss (s ∷ higher) = count (clash bs s) ss + clashes bs ss higher
+unfoldable pub overlappingPairs : List Box → List ℕ → List ℕ → ℕ
+overlappingPairs bs ss [] = 0
+overlappingPairs bs ss (s ∷ higher) = count (overlapping bs s) ss + overlappingPairs bs ss higher
 
 unfoldable pub overlaps : List Box → List ℕ → ℕ
-overlaps bs ss = clashes bs ss ss
+overlaps bs ss = overlappingPairs bs ss ss

@@ -10,23 +10,12 @@ ghost use Rattle.geometry.specs.Plane.{shrunk};
 ghost use Rattle.network.specs.Words.{occupied};
 ghost use Rattle.network.specs.Views.{countsIn, boxesIn};
 ghost use Rattle.overlaps.specs.Overlaps.{overlaps};
-ghost use Rattle.overlaps.specs.Sweep.{leftAt, Finite, Sorted, Lefts, paired, either, pairs};
+ghost use Rattle.overlaps.specs.Stages.Sweep.{leftAt, Finite, Sorted, Lefts, paired, either, pairs};
 use float::key::order_key;
 use geometry::Box;
 use geometry::box_at;
+use geometry::shrunk;
 use proximity::overlaps;
-
-// A box with its sides moved in by 1e-9.
-fn shrunk(b: Box) -> Box
-    ensures { λ r. ⌜ r ≡ shrunk b ⌝ }
-{
-    Box {
-        left: b.left + 1e-9,
-        top: b.top + 1e-9,
-        right: b.right - 1e-9,
-        bottom: b.bottom - 1e-9,
-    }
-}
 
 // Whether the boxes p of station s and q of station t overlap, that of the higher number shrunk.
 fn paired(p: Box, q: Box, s: usize, t: usize) -> bool

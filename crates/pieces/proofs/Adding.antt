@@ -15,10 +15,10 @@ use Rattle.geometry.specs.declared.Point.{Point}
 use Rattle.network.specs.Views.{pointsIn}
 use Rattle.runs.specs.Run.{Piece, pieces}
 use Rattle.runs.specs.Finite.{allOf, finitePoint}
-use Rattle.runs.specs.Views.{Ran}
+use Rattle.runs.specs.Stages.Views.{Ran}
 use Rattle.pieces.specs.declared.Totals.{Totals}
-use Rattle.pieces.specs.Pieces.{Put}
-use Rattle.pieces.specs.Passes.{RoomFor, Passed}
+use Rattle.pieces.specs.Stages.Pieces.{Put}
+use Rattle.pieces.specs.Stages.Passes.{RoomFor, Passed}
 use Rattle.pieces.proofs.Laws.{joined-before, all-zero, all-suc}
 use Rattle.pieces.proofs.Puts.{put-none, put-more}
 

@@ -18,29 +18,29 @@ use Rattle.geometry.specs.Plane.{pointAt}
 use Rattle.network.specs.Views.{pointsIn}
 use Rattle.runs.specs.Run.{Piece, apart, pieces}
 use Rattle.runs.specs.Finite.{allOf}
-use Rattle.pieces.specs.Pieces.{piece, Counted}
+use Rattle.pieces.specs.Stages.Pieces.{piece, Counted}
 
 pub apart-is : (a b : Float) (p q : Point) → a ≡ absOf (p .x ⊖ q .x) → b ≡ absOf (p .y ⊖ q .y) → lt f0 (a ⊕ b) ≡ apart p q
 unfolding apart
 apart-is a b p q g h = rw (g, h)
 
 -- ---- the piece between two points, and between points j and j + 1 of a list
-unfoldable pub between : ℕ → Point → Point → List Piece
-between e p q = pick (apart p q) (piece e p q ∷ []) []
+unfoldable pub pieceFrom : ℕ → Point → Point → List Piece
+pieceFrom e p q = pick (apart p q) (piece e p q ∷ []) []
 
 abbrev pub pieceAt : ℕ → List Float → ℕ → List Piece
-pieceAt e l j = between e (pointAt l j) (pointAt l (j + 1))
+pieceAt e l j = pieceFrom e (pointAt l j) (pointAt l (j + 1))
 
-pub between-yes : (e : ℕ) (p q : Point) → apart p q ≡ true → between e p q ≡ piece e p q ∷ []
-unfolding between
-between-yes e p q h = ap (λ (b : Bool). pick b (piece e p q ∷ []) []) h
+pub pieceFrom-yes : (e : ℕ) (p q : Point) → apart p q ≡ true → pieceFrom e p q ≡ piece e p q ∷ []
+unfolding pieceFrom
+pieceFrom-yes e p q h = ap (λ (b : Bool). pick b (piece e p q ∷ []) []) h
 
-pub between-no : (e : ℕ) (p q : Point) → apart p q ≡ false → between e p q ≡ []
-unfolding between
-between-no e p q h = ap (λ (b : Bool). pick b (piece e p q ∷ []) []) h
+pub pieceFrom-no : (e : ℕ) (p q : Point) → apart p q ≡ false → pieceFrom e p q ≡ []
+unfolding pieceFrom
+pieceFrom-no e p q h = ap (λ (b : Bool). pick b (piece e p q ∷ []) []) h
 
-pieces-cons : (e : ℕ) (p q : Point) (ps : List Point) → pieces e (p ∷ (q ∷ ps)) ≡ between e p q ++ pieces e (q ∷ ps)
-unfolding pieces between
+pieces-cons : (e : ℕ) (p q : Point) (ps : List Point) → pieces e (p ∷ (q ∷ ps)) ≡ pieceFrom e p q ++ pieces e (q ∷ ps)
+unfolding pieces pieceFrom
 pieces-cons e p q ps = go (apart p q) (pieces e (q ∷ ps))
   where
     go : (b : Bool) (rest : List Piece) → pick b (piece e p q ∷ rest) rest ≡ pick b (piece e p q ∷ []) [] ++ rest
@@ -56,18 +56,18 @@ unfolding pieces
 pieces-none e = refl
 
 -- one point more after two or more
-pieces-snoc : (e : ℕ) (ps : List Point) (p q : Point) → pieces e (ps ++ (p ∷ q ∷ [])) ≡ pieces e (ps ++ (p ∷ [])) ++ between e p q
+pieces-snoc : (e : ℕ) (ps : List Point) (p q : Point) → pieces e (ps ++ (p ∷ q ∷ [])) ≡ pieces e (ps ++ (p ∷ [])) ++ pieceFrom e p q
 pieces-snoc e [] p q =
-    pieces-cons e p q [] ∙ ap (λ (l : List Piece). between e p q ++ l) (pieces-one e q) ∙ append-nil (between e p q)
-    ∙ ap (λ (l : List Piece). l ++ between e p q) (sym (pieces-one e p))
+    pieces-cons e p q [] ∙ ap (λ (l : List Piece). pieceFrom e p q ++ l) (pieces-one e q) ∙ append-nil (pieceFrom e p q)
+    ∙ ap (λ (l : List Piece). l ++ pieceFrom e p q) (sym (pieces-one e p))
 pieces-snoc e (a ∷ []) p q =
-    pieces-cons e a p (q ∷ []) ∙ ap (λ (l : List Piece). between e a p ++ l) (pieces-snoc e [] p q)
-    ∙ sym (append-assoc (between e a p) (pieces e (p ∷ [])) (between e p q))
-    ∙ ap (λ (l : List Piece). l ++ between e p q) (sym (pieces-cons e a p []))
+    pieces-cons e a p (q ∷ []) ∙ ap (λ (l : List Piece). pieceFrom e a p ++ l) (pieces-snoc e [] p q)
+    ∙ sym (append-assoc (pieceFrom e a p) (pieces e (p ∷ [])) (pieceFrom e p q))
+    ∙ ap (λ (l : List Piece). l ++ pieceFrom e p q) (sym (pieces-cons e a p []))
 pieces-snoc e (a ∷ (b ∷ ps)) p q =
-    pieces-cons e a b (ps ++ (p ∷ q ∷ [])) ∙ ap (λ (l : List Piece). between e a b ++ l) (pieces-snoc e (b ∷ ps) p q)
-    ∙ sym (append-assoc (between e a b) (pieces e (b ∷ (ps ++ (p ∷ [])))) (between e p q))
-    ∙ ap (λ (l : List Piece). l ++ between e p q) (sym (pieces-cons e a b (ps ++ (p ∷ []))))
+    pieces-cons e a b (ps ++ (p ∷ q ∷ [])) ∙ ap (λ (l : List Piece). pieceFrom e a b ++ l) (pieces-snoc e (b ∷ ps) p q)
+    ∙ sym (append-assoc (pieceFrom e a b) (pieces e (b ∷ (ps ++ (p ∷ [])))) (pieceFrom e p q))
+    ∙ ap (λ (l : List Piece). l ++ pieceFrom e p q) (sym (pieces-cons e a b (ps ++ (p ∷ []))))
 
 -- the pieces through the first c points, one after the other
 pub pieces-are : (e : ℕ) (l : List Float) (n : ℕ) → pieces e (table (pointAt l) (suc n)) ≡ joined (pieceAt e l) n
@@ -76,8 +76,8 @@ pieces-are e l zero = pieces-one e (pointAt l 0) ∙ sym (joined-zero (pieceAt e
 pieces-are e l (suc n) =
     ap (pieces e) (table-suc (pointAt l) (suc n) ∙ ap (λ (z : List Point). z ++ (pointAt l (suc n) ∷ [])) (table-suc (pointAt l) n) ∙ append-assoc (table (pointAt l) n) (pointAt l n ∷ []) (pointAt l (suc n) ∷ []))
     ∙ pieces-snoc e (table (pointAt l) n) (pointAt l n) (pointAt l (suc n))
-    ∙ ap (λ (z : List Piece). z ++ between e (pointAt l n) (pointAt l (suc n))) (ap (pieces e) (sym (table-suc (pointAt l) n)) ∙ pieces-are e l n)
-    ∙ ap (λ (z : ℕ). joined (pieceAt e l) n ++ between e (pointAt l n) (pointAt l z)) (sym (add-one n)) ∙ sym (joined-suc (pieceAt e l) n)
+    ∙ ap (λ (z : List Piece). z ++ pieceFrom e (pointAt l n) (pointAt l (suc n))) (ap (pieces e) (sym (table-suc (pointAt l) n)) ∙ pieces-are e l n)
+    ∙ ap (λ (z : ℕ). joined (pieceAt e l) n ++ pieceFrom e (pointAt l n) (pointAt l z)) (sym (add-one n)) ∙ sym (joined-suc (pieceAt e l) n)
 
 pub pieces-in : (e : ℕ) (l : List Float) (c : ℕ) → pieces e (pointsIn c l) ≡ joined (pieceAt e l) (c - 1)
 unfolding pointsIn tableFrom
@@ -105,7 +105,7 @@ module _ (l : List Float) (c n j : ℕ) (h : j + 1 < c) (I : Counting l c n j) w
       record {
         within = omega arith;
         small = omega (arith, I .small);
-        counted = λ e. sym (more e 1 (ap length (between-yes e (pointAt l j) (pointAt l (j + 1)) t)));
+        counted = λ e. sym (more e 1 (ap length (pieceFrom-yes e (pointAt l j) (pointAt l (j + 1)) t)));
       }
 
   pub count-no : apart (pointAt l j) (pointAt l (j + 1)) ≡ false → Counting l c n (j + 1)
@@ -113,7 +113,7 @@ module _ (l : List Float) (c n j : ℕ) (h : j + 1 < c) (I : Counting l c n j) w
       record {
         within = omega arith;
         small = omega (arith, I .small);
-        counted = λ e. omega (arith, more e 0 (ap length (between-no e (pointAt l j) (pointAt l (j + 1)) t)));
+        counted = λ e. omega (arith, more e 0 (ap length (pieceFrom-no e (pointAt l j) (pointAt l (j + 1)) t)));
       }
 
 pub count-all : (l : List Float) (c n j : ℕ) → c ≤ j + 1 → Counting l c n j → Counted n (pointsIn c l)

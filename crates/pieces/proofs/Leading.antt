@@ -14,13 +14,13 @@ use Rattle.order.specs.Order.{pick}
 use Rattle.geometry.specs.declared.Point.{Point}
 use Rattle.network.specs.Views.{pointsIn}
 use Rattle.runs.specs.Run.{pieces}
-use Rattle.runs.specs.Views.{Lead, ledRun, wayOf, waysOf, Ran}
+use Rattle.runs.specs.Stages.Views.{Lead, ledRun, wayOf, wayCount, Ran}
 use Rattle.runs.proofs.Paths.{ran-of, line-few}
 use Rattle.runs.specs.Finite.{allOf, finitePoint}
 use Rattle.pieces.specs.declared.Totals.{Totals}
 use Rattle.requests.specs.declared.request.LineRequest.{LineRequest}
-use Rattle.requests.specs.Requests.{nothingAt}
-use Rattle.pieces.specs.Passes.{requestRun, requestPieces, listPieces, listFinite, Asks, AskAll, RoomFor, Passed}
+use Rattle.requests.specs.Stages.Requests.{nothingAt}
+use Rattle.pieces.specs.Stages.Passes.{requestRun, requestPieces, listPieces, listFinite, Asks, AskAll, RoomFor, Passed}
 use Rattle.pieces.proofs.Laws.{pieces-none}
 use Rattle.pieces.proofs.Adding.{Going, go-none, go-room, go-more, go-end, passed-of, passed-none, ran-room, ran-passed}
 
@@ -62,13 +62,13 @@ module _ (L : Lead) (frames : List Float) (ends : List ℕ) (r : LineRequest) wh
 
   request-none : r .sa ≡ r .sb → requestRun L frames ends r ≡ []
   unfolding requestRun
-  request-none e = ap (λ (b : Bool). pick b [] (ledBy (wayOf ends (r .e)) (waysOf ends (r .e)))) (eq-eqb (r .sa) (r .sb) e)
+  request-none e = ap (λ (b : Bool). pick b [] (ledBy (wayOf ends (r .e)) (wayCount ends (r .e)))) (eq-eqb (r .sa) (r .sb) e)
 
-  pub request-line : (w n : ℕ) → r .sa ≢ r .sb → w ≡ wayOf ends (r .e) → n ≡ waysOf ends (r .e) → ledBy w n ≡ requestRun L frames ends r
+  pub request-line : (w n : ℕ) → r .sa ≢ r .sb → w ≡ wayOf ends (r .e) → n ≡ wayCount ends (r .e) → ledBy w n ≡ requestRun L frames ends r
   unfolding requestRun
   request-line w n h p q =
       ap (λ (z : ℕ). ledBy z n) p ∙ ap (ledBy (wayOf ends (r .e))) q
-      ∙ sym (ap (λ (b : Bool). pick b [] (ledBy (wayOf ends (r .e)) (waysOf ends (r .e)))) (ne-eqb (r .sa) (r .sb) h))
+      ∙ sym (ap (λ (b : Bool). pick b [] (ledBy (wayOf ends (r .e)) (wayCount ends (r .e)))) (ne-eqb (r .sa) (r .sb) h))
 
   pub nothing-asked : (w : Bool) (t : Totals) (n : List Float) (b : List ℕ) → r .sa ≡ r .sb
       → Passed w t t (requestPieces L frames ends r) (allOf finitePoint (requestRun L frames ends r)) n n b b
@@ -80,7 +80,7 @@ module _ (L : Lead) (frames : List Float) (ends : List ℕ) (r : LineRequest) wh
     pub line-short : n < 2 ^ 31 → c < 2 ^ 32
     line-short h = omega (arith, R .count, line-few L frames (r .sa) (r .sb) w n (r .«slot_a») (r .«slot_b») (r .«exit_a») (r .«exit_b»))
 
-    module _ (h : r .sa ≢ r .sb) (p : w ≡ wayOf ends (r .e)) (q : n ≡ waysOf ends (r .e)) (wr : Bool) where
+    module _ (h : r .sa ≢ r .sb) (p : w ≡ wayOf ends (r .e)) (q : n ≡ wayCount ends (r .e)) (wr : Bool) where
       pub line-room : (at : ℕ) (n' : List Float) (b' : List ℕ) → RoomFor wr at (requestPieces L frames ends r) n' b' → RoomFor wr at (pieces (r .e) (pointsIn c path)) n' b'
       unfolding requestPieces
       line-room at n' b' z = ran-room (ran-of R (request-line w n h p q)) wr (r .e) at n' b' z

@@ -24,13 +24,13 @@ use Rattle.runs.specs.Run.{Piece, apart, pieces, isLine, allPieces}
 use Rattle.runs.specs.Finite.{allOf, finitePoint}
 use Rattle.runs.specs.Lists.{flat, pieceNumbers, after}
 use Rattle.order.specs.Over.{over}
-use Rattle.runs.specs.Views.{Held, openFrom, internalFrom, lineFrom, runFrom, runIn, otherRun, waysOf, wayOf, Fits, Ran}
+use Rattle.runs.specs.Stages.Views.{Held, openFrom, internalFrom, lineFrom, runFrom, runIn, otherRun, wayCount, wayOf, Fits, Ran}
 use Rattle.runs.proofs.Paths.{run-few, other-is}
 use Rattle.pieces.specs.declared.Totals.{Totals}
 use Rattle.requests.specs.declared.request.LineRequest.{LineRequest}
-use Rattle.pieces.specs.Pieces.{piece, branchOf, runAt, runsIn, passRun, passAt, passIn, passFinite, othersIn, othersFinite, blockIn, blockFinite, FitAll, RoomIf, Put}
-use Rattle.requests.specs.Requests.{Lists, lists, nothingAt, lineRequest, requestOf, FilledTo}
-use Rattle.pieces.specs.Passes.{requestRun, requestPieces, listPieces, listFinite, Asks, AskAll, RoomFor, Passed}
+use Rattle.pieces.specs.Stages.Pieces.{piece, branchOf, runAt, runsIn, passRun, passAt, passIn, passFinite, othersIn, othersFinite, blockIn, blockFinite, FitAll, RoomIf, Put}
+use Rattle.requests.specs.Stages.Requests.{Lists, lists, nothingAt, lineRequest, requestOf, FilledTo}
+use Rattle.pieces.specs.Stages.Passes.{requestRun, requestPieces, listPieces, listFinite, Asks, AskAll, RoomFor, Passed}
 use Rattle.pieces.proofs.Laws.{pieces-none, joined-mono, joined-at-most, all-zero, all-suc}
 use Rattle.pieces.proofs.Puts.{put-of, length-flat}
 use Rattle.pieces.proofs.Adding.{Going, go-none, go-room, go-more, go-end, passed-of, passed-none, passed-more, ran-room, ran-passed}
@@ -181,7 +181,7 @@ module _ (H : Held) (from to : List ℤ) (service : List ℕ) where
       go true x k = omega arith
       go false x k = omega arith
 
-  pass-few : (e : ℕ) → waysOf (H .ends) e < 2 ^ 31 → length (passAt true H from to service e) ≤ 2147483656
+  pass-few : (e : ℕ) → wayCount (H .ends) e < 2 ^ 31 → length (passAt true H from to service e) ≤ 2147483656
   unfolding passRun
   pass-few e h =
       few-points e (passRun true H from to service e) 2147483656 (go (pick (isLine (kind e)) true (not true)))
@@ -253,7 +253,7 @@ module _ (H : Held) where
   request-pass e (Open a b) s = refl
   request-pass e (Internal a b) s = refl
   request-pass e (Line a b) s =
-      ap (λ (z : Bool). pick z [] (lineFrom (H .sub) (H .unit) (H .buses) (H .blocks) (H .places) (H .frames) (H .lead) a b (getD (H .ends) (4 * e) 0) (getD (H .ends) (4 * e + 1) 0) (wayOf (H .ends) e) (waysOf (H .ends) e)))
+      ap (λ (z : Bool). pick z [] (lineFrom (H .sub) (H .unit) (H .buses) (H .blocks) (H .places) (H .frames) (H .lead) e a b (getD (H .ends) (4 * e) 0) (getD (H .ends) (4 * e + 1) 0) (wayOf (H .ends) e) (wayCount (H .ends) e)))
       (ne-eqb (stationOf (H .sub) a) (stationOf (H .sub) b) (s .2))
 
   request-asks : (path : List Float) (e : ℕ) (K : Kind) → (isLine K ≡ true → Fits (H .ends) path e × (e < 2 ^ 31)) → Asks (H .ends) path (requestOf held-lists e K)

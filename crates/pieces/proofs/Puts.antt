@@ -16,8 +16,8 @@ use Rattle.network.specs.Views.{pointsIn}
 use Rattle.runs.specs.Run.{Piece, apart, pieces}
 use Rattle.runs.specs.Lists.{flat, pieceNumbers}
 use Rattle.geometry.specs.declared.Point.{Point}
-use Rattle.pieces.specs.Pieces.{piece, branchOf, Put}
-use Rattle.pieces.proofs.Laws.{between, pieceAt, between-yes, between-no, pieces-in, joined-before}
+use Rattle.pieces.specs.Stages.Pieces.{piece, branchOf, Put}
+use Rattle.pieces.proofs.Laws.{pieceFrom, pieceAt, pieceFrom-yes, pieceFrom-no, pieces-in, joined-before}
 
 -- ---- one list: xs stands from `at` on, the rest is as before
 abbrev pasted : {A : Type 0} → ℕ → List A → List A → List A
@@ -183,18 +183,18 @@ module _ (l : List Float) (c e at : ℕ) where
     module _ (h : j + 1 < c) where
       pub points-room : apart (pointAt l j) (pointAt l (j + 1)) ≡ true → (4 * (k + 1) ≤ length n') × (k + 1 ≤ length b')
       points-room t =
-          let z : length (pieceAt e l j) ≡ 1 = ap length (between-yes e (pointAt l j) (pointAt l (j + 1)) t) in
+          let z : length (pieceAt e l j) ≡ 1 = ap length (pieceFrom-yes e (pointAt l j) (pointAt l (j + 1)) t) in
           let q = fill-room (pieceAt e l) (c - 1) at I (omega arith) in
           (omega (arith, q .0), omega (arith, q .1))
 
       pub points-yes : {n'' : List Float} {b'' : List ℕ} (p q : Point) → p ≡ pointAt l j → q ≡ pointAt l (j + 1) → apart p q ≡ true
           → Put k (k + 1) (piece e p q ∷ []) n' n'' b' b'' → Filling (pieceAt e l) (c - 1) at n n'' b b'' (k + 1) (j + 1)
       points-yes p q f g t w =
-          let z : piece e p q ∷ [] ≡ pieceAt e l j = sym (between-yes e p q t) ∙ ap (λ (x : Point). between e x q) f ∙ ap (λ (x : Point). between e (pointAt l j) x) g in
+          let z : piece e p q ∷ [] ≡ pieceAt e l j = sym (pieceFrom-yes e p q t) ∙ ap (λ (x : Point). pieceFrom e x q) f ∙ ap (λ (x : Point). pieceFrom e (pointAt l j) x) g in
           fill-more (pieceAt e l) (c - 1) at I (omega arith) (put-of w z)
 
       pub points-no : apart (pointAt l j) (pointAt l (j + 1)) ≡ false → Filling (pieceAt e l) (c - 1) at n n' b b' k (j + 1)
-      points-no t = fill-skip (pieceAt e l) (c - 1) at I (omega arith) (between-no e (pointAt l j) (pointAt l (j + 1)) t)
+      points-no t = fill-skip (pieceAt e l) (c - 1) at I (omega arith) (pieceFrom-no e (pointAt l j) (pointAt l (j + 1)) t)
 
     pub points-end : c ≤ j + 1 → Put at k (pieces e (pointsIn c l)) n n' b b'
     points-end h = put-of (fill-end (pieceAt e l) (c - 1) at I (omega arith)) (sym (pieces-in e l c))

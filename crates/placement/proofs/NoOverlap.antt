@@ -29,7 +29,7 @@ use Rattle.units.specs.Size.{Size}
 use Rattle.offsets.specs.declared.offset.Offset.{Offset}
 use Rattle.placement.specs.Place.{Frame, frameAt, boxOn, boxOf, buffered, places, foundFree, noBox, boxes, boxIn}
 use Rattle.turns.specs.Turns.{topTo, placementOrder}
-use Rattle.turns.specs.Listed.{Turns}
+use Rattle.turns.specs.Stages.Listed.{Turns}
 use Rattle.turns.proofs.Queue.{order-turns}
 use Rattle.placement.proofs.Rank.{Plus}
 use Rattle.placement.proofs.Clear.{Whole, over-own, over-other}

@@ -28,8 +28,8 @@ use Rattle.units.specs.Doubles.{DoublesPoint, Paired}
 use Rattle.offsets.specs.declared.offset.Offset.{Offset}
 use Rattle.offsets.specs.Offset.{offsetOf, offsetGrid, offsets}
 use Rattle.placement.specs.Place.{Frame, frameAt, placeFor, boxOf, boxOn, nextPlace, placesTo, places, boxes, boxIn, noBox}
-use Rattle.placement.specs.Modest.{largerSide, largest, modest, modestBox, allModest, illSized}
-use Rattle.turns.specs.Listed.{Turns}
+use Rattle.placement.specs.Sized.{largerSide, largest, sized, sizedBox, allSized, illSized}
+use Rattle.turns.specs.Stages.Listed.{Turns}
 use Rattle.placement.specs.Doubles.{DoublesBox, DoublesFrame, Small, Reach}
 use Rattle.placement.proofs.SearchDoubles.{box-doubles, search-doubles}
 
@@ -183,20 +183,20 @@ module _ {lo top : ℕ} (bs bs' : List Box) (B : (s : ℕ) → DoublesBox lo top
       let b = B s in
       largest-doubles (largerSide x (boxIn bs s)) (largerSide x' (boxIn bs' s)) (max-doubles (max-doubles h (sub-doubles (b .right) (b .left) l)) (sub-doubles (b .bottom) (b .top-side) l)) ss
 
-  modest-of-doubles : {i j t u : ℕ} (x x' c c' : Float) → Doubles i t x x' → Doubles j u c c' → modest x' c' ≡ modest x c
-  unfolding modest
-  modest-of-doubles x x' c c' h k = ap (λ (q : Float). le (absOf q) (ofBits binary64 0x4270_0000_0000_0000)) (div-of-doubles k h)
+  sized-of-doubles : {i j t u : ℕ} (x x' c c' : Float) → Doubles i t x x' → Doubles j u c c' → sized x' c' ≡ sized x c
+  unfolding sized
+  sized-of-doubles x x' c c' h k = ap (λ (q : Float). le (absOf q) (ofBits binary64 0x4270_0000_0000_0000)) (div-of-doubles k h)
 
-  all-modest-of-doubles : {i t : ℕ} (x x' : Float) → Doubles i t x x' → (ss : List ℕ) → allModest bs' x' ss ≡ allModest bs x ss
-  unfolding allModest modestBox
-  all-modest-of-doubles x x' h [] = refl
-  all-modest-of-doubles x x' h (s ∷ ss) =
+  all-sized-of-doubles : {i t : ℕ} (x x' : Float) → Doubles i t x x' → (ss : List ℕ) → allSized bs' x' ss ≡ allSized bs x ss
+  unfolding allSized sizedBox
+  all-sized-of-doubles x x' h [] = refl
+  all-sized-of-doubles x x' h (s ∷ ss) =
       let b = B s in
-      let p = modest-of-doubles x x' (boxIn bs s .left) (boxIn bs' s .left) h (b .left) in
-      let q = modest-of-doubles x x' (boxIn bs s .top) (boxIn bs' s .top) h (b .top-side) in
-      let r = modest-of-doubles x x' (boxIn bs s .right) (boxIn bs' s .right) h (b .right) in
-      let z = modest-of-doubles x x' (boxIn bs s .bottom) (boxIn bs' s .bottom) h (b .bottom) in
-      let e = all-modest-of-doubles x x' h ss in
+      let p = sized-of-doubles x x' (boxIn bs s .left) (boxIn bs' s .left) h (b .left) in
+      let q = sized-of-doubles x x' (boxIn bs s .top) (boxIn bs' s .top) h (b .top-side) in
+      let r = sized-of-doubles x x' (boxIn bs s .right) (boxIn bs' s .right) h (b .right) in
+      let z = sized-of-doubles x x' (boxIn bs s .bottom) (boxIn bs' s .bottom) h (b .bottom) in
+      let e = all-sized-of-doubles x x' h ss in
       cc (p, q, r, z, e)
 
   pub ill-sized-of-doubles : (ss : List ℕ) → illSized bs' ss ≡ illSized bs ss
@@ -204,5 +204,5 @@ module _ {lo top : ℕ} (bs bs' : List Box) (B : (s : ℕ) → DoublesBox lo top
   ill-sized-of-doubles [] = refl
   ill-sized-of-doubles (s ∷ ss) =
       let h = largest-doubles f0 f0 (zero-doubles lo (top + top)) (s ∷ ss) in
-      ap (λ (b : Bool). b || not (allModest bs' (largest bs' f0 (s ∷ ss)) (s ∷ ss))) (eq-of-doubles h (zero-doubles lo (top + top)))
-      ∙ ap (λ (b : Bool). eq (largest bs f0 (s ∷ ss)) f0 || not b) (all-modest-of-doubles (largest bs f0 (s ∷ ss)) (largest bs' f0 (s ∷ ss)) h (s ∷ ss))
+      ap (λ (b : Bool). b || not (allSized bs' (largest bs' f0 (s ∷ ss)) (s ∷ ss))) (eq-of-doubles h (zero-doubles lo (top + top)))
+      ∙ ap (λ (b : Bool). eq (largest bs f0 (s ∷ ss)) f0 || not b) (all-sized-of-doubles (largest bs f0 (s ∷ ss)) (largest bs' f0 (s ∷ ss)) h (s ∷ ss))

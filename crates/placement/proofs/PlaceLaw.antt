@@ -23,22 +23,12 @@ use Rattle.network.specs.Seed.{placeAt}
 use Rattle.units.specs.Size.{Size}
 use Rattle.offsets.specs.declared.offset.Offset.{Offset}
 use Rattle.placement.specs.declared.search.Found.the-variants.{At}
-use Rattle.placement.specs.Place.{Frame, free, buffered, place, firstFree, orNext, placeFor, boxOn, frameAt, boxOf, nextPlace, placesTo, places, foundFree}
-use Rattle.turns.specs.Listed.{Turns}
+use Rattle.placement.specs.Place.{Frame, free, buffered, place, tries, FirstOf, firstFree, orNext, placeFor, boxOn, frameAt, boxOf, nextPlace, placesTo, places, foundFree}
+use Rattle.turns.specs.Stages.Listed.{Turns}
 use Rattle.order.proofs.Sorting.{map-agree}
 use Rattle.placement.proofs.Placing.{all-of}
 
 -- ---- the search
--- the places that are tried, in their order
-abbrev pub tries : Point → Size → List Offset → List Point
-tries seed z os = map (place seed z f1) os ++ (map (place seed z f2) os ++ map (place seed z f4) os)
-
--- c is the first of the list l that passes the test p, or none passes and c is d
-abbrev pub FirstOf : (Point → Bool) → List Point → Point → Point → Type 0
-FirstOf p l d c =
-    ((i : ℕ) × (i < length l) × (getD l i d ≡ c) × (p c ≡ true) × ((j : ℕ) → j < i → p (getD l j d) ≡ false))
-    ⊎ ((c ≡ d) × ((j : ℕ) → j < length l → p (getD l j d) ≡ false))
-
 module _ (p : Point → Bool) (d : Point) where
   first : List Point → Point
   first [] = d

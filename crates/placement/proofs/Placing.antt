@@ -23,12 +23,12 @@ use Rattle.network.specs.Seed.{placeAt}
 use Rattle.network.specs.Views.{countsIn, orderIn, pointsIn, boxesIn}
 use Rattle.network.proofs.Views.{length-points, getD-points, points-set, boxes-zero, boxes-push}
 use Rattle.units.specs.Size.{Size, sizeAt}
-use Rattle.units.specs.Views.{sizeIn, sizesIn, scalesIn}
+use Rattle.units.specs.Stages.Views.{sizeIn, sizesIn, scalesIn}
 use Rattle.units.proofs.Occupied.{is-occupied, not-occupied}
 use Rattle.offsets.specs.declared.offset.Offset.{Offset}
 use Rattle.placement.specs.Place.{Frame, frameFor, frames, frameAt, boxOn, boxOf, placeFor, nextPlace, placesTo, places, noBox, boxes}
-use Rattle.placement.specs.Views.{frameIn, framesIn, putBox, Stood}
-use Rattle.turns.specs.Listed.{Turns}
+use Rattle.placement.specs.Stages.Views.{frameIn, framesIn, putBox, PlacedAs}
+use Rattle.turns.specs.Stages.Listed.{Turns}
 use Rattle.order.proofs.Sorting.{map-agree}
 
 pub all-of : (P : ℕ → Type 0) (l : List ℕ) → ((i : ℕ) → i < length l → P (getD l i 0)) → All P l
@@ -56,7 +56,7 @@ unfolding placesTo
 placed-none fs os order k ps bs = record { points = refl; boxes = boxes-zero bs }
 
 module _ (unit : Float) (k : ℕ) (blocks : List Float) (os : List Offset) (seeds : List Point) (order : List ℕ) (T : Turns k order) (p s : ℕ) (h : p < length order) (e : s ≡ getD order p 0)
-    (ps bs ps' bs' : List Float) (l : 2 * k ≤ length ps) (m : 4 * p + 3 < length bs) (S : Stood unit blocks os s p ps bs ps' bs')
+    (ps bs ps' bs' : List Float) (l : 2 * k ≤ length ps) (m : 4 * p + 3 < length bs) (S : PlacedAs unit blocks os s p ps bs ps' bs')
     (D : Placed (framesIn unit k blocks) os seeds order k p ps bs) where
   abbrev fs : List Frame
   fs = framesIn unit k blocks

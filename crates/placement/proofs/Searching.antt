@@ -15,7 +15,7 @@ use Rattle.offsets.specs.declared.offset.Offset.{Offset}
 use Rattle.placement.specs.declared.search.Found.{Found}
 use Rattle.placement.specs.declared.search.Found.the-variants.{At, Nowhere}
 use Rattle.placement.specs.Place.{Frame, free, place, buffered, firstFree, orNext, placeFor}
-use Rattle.offsets.specs.OffsetList.{offsetAt, offsetsIn}
+use Rattle.offsets.specs.Stages.OffsetList.{offsetAt, offsetsIn}
 use Rattle.placement.proofs.Rest.{rest, rest-start, rest-more, rest-end}
 
 -- ---- whether p overlaps none of the first n boxes

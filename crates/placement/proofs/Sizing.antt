@@ -15,7 +15,7 @@ use Rattle.network.specs.Words.{occupied}
 use Rattle.network.specs.Views.{countsIn, boxesIn}
 use Rattle.network.proofs.Views.{getD-boxes}
 use Rattle.placement.specs.Place.{noBox, boxIn}
-use Rattle.placement.specs.Modest.{largerSide, largest, modestBox, allModest, illSized}
+use Rattle.placement.specs.Sized.{largerSide, largest, sizedBox, allSized, illSized}
 use Rattle.placement.proofs.Rest.{onward, onward-start, onward-yes, onward-no, onward-end}
 
 module _ (k : ℕ) (st : List ℕ) (fs : List Float) where
@@ -50,29 +50,29 @@ module _ (k : ℕ) (st : List ℕ) (fs : List Float) where
   -- ---- the corners
   module _ (l : Float) where
     abbrev pub Same : ℕ → Type 0
-    Same s = allModest bs l (onward k st s) ≡ allModest bs l stations
+    Same s = allSized bs l (onward k st s) ≡ allSized bs l stations
 
-    pub modest-start : Same 0
-    modest-start = ap (allModest bs l) (onward-start k st)
+    pub sized-start : Same 0
+    sized-start = ap (allSized bs l) (onward-start k st)
 
-    modest-at : (s : ℕ) (b : Bool) → s < k → 0 < getD st (2 * s) 0 → b ≡ modestBox l (boxAt fs s) → allModest bs l (onward k st s) ≡ b && allModest bs l (onward k st (s + 1))
-    unfolding allModest
-    modest-at s b h p e =
-        ap (allModest bs l) (onward-yes k st s h p)
-        ∙ ap (λ (x : Bool). x && allModest bs l (onward k st (s + 1))) (ap (modestBox l) (box-read s h) ∙ sym e)
+    sized-at : (s : ℕ) (b : Bool) → s < k → 0 < getD st (2 * s) 0 → b ≡ sizedBox l (boxAt fs s) → allSized bs l (onward k st s) ≡ b && allSized bs l (onward k st (s + 1))
+    unfolding allSized
+    sized-at s b h p e =
+        ap (allSized bs l) (onward-yes k st s h p)
+        ∙ ap (λ (x : Bool). x && allSized bs l (onward k st (s + 1))) (ap (sizedBox l) (box-read s h) ∙ sym e)
 
-    pub modest-yes : (s : ℕ) (b : Bool) → s < k → 0 < getD st (2 * s) 0 → b ≡ modestBox l (boxAt fs s) → b ≡ true → Same s → Same (s + 1)
-    modest-yes s b h p e t i = sym (modest-at s b h p e ∙ ap (λ (x : Bool). x && allModest bs l (onward k st (s + 1))) t) ∙ i
+    pub sized-yes : (s : ℕ) (b : Bool) → s < k → 0 < getD st (2 * s) 0 → b ≡ sizedBox l (boxAt fs s) → b ≡ true → Same s → Same (s + 1)
+    sized-yes s b h p e t i = sym (sized-at s b h p e ∙ ap (λ (x : Bool). x && allSized bs l (onward k st (s + 1))) t) ∙ i
 
-    pub modest-fails : (s : ℕ) (b : Bool) → s < k → 0 < getD st (2 * s) 0 → b ≡ modestBox l (boxAt fs s) → b ≡ false → Same s → false ≡ allModest bs l stations
-    modest-fails s b h p e t i = sym (modest-at s b h p e ∙ ap (λ (x : Bool). x && allModest bs l (onward k st (s + 1))) t) ∙ i
+    pub sized-fails : (s : ℕ) (b : Bool) → s < k → 0 < getD st (2 * s) 0 → b ≡ sizedBox l (boxAt fs s) → b ≡ false → Same s → false ≡ allSized bs l stations
+    sized-fails s b h p e t i = sym (sized-at s b h p e ∙ ap (λ (x : Bool). x && allSized bs l (onward k st (s + 1))) t) ∙ i
 
-    pub modest-no : (s : ℕ) → s < k → getD st (2 * s) 0 ≤ 0 → Same s → Same (s + 1)
-    modest-no s h p i = sym (ap (allModest bs l) (onward-no k st s h p)) ∙ i
+    pub sized-no : (s : ℕ) → s < k → getD st (2 * s) 0 ≤ 0 → Same s → Same (s + 1)
+    sized-no s h p i = sym (ap (allSized bs l) (onward-no k st s h p)) ∙ i
 
-    pub modest-end : (s : ℕ) → k ≤ s → Same s → true ≡ allModest bs l stations
-    unfolding allModest
-    modest-end s h i = sym (ap (allModest bs l) (onward-end k st s h)) ∙ i
+    pub sized-end : (s : ℕ) → k ≤ s → Same s → true ≡ allSized bs l stations
+    unfolding allSized
+    sized-end s h i = sym (ap (allSized bs l) (onward-end k st s h)) ∙ i
 
 -- ---- whether a station is occupied
 module _ (k : ℕ) (st : List ℕ) where
@@ -97,14 +97,14 @@ unfolding illSized
 ill-none bs [] b e f = refl
 ill-none bs (s ∷ ss) b e f = absurd (omega (arith, ltb-false 0 (length (s ∷ ss)) (sym e ∙ f)))
 
-ill-some : (bs : List Box) (ss : List ℕ) (b : Bool) (l : Float) → b ≡ ltb 0 (length ss) → b ≡ true → l ≡ largest bs f0 ss → illSized bs ss ≡ eq l f0 || not (allModest bs l ss)
+ill-some : (bs : List Box) (ss : List ℕ) (b : Bool) (l : Float) → b ≡ ltb 0 (length ss) → b ≡ true → l ≡ largest bs f0 ss → illSized bs ss ≡ eq l f0 || not (allSized bs l ss)
 unfolding illSized
 ill-some bs [] b l e f q = absurd (omega (arith, ltb-true 0 0 (sym e ∙ f)))
-ill-some bs (s ∷ ss) b l e f q = ap (λ (x : Float). eq x f0 || not (allModest bs x (s ∷ ss))) (sym q)
+ill-some bs (s ∷ ss) b l e f q = ap (λ (x : Float). eq x f0 || not (allSized bs x (s ∷ ss))) (sym q)
 
 pub ill-empty : (bs : List Box) (ss : List ℕ) (b : Bool) (l : Float) → b ≡ ltb 0 (length ss) → b ≡ true → l ≡ largest bs f0 ss → eq l f0 ≡ true → true ≡ illSized bs ss
-ill-empty bs ss b l e f q z = sym (ill-some bs ss b l e f q ∙ ap (λ (x : Bool). x || not (allModest bs l ss)) z)
+ill-empty bs ss b l e f q z = sym (ill-some bs ss b l e f q ∙ ap (λ (x : Bool). x || not (allSized bs l ss)) z)
 
 pub ill-far : (bs : List Box) (ss : List ℕ) (b : Bool) (l : Float) (m : Bool) → b ≡ ltb 0 (length ss) → b ≡ true → l ≡ largest bs f0 ss → eq l f0 ≡ false
-    → m ≡ allModest bs l ss → not m ≡ illSized bs ss
-ill-far bs ss b l m e f q z n = ap not n ∙ sym (ill-some bs ss b l e f q ∙ ap (λ (x : Bool). x || not (allModest bs l ss)) z)
+    → m ≡ allSized bs l ss → not m ≡ illSized bs ss
+ill-far bs ss b l m e f q z n = ap not n ∙ sym (ill-some bs ss b l e f q ∙ ap (λ (x : Bool). x || not (allSized bs l ss)) z)

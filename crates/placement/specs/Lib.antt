@@ -1,4 +1,4 @@
 pub mod Place
-pub mod Views
-pub mod Modest
+pub mod Sized
 pub mod Doubles
+pub mod Stages

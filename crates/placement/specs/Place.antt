@@ -1,7 +1,9 @@
 -- 5. Each station stands at the first free place. Definitions only.
-use Prim.Native.Nat.{ℕ, zero, suc}
-use mathlib.Core.Bool.{Bool, true, not, _&&_}
-use mathlib.Core.List.{List, [], _∷_, map}
+use Prim.Native.Nat.{ℕ, zero, suc, _<_}
+use mathlib.Core.Path.{_≡_}
+use mathlib.Core.Logic.{_⊎_}
+use mathlib.Core.Bool.{Bool, true, false, not, _&&_}
+use mathlib.Core.List.{List, [], _∷_, _++_, map}
 use lib.ListN.{length, getD, take, set}
 use lib.Ieee.{Float}
 use Rattle.float.specs.Ops.{int, f0, f1, f2, f4, _⊕_, _⊖_, _⊗_, _⊘_}
@@ -80,6 +82,16 @@ placeFor seed r earlier os =
     let at4 = orNext (firstFree seed r earlier f4 os) seed in
     let at2 = orNext (firstFree seed r earlier f2 os) at4 in
     orNext (firstFree seed r earlier f1 os) at2
+
+-- the places of the search, in their order: for widening 1, 2, 4 all offsets
+abbrev pub tries : Point → Size → List Offset → List Point
+tries seed z os = map (place seed z f1) os ++ (map (place seed z f2) os ++ map (place seed z f4) os)
+
+-- c is the first of the list l that passes the test, or none passes and c is d
+abbrev pub FirstOf : (Point → Bool) → List Point → Point → Point → Type 0
+FirstOf test l d c =
+    ((i : ℕ) × (i < length l) × (getD l i d ≡ c) × (test c ≡ true) × ((j : ℕ) → j < i → test (getD l j d) ≡ false))
+    ⊎ ((c ≡ d) × ((j : ℕ) → j < length l → test (getD l j d) ≡ false))
 
 -- station s's box, at these places
 unfoldable pub boxOf : List Frame → List Point → ℕ → Box

@@ -7,9 +7,9 @@ ghost use Rattle.proximity.specs.Overlap.{overlap};
 ghost use Rattle.network.specs.Views.{countsIn, orderIn, pointsIn, boxesIn};
 ghost use Rattle.placement.specs.Place as Place;
 ghost use Rattle.placement.specs.Place.{free, boxOn, buffered, firstFree, placeFor};
-ghost use Rattle.placement.specs.Views.{half, frame, frameIn, framesIn, putBox, Stood};
-ghost use Rattle.offsets.specs.OffsetList.{offsetsIn};
-ghost use Rattle.turns.specs.Listed.{Turns};
+ghost use Rattle.placement.specs.Stages.Views.{half, frame, frameIn, framesIn, putBox, PlacedAs};
+ghost use Rattle.offsets.specs.Stages.OffsetList.{offsetsIn};
+ghost use Rattle.turns.specs.Stages.Listed.{Turns};
 use float::small::max;
 use geometry::Box;
 use geometry::Point;
@@ -185,7 +185,7 @@ fn place_station(
     frames: &mut [f64],
 )
     requires { ⌜ (3 * s + 2 < length (now blocks)) × (2 * s + 1 < length (now places)) × (4 * p + 3 < length (now frames)) ⌝ }
-    ensures { λ _. ⌜ Stood unit (now (blocks .entry)) (offsetsIn offsets (now (keys .entry)) (now (sorted .entry))) s p (now (places .entry)) (now (frames .entry)) (now (places .exit)) (now (frames .exit)) ⌝ }
+    ensures { λ _. ⌜ PlacedAs unit (now (blocks .entry)) (offsetsIn offsets (now (keys .entry)) (now (sorted .entry))) s p (now (places .entry)) (now (frames .entry)) (now (places .exit)) (now (frames .exit)) ⌝ }
 {
     let f = unit * blocks[3 * s + 2];
     let w = blocks[3 * s] * f / 2.0;

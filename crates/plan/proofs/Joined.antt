@@ -20,15 +20,15 @@ use Rattle.stations.specs.Row as Row
 use Rattle.units.specs.Size as Size
 use Rattle.units.specs.Unit as Unit
 use Rattle.units.specs.Scale as Scale
-use Rattle.units.specs.Views.{sizesIn, scalesIn, rowCountsIn}
+use Rattle.units.specs.Stages.Views.{sizesIn, scalesIn, rowCountsIn}
 use Rattle.units.proofs.Blocks.{sizes-view}
 use Rattle.offsets.specs.declared.offset.Offset.{Offset}
 use Rattle.offsets.specs.Offset.{offsets}
 use Rattle.turns.specs.Turns.{placementOrder}
 use Rattle.placement.specs.Place as Place
-use Rattle.placement.specs.Views.{framesIn}
-use Rattle.offsets.specs.OffsetList.{offsetsIn}
-use Rattle.plan.specs.Stages.{Interiors, Settled}
+use Rattle.placement.specs.Stages.Views.{framesIn}
+use Rattle.offsets.specs.Stages.OffsetList.{offsetsIn}
+use Rattle.plan.specs.Stages.Plan.{Interiors, Settled}
 
 module _ (o : Options) (sub kv : List ℕ) (from to : List ℤ) (service : List ℕ) (xy : List Float) (k : ℕ) where
   ks : List Kind

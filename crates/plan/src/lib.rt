@@ -4,7 +4,7 @@ ghost use Prim.Native.Nat.{_+_, _*_, _≤_};
 ghost use lib.ListN.{length};
 ghost use Rattle.network.specs.Words.{stationCount, busCounts};
 ghost use Rattle.network.specs.Views.{countsIn, pointsIn};
-ghost use Rattle.plan.specs.Stages.{Interiors, Settled};
+ghost use Rattle.plan.specs.Stages.Plan.{Interiors, Settled};
 use network::options::Options;
 use network::refuse::finite_to;
 use network::seed::seeds;

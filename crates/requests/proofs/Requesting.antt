@@ -15,9 +15,9 @@ use Rattle.geometry.specs.declared.Point.{Point}
 use Rattle.network.specs.declared.words.Kind.{Kind}
 use Rattle.network.specs.declared.words.Kind.the-variants.{Undrawn, Open, Internal, Line}
 use Rattle.network.specs.Words.{stationOf, kindOf}
-use Rattle.runs.specs.Views.{slotOf, exitOf}
+use Rattle.runs.specs.Stages.Views.{slotOf, firstExit, secondExit}
 use Rattle.requests.specs.declared.request.LineRequest.{LineRequest}
-use Rattle.requests.specs.Requests.{Lists, nothingAt, lineRequest, requestOf, FilledTo}
+use Rattle.requests.specs.Stages.Requests.{Lists, nothingAt, lineRequest, requestOf, FilledTo}
 
 -- ---- the request of a branch, by what it is
 module _ (X : Lists) (e : ℕ) (K : Kind) where
@@ -43,7 +43,7 @@ module _ (X : Lists) (e : ℕ) (K : Kind) where
 -- what line e asks for, by its parts
 pub request-is : (sub : List ℕ) (unit : Float) (buses : List ℕ) (blocks places frames : List Float) (b i j ra rb s t : ℕ) (p q x y : Point)
     → s ≡ stationOf sub i → t ≡ stationOf sub j → p ≡ slotOf unit buses blocks frames s i ra → q ≡ slotOf unit buses blocks frames t j rb
-    → x ≡ exitOf places frames s t (p .y) → y ≡ exitOf places frames t s (q .y)
+    → x ≡ firstExit (length sub) places b → y ≡ secondExit (length sub) places b
     → record { e = b; sa = s; sb = t; «slot_a» = p; «slot_b» = q; «exit_a» = x; «exit_b» = y } ≡ lineRequest sub unit buses blocks places frames b i j ra rb
 unfolding lineRequest
 request-is sub unit buses blocks places frames b i j ra rb s t p q x y c d f g h k = cc

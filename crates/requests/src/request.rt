@@ -3,13 +3,14 @@ ghost use mathlib.Core.Path.{_≡_};
 ghost use Prim.Native.Nat.{_<_, _≤_, _^_};
 ghost use lib.ListN.{length, getD};
 ghost use Rattle.network.specs.Words.{kindOf};
-ghost use Rattle.requests.specs.Requests.{nothingAt, lineRequest, requestOf, lists, FilledTo};
+ghost use Rattle.requests.specs.Stages.Requests.{nothingAt, lineRequest, requestOf, lists, FilledTo};
 use geometry::Point;
 use network::words::Kind;
 use network::words::kind_of;
 use network::words::station_of;
 use order::at;
-use runs::run::exit_of;
+use runs::run::first_exit;
+use runs::run::second_exit;
 use runs::run::slot_of;
 
 // What a line asks for: its branch, its two stations, and its slot and exit at each end. The two stations are one where the branch is no line.
@@ -39,7 +40,7 @@ fn nothing_at(e: usize) -> LineRequest
     }
 }
 
-// The request of line e between the buses a and b, whose ends have the rows ra and rb.
+// The request of line e between the buses a and b, whose ends have the rows ra and rb; its exits stand in `places`.
 fn line_request(
     sub: &[u32],
     unit: f64,
@@ -53,15 +54,15 @@ fn line_request(
     ra: u32,
     rb: u32,
 ) -> LineRequest
-    requires { ⌜ (a < 2 ^ 32) × (b < 2 ^ 32) ⌝ }
+    requires { ⌜ (e < 2 ^ 32) × (length (now sub) ≤ 2 ^ 32) × (a < 2 ^ 32) × (b < 2 ^ 32) ⌝ }
     ensures { λ r. ⌜ r ≡ lineRequest (now (sub .entry)) unit (now (buses .entry)) (now (blocks .entry)) (now (places .entry)) (now (frames .entry)) e a b ra rb ⌝ }
 {
     let sa = station_of(sub, a);
     let sb = station_of(sub, b);
     let p = slot_of(unit, buses, blocks, frames, sa, a, ra);
     let q = slot_of(unit, buses, blocks, frames, sb, b, rb);
-    let x = exit_of(places, frames, sa, sb, p.y);
-    let y = exit_of(places, frames, sb, sa, q.y);
+    let x = first_exit(sub.len(), places, e);
+    let y = second_exit(sub.len(), places, e);
     LineRequest {
         e,
         sa,

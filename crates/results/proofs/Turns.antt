@@ -15,7 +15,7 @@ use Rattle.network.specs.Words.{stationOf}
 use Rattle.network.specs.Views.{boxesIn}
 use Rattle.bars.specs.declared.Bar.{Bar}
 use Rattle.bars.specs.Bar.{position}
-use Rattle.runs.specs.Views.{barOf}
+use Rattle.runs.specs.Stages.Views.{barOf}
 use Rattle.runs.specs.Lists.{flat, pointNumbers, boxNumbers, barNumbers}
 use Rattle.results.proofs.Writes.{Written, written-none, written-more, written-one, flat-none, flat-more, table-more, two-stores, four-stores}
 

@@ -1,2 +1,2 @@
 pub mod Bounds
-pub mod Bars
+pub mod Stages

@@ -5,7 +5,7 @@ ghost use lib.ListN.{length};
 ghost use Rattle.bars.specs.Bar.{position};
 ghost use Rattle.runs.specs.Lists.{flat, pointNumbers, barNumbers, after};
 ghost use Rattle.runs.specs.Finite.{allOf, finiteBar};
-ghost use Rattle.results.specs.Bars.{barsIn};
+ghost use Rattle.results.specs.Stages.Bars.{barsIn};
 use crate::lists::put_numbers;
 use bars::Bar;
 use bars::position;

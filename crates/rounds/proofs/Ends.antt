@@ -15,11 +15,11 @@ use Rattle.network.specs.Views.{pointsIn, fromRowsIn, toRowsIn}
 use Rattle.network.specs.Refusal.{everyFinite}
 use Rattle.runs.specs.Finite.{allOf}
 use Rattle.crossings.specs.Route.{Scene, Routing, Crossing, pointOf, roundsTo, routing}
-use Rattle.crossings.specs.Views.{grid, sceneIn, Stored}
-use Rattle.wishes.specs.Held.{Held, held, pointHeld, pointIn, roundsIn, stationIn, Ready, Entered}
-use Rattle.grouping.specs.Grouped.{Grouped}
+use Rattle.crossings.specs.Stages.Views.{grid, sceneIn, Stored}
+use Rattle.wishes.specs.Stages.Held.{Held, held, edgeIn, pointHeld, pointIn, roundsIn, stationIn, Cornered, Ranged, Ready, Entered}
+use Rattle.grouping.specs.Stages.Grouped.{Grouped}
 use Rattle.rounds.proofs.Meaning.{Means, point-is, rounds-are}
-use Rattle.rounds.proofs.Holding.{G, S, R, H, means, ready}
+use Rattle.rounds.proofs.Holding.{G, S, R, H, cornered, means, ready}
 
 -- ---- all of the first c are finite
 
@@ -49,7 +49,7 @@ every-all (suc c) l h =
 module _ (sub : List ℕ) (from to : List ℤ) (service : List ℕ) (unit : Float) (ends : List ℕ) (blocks places frames : List Float) (k c : ℕ) (stations : List ℕ) (centres : List Float)
     (corners twins numbers : List ℕ) (along : List Float) (channels crossings : ℕ)
     (entered : Entered (grid sub from to service unit ends blocks places frames) k c stations centres corners twins numbers along channels crossings)
-    (ends′ numbers′ : List ℕ) (grouped : Grouped (length from) channels crossings ends numbers ends′ numbers′) where
+    (ends′ numbers′ : List ℕ) (centres′ : List Float) (grouped : Grouped (length from) channels crossings ends numbers ends′ numbers′) where
   abbrev S′ : Scene
   S′ = sceneIn (grid sub from to service unit ends blocks places frames) k c stations centres corners twins
 
@@ -57,21 +57,23 @@ module _ (sub : List ℕ) (from to : List ℤ) (service : List ℕ) (unit : Floa
   R′ = routing S′
 
   abbrev H′ : Held
-  H′ = held (grid sub from to service unit ends′ blocks places frames) centres corners numbers′
+  H′ = held (length from) (length sub) ends′ places centres′ corners numbers′
 
   grouped-all : Grouped (length from) (length (R′ .channels)) (length (R′ .crossings)) ends numbers ends′ numbers′
   grouped-all =
       subst (λ (t : ℕ). Grouped (length from) t (length (R′ .crossings)) ends numbers ends′ numbers′) (entered .channels-are)
       (subst (λ (t : ℕ). Grouped (length from) channels t ends numbers ends′ numbers′) (entered .crossings-are) grouped)
 
-  meaning : Means S′ R′ stations H′
-  meaning = means sub from to service unit ends blocks places frames k c stations centres corners twins numbers along ends′ numbers′ (entered .mesh) (entered .boxes) (entered .occupied) (entered .stored) grouped-all
+  pub cornered-all : (d : ℕ) → d < channels → Cornered frames stations corners c (edgeIn (length from) ends′ d)
+  cornered-all d h =
+      cornered sub from to service unit ends blocks places frames k c stations centres corners twins numbers along ends′ numbers′ centres′ (entered .mesh) (entered .exits) (entered .boxes) (entered .occupied) (entered .stored) grouped-all d
+      (subst (λ (t : ℕ). d < t) (entered .channels-are) h)
 
-  pub ready-all : Ready stations H′ channels crossings
+  pub ready-all : Ready H′ channels crossings
   ready-all =
-      subst (λ (t : ℕ). Ready stations H′ t crossings) (sym (entered .channels-are))
-      (subst (λ (t : ℕ). Ready stations H′ (length (R′ .channels)) t) (sym (entered .crossings-are))
-      (ready sub from to service unit ends blocks places frames k c stations centres corners twins numbers along ends′ numbers′ (entered .mesh) (entered .boxes) (entered .occupied) (entered .stored) grouped-all))
+      subst (λ (t : ℕ). Ready H′ t crossings) (sym (entered .channels-are))
+      (subst (λ (t : ℕ). Ready H′ (length (R′ .channels)) t) (sym (entered .crossings-are))
+      (ready sub from to service unit ends blocks places frames k c stations centres corners twins numbers along ends′ numbers′ centres′ (entered .mesh) (entered .exits) (entered .boxes) (entered .occupied) (entered .stored) grouped-all))
 
   long : crossings ≤ length along
   long =
@@ -83,15 +85,20 @@ module _ (sub : List ℕ) (from to : List ℤ) (service : List ℕ) (unit : Floa
   unfolding roundsTo
   started = entered .stored .placed
 
-  module _ (n : ℕ) (l : List Float) (h : l ≡ roundsIn stations H′ channels n along) where
+  module _ (ranged : Ranged unit blocks frames stations corners (length from) ends′ c channels centres centres′) (n : ℕ) (l : List Float) (h : l ≡ roundsIn c H′ channels n along) where
+    meaning : Means S′ R′ c H′
+    meaning =
+        means sub from to service unit ends blocks places frames k c stations centres corners twins numbers along ends′ numbers′ centres′ (entered .mesh) (entered .exits) (entered .boxes) (entered .occupied) (entered .stored) grouped-all
+        (subst (λ (t : ℕ). Ranged unit blocks frames stations corners (length from) ends′ c t centres centres′) (entered .channels-are) ranged)
+
     places-are : take (length (R′ .crossings)) l ≡ roundsTo S′ R′ n
-    places-are = ap (take (length (R′ .crossings))) (h ∙ ap (λ (t : ℕ). roundsIn stations H′ t n along) (entered .channels-are)) ∙ rounds-are S′ R′ stations H′ meaning n along started
+    places-are = ap (take (length (R′ .crossings))) (h ∙ ap (λ (t : ℕ). roundsIn c H′ t n along) (entered .channels-are)) ∙ rounds-are S′ R′ c H′ meaning n along started
 
     pub points-are : (ways : List Float) → pointsIn crossings ways ≡ table (pointHeld H′ l) crossings → pointsIn crossings ways ≡ table (pointOf S′ R′ (roundsTo S′ R′ n)) crossings
     points-are ways e =
         e
         ∙ table-ext (pointHeld H′ l) (pointOf S′ R′ (roundsTo S′ R′ n)) crossings
-        (λ x g. point-is S′ R′ stations H′ meaning l x (omega (arith, entered .crossings-are)) ∙ ap (λ (t : List Float). pointOf S′ R′ t x) places-are)
+        (λ x g. point-is S′ R′ c H′ meaning l x (omega (arith, entered .crossings-are)) ∙ ap (λ (t : List Float). pointOf S′ R′ t x) places-are)
 
     pub finite-are : (b : Bool) → length l ≡ length along → b ≡ everyFinite crossings l → b ≡ allOf isFinite (roundsTo S′ R′ n)
     finite-are b e q =

@@ -5,7 +5,6 @@ use mathlib.Core.List.{List, map}
 use mathlib.Core.Option.{Option, none, some}
 use Prim.Native.Nat.{ℕ, suc, _+_, _-_, _*_, _≤_, _<_}
 use native.Mathlib.Omega.{arith}
-use native.Mathlib.Nat.{add-zero}
 use lib.Dec.{eqb}
 use lib.IntN.{ℤ}
 use lib.ListN.{length, getD, take, List·getD-map}
@@ -21,18 +20,17 @@ use Rattle.channel.specs.declared.Channel.{Channel}
 use Rattle.channel.specs.Channel.{channelOf}
 use Rattle.mesh.specs.Mesh.{next, endAt, lowAt, highAt, meshOk}
 use Rattle.mesh.proofs.Meshes.{Sound, mesh-sound, next-in}
-use Rattle.network.specs.declared.words.Kind.{Kind}
-use Rattle.network.specs.declared.words.Kind.the-variants.{Undrawn, Open, Internal, Line}
-use Rattle.network.specs.Words.{kindOf}
 use Rattle.network.specs.Views.{boxesIn}
 use Rattle.network.proofs.Views.{getD-boxes}
 use Rattle.placement.specs.Place.{boxIn, noBox}
 use Rattle.crossings.specs.Route as Route
 use Rattle.crossings.specs.Route.{Scene, Routing, Keyed, Crossing, Path, noChannel, noCrossing, noPath, routing, makeChannel, crossingAt, channelAt, pathAt, centreAt, stationAt, members}
-use Rattle.crossings.specs.Views.{Grid, grid, exitAt, lineBetween, lineFor, lineIn, linesIn, sceneIn, Edged, Stored}
+use Rattle.runs.specs.Stages.Views.{firstExit, secondExit}
+use Rattle.crossings.specs.Stages.Views.{Grid, grid, lineIn, linesIn, sceneIn, Edged, Stored}
 use Rattle.crossings.specs.Gap.{gapOf}
-use Rattle.wishes.specs.Held.{Held, held, edgeIn, edgeHeld, startHeld, lowIn, highIn, stationIn, rangeIn, Boxed, exitFrom, lineExit, exitFor, exitIn, Ready, Entered}
-use Rattle.grouping.specs.Grouped.{startIn, memberIn, Grouped}
+use Rattle.wishes.specs.Stages.Held.{Held, held, edgeIn, lowIn, highIn, stationIn, rangeIn, Cornered, Ranged, Ready}
+use Rattle.exits.specs.Stages.Exits.{exitsOf, exitsIn, Exited}
+use Rattle.grouping.specs.Stages.Grouped.{startIn, memberIn, Grouped}
 use Rattle.rounds.proofs.Routed.{Traced, routed}
 use Rattle.rounds.proofs.Meaning.{Means}
 
@@ -41,7 +39,7 @@ column : {A : Type 0} (f : A → ℕ) (d : A) (c o k : ℕ) (l : List ℕ) (bs :
 column f d c o k l bs e i h = sym (getD-strided c o 0 k i l 0 h) ∙ ap (λ (t : List ℕ). getD t i 0) e
 
 module _ (sub : List ℕ) (from to : List ℤ) (service : List ℕ) (unit : Float) (ends : List ℕ) (blocks places frames : List Float) (k c : ℕ) (stations : List ℕ) (centres : List Float)
-    (corners twins numbers : List ℕ) (along : List Float) (ends′ numbers′ : List ℕ) where
+    (corners twins numbers : List ℕ) (along : List Float) (ends′ numbers′ : List ℕ) (centres′ : List Float) where
   abbrev pub G : Grid
   G = grid sub from to service unit ends blocks places frames
 
@@ -52,9 +50,9 @@ module _ (sub : List ℕ) (from to : List ℤ) (service : List ℕ) (unit : Floa
   R = routing S
 
   abbrev pub H : Held
-  H = held (grid sub from to service unit ends′ blocks places frames) centres corners numbers′
+  H = held (length from) (length sub) ends′ places centres′ corners numbers′
 
-  module _ (mesh : meshOk corners twins c ≡ true) (boxes : 4 * k ≤ length frames) (occupied : (v : ℕ) → v < c → stationIn stations v < k) (stored : Stored (length from) corners R ends numbers along)
+  module _ (mesh : meshOk corners twins c ≡ true) (exited : Exited G) (boxes : 4 * k ≤ length frames) (occupied : (v : ℕ) → v < c → stationIn stations v < k) (stored : Stored (length from) corners R ends numbers along)
       (grouped : Grouped (length from) (length (R .channels)) (length (R .crossings)) ends numbers ends′ numbers′) where
     -- ---- branches and paths
     lines-long : length (S .lines) ≡ length from
@@ -77,26 +75,24 @@ module _ (sub : List ℕ) (from to : List ℤ) (service : List ℕ) (unit : Floa
     count-at : (b : ℕ) → b < length from → getD ends′ (4 * b + 3) 0 ≡ pathAt S R b .count
     count-at b h = column (λ (p : Path). p .count) noPath 4 3 (length from) ends′ (R .paths) (grouped .counts ∙ stored .counts) b h ∙ List·getD-map (λ (p : Path). p .count) (R .paths) b noPath
 
-    row-at : (o : ℕ) → o < 3 → (b : ℕ) → b < length from → getD ends′ (4 * b + o) 0 ≡ getD ends (4 * b + o) 0
-    row-at o g b h = sym (getD-strided 4 o 0 (length from) b ends′ 0 h) ∙ ap (λ (t : List ℕ). getD t b 0) (grouped .rows o g (length from)) ∙ getD-strided 4 o 0 (length from) b ends 0 h
-
     -- ---- exits
-    exit-kind : (second : Bool) (ra rb : ℕ) (K : Kind) → exitFor (H .grid) second ra rb K ≡ Route.exitOf S R second (lineFor G ra rb K)
-    unfolding exitFor lineExit lineFor lineBetween exitAt exitFrom Route.exitOf
-    exit-kind second ra rb Undrawn = refl
-    exit-kind second ra rb (Open a b) = refl
-    exit-kind second ra rb (Internal a b) = refl
-    exit-kind false ra rb (Line a b) = refl
-    exit-kind true ra rb (Line a b) = refl
+    first-of : (l : Option Route.Line) → exitsOf l .first ≡ Route.exitOf S R false l
+    unfolding exitsOf Route.exitOf
+    first-of none = refl
+    first-of (some l) = refl
 
-    exits-are : (second : Bool) (b : ℕ) → b < length from → exitIn (H .grid) second b ≡ Route.exitOf S R second (getD (S .lines) b none)
-    unfolding exitIn lineIn
-    exits-are second b h =
-        exit-kind second (getD ends′ (4 * b) 0) (getD ends′ (4 * b + 1) 0) (kindOf sub from to service b)
-        ∙ ap (λ (t : ℕ). Route.exitOf S R second (lineFor G t (getD ends′ (4 * b + 1) 0) (kindOf sub from to service b)))
-        (subst (λ (t : ℕ). getD ends′ t 0 ≡ getD ends t 0) (add-zero (4 * b)) (row-at 0 (omega arith) b h))
-        ∙ ap (λ (t : ℕ). Route.exitOf S R second (lineFor G (getD ends (4 * b) 0) t (kindOf sub from to service b))) (row-at 1 (omega arith) b h)
-        ∙ ap (Route.exitOf S R second) (sym (line-at b h))
+    second-of : (l : Option Route.Line) → exitsOf l .second ≡ Route.exitOf S R true l
+    unfolding exitsOf Route.exitOf
+    second-of none = refl
+    second-of (some l) = refl
+
+    first-is : (b : ℕ) → b < length from → firstExit (length sub) places b ≡ Route.exitOf S R false (getD (S .lines) b none)
+    unfolding exitsIn
+    first-is b h = exited .first b h ∙ first-of (lineIn G b) ∙ ap (Route.exitOf S R false) (sym (line-at b h))
+
+    second-is : (b : ℕ) → b < length from → secondExit (length sub) places b ≡ Route.exitOf S R true (getD (S .lines) b none)
+    unfolding exitsIn
+    second-is b h = exited .second b h ∙ second-of (lineIn G b) ∙ ap (Route.exitOf S R true) (sym (line-at b h))
 
     -- ---- crossings
     channel-is : (x : ℕ) → x < length (R .crossings) → getD numbers′ (3 * x) 0 ≡ crossingAt S R x .channel
@@ -144,20 +140,22 @@ module _ (sub : List ℕ) (from to : List ℤ) (service : List ℕ) (unit : Floa
           let sound = mesh-sound corners twins c mesh in
           omega (arith, sound .below h (edged .inside), sound .below (next h) (next-in corners twins c sound h (edged .inside)))
 
-      centre-at : (v : ℕ) → v < c → pointAt centres v ≡ centreAt S v
-      unfolding sceneIn
-      centre-at v l =
-          let a : getD (take (2 * c) centres) (2 * v) nan ≡ getD centres (2 * v) nan = getD-take (2 * c) centres (2 * v) nan (omega arith) in
-          let b : getD (take (2 * c) centres) (2 * v + 1) nan ≡ getD centres (2 * v + 1) nan = getD-take (2 * c) centres (2 * v + 1) nan (omega arith) in
-          rw (a, b)
+      -- in any list that begins with the mesh's points
+      module _ (l : List Float) (same : take (2 * c) l ≡ take (2 * c) centres) where
+        centre-at : (v : ℕ) → v < c → pointAt l v ≡ centreAt S v
+        unfolding sceneIn
+        centre-at v g =
+            let a : getD (take (2 * c) l) (2 * v) nan ≡ getD l (2 * v) nan = getD-take (2 * c) l (2 * v) nan (omega arith) in
+            let b : getD (take (2 * c) l) (2 * v + 1) nan ≡ getD l (2 * v + 1) nan = getD-take (2 * c) l (2 * v + 1) nan (omega arith) in
+            rw (← a, ← b, same)
 
-      low-is : lowIn corners centres h ≡ centreAt S (channelAt S R d .low)
-      unfolding lowIn
-      low-is = centre-at (lowAt corners h) low-below ∙ ap (centreAt S) (edged .low)
+        low-is : lowIn corners l h ≡ centreAt S (channelAt S R d .low)
+        unfolding lowIn
+        low-is = centre-at (lowAt corners h) low-below ∙ ap (centreAt S) (edged .low)
 
-      high-is : highIn corners centres h ≡ centreAt S (channelAt S R d .high)
-      unfolding highIn
-      high-is = centre-at (highAt corners h) high-below ∙ ap (centreAt S) (edged .high)
+        high-is : highIn corners l h ≡ centreAt S (channelAt S R d .high)
+        unfolding highIn
+        high-is = centre-at (highAt corners h) high-below ∙ ap (centreAt S) (edged .high)
 
       -- ---- a corner's station, its box and scale
       station-is : (v : ℕ) → v < c → stationIn stations v ≡ stationAt S v
@@ -190,34 +188,41 @@ module _ (sub : List ℕ) (from to : List ℤ) (service : List ℕ) (unit : Floa
       range-is =
           let l = corner-is (lowAt corners h) (lowAt corners h) low-below refl in
           let u = corner-is (highAt corners h) (highAt corners h) high-below refl in
-          let p : lowIn corners centres h ≡ centreAt S (lowAt corners h) = low-is ∙ ap (centreAt S) (sym (edged .low)) in
-          let q : highIn corners centres h ≡ centreAt S (highAt corners h) = high-is ∙ ap (centreAt S) (sym (edged .high)) in
+          let p : lowIn corners centres h ≡ centreAt S (lowAt corners h) = low-is centres refl ∙ ap (centreAt S) (sym (edged .low)) in
+          let q : highIn corners centres h ≡ centreAt S (highAt corners h) = high-is centres refl ∙ ap (centreAt S) (sym (edged .high)) in
           rw (p, q, l .0, u .0, l .1, u .1, gap-is) (range-by (lowAt corners h) (highAt corners h) (edged .low) (edged .high))
 
-      boxed-is : Boxed frames stations corners h
-      boxed-is =
+      pub cornered : Cornered frames stations corners c h
+      cornered =
           record {
-            low = let z = occupied (lowAt corners h) low-below in omega arith;
-            high = let z = occupied (highAt corners h) high-below in omega arith;
+            low = low-below;
+            high = high-below;
+            boxed =
+                record {
+                  low = let z = occupied (lowAt corners h) low-below in omega arith;
+                  high = let z = occupied (highAt corners h) high-below in omega arith;
+                };
           }
 
     -- ---- together
-    pub means : Means S R stations H
-    means =
-        record {
-          channel = channel-is;
-          branch = branch-is;
-          known = λ x h. all .numbered x (omega arith);
-          step = λ x h. rw (first-at (crossingAt S R x .branch) (within x h)) (all .old x h .step);
-          count = λ x h. count-at (crossingAt S R x .branch) (within x h);
-          inside =
-              λ x h. rw (first-at (crossingAt S R x .branch) (within x h)) (all .inside (crossingAt S R x .branch) (let z = within x h in omega (arith, lines-long)));
-          exits = λ x h second. exits-are second (crossingAt S R x .branch) (within x h);
-          low = low-is;
-          high = high-is;
-          range = range-is;
-          stretch = stretch-is;
-        }
+    module _ (ranged : Ranged unit blocks frames stations corners (length from) ends′ c (length (R .channels)) centres centres′) where
+      pub means : Means S R c H
+      means =
+          record {
+            channel = channel-is;
+            branch = branch-is;
+            known = λ x h. all .numbered x (omega arith);
+            step = λ x h. rw (first-at (crossingAt S R x .branch) (within x h)) (all .old x h .step);
+            count = λ x h. count-at (crossingAt S R x .branch) (within x h);
+            inside =
+                λ x h. rw (first-at (crossingAt S R x .branch) (within x h)) (all .inside (crossingAt S R x .branch) (let z = within x h in omega (arith, lines-long)));
+            leaves = λ x h. first-is (crossingAt S R x .branch) (within x h);
+            enters = λ x h. second-is (crossingAt S R x .branch) (within x h);
+            low = λ d g. low-is d g centres′ (ranged .kept);
+            high = λ d g. high-is d g centres′ (ranged .kept);
+            range = λ d g. ranged .ranges d g ∙ range-is d g;
+            stretch = stretch-is;
+          }
 
-    pub ready : Ready stations H (length (R .channels)) (length (R .crossings))
-    ready = record { rising = grouped .rising; within = grouped .within; boxed = boxed-is }
+    pub ready : Ready H (length (R .channels)) (length (R .crossings))
+    ready = record { rising = grouped .rising; within = grouped .within }

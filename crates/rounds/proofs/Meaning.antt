@@ -23,24 +23,25 @@ use Rattle.geometry.specs.Cross.{param, placeOr}
 use Rattle.channel.specs.declared.Channel.{Channel}
 use Rattle.channel.specs.Space.{wishOrder, inOrder, spaced, putAll}
 use Rattle.channel.proofs.Spacing.{length-order, wish-below}
+use Rattle.runs.specs.Stages.Views.{firstExit, secondExit}
 use Rattle.crossings.specs.Route.{Scene, Line, Routing, Keyed, Crossing, Path, crossingAt, channelAt, pathAt, centreAt, pointOn, pointOf, members, exitOf, wish, spaceOne, spacedTo, roundsTo}
-use Rattle.wishes.specs.Held.{Held, edgeHeld, startHeld, pointHeld, lowIn, highIn, between, rangeIn, pointIn, exitIn, beforeIn, behindIn, wishIn, spaceBy, spaceIn, spacedIn, roundsIn}
-use Rattle.grouping.specs.Grouped.{memberIn}
+use Rattle.wishes.specs.Stages.Held.{Held, edgeHeld, startHeld, pointHeld, lowIn, highIn, between, rangeAt, pointIn, beforeIn, behindIn, wishIn, spaceBy, spaceIn, spacedIn, roundsIn}
+use Rattle.grouping.specs.Stages.Grouped.{memberIn}
 
 -- what the lists say of the routing, crossing by crossing and channel by channel
-pub record Means (S : Scene) (r : Routing) (stations : List ℕ) (H : Held) : Type 0 where
+pub record Means (S : Scene) (r : Routing) (occupied : ℕ) (H : Held) : Type 0 where
   pub channel : (x : ℕ) → x < length (r .crossings) → getD (H .numbers) (3 * x) 0 ≡ crossingAt S r x .channel
   pub branch : (x : ℕ) → x < length (r .crossings) → getD (H .numbers) (3 * x + 1) 0 ≡ crossingAt S r x .branch
   pub known : (x : ℕ) → x < length (r .crossings) → crossingAt S r x .channel < length (r .channels)
-  pub step : (x : ℕ) → x < length (r .crossings) → getD (H .grid .ends) (4 * crossingAt S r x .branch + 2) 0 + crossingAt S r x .step ≡ x
-  pub count : (x : ℕ) → x < length (r .crossings) → getD (H .grid .ends) (4 * crossingAt S r x .branch + 3) 0 ≡ pathAt S r (crossingAt S r x .branch) .count
+  pub step : (x : ℕ) → x < length (r .crossings) → getD (H .ends) (4 * crossingAt S r x .branch + 2) 0 + crossingAt S r x .step ≡ x
+  pub count : (x : ℕ) → x < length (r .crossings) → getD (H .ends) (4 * crossingAt S r x .branch + 3) 0 ≡ pathAt S r (crossingAt S r x .branch) .count
   pub inside : (x : ℕ) → x < length (r .crossings)
-      → getD (H .grid .ends) (4 * crossingAt S r x .branch + 2) 0 + pathAt S r (crossingAt S r x .branch) .count ≤ length (r .crossings)
-  pub exits : (x : ℕ) → x < length (r .crossings) → (second : Bool) → exitIn (H .grid) second (crossingAt S r x .branch) ≡ exitOf S r second (getD (S .lines) (crossingAt S r x .branch) none)
+      → getD (H .ends) (4 * crossingAt S r x .branch + 2) 0 + pathAt S r (crossingAt S r x .branch) .count ≤ length (r .crossings)
+  pub leaves : (x : ℕ) → x < length (r .crossings) → firstExit (H .base) (H .places) (crossingAt S r x .branch) ≡ exitOf S r false (getD (S .lines) (crossingAt S r x .branch) none)
+  pub enters : (x : ℕ) → x < length (r .crossings) → secondExit (H .base) (H .places) (crossingAt S r x .branch) ≡ exitOf S r true (getD (S .lines) (crossingAt S r x .branch) none)
   pub low : (c : ℕ) → c < length (r .channels) → lowIn (H .corners) (H .centres) (edgeHeld H c) ≡ centreAt S (channelAt S r c .low)
   pub high : (c : ℕ) → c < length (r .channels) → highIn (H .corners) (H .centres) (edgeHeld H c) ≡ centreAt S (channelAt S r c .high)
-  pub range : (c : ℕ) → c < length (r .channels)
-      → rangeIn (H .grid .unit) (H .grid .blocks) (H .grid .frames) stations (H .centres) (H .corners) (edgeHeld H c) ≡ channelAt S r c .range
+  pub range : (c : ℕ) → c < length (r .channels) → rangeAt occupied (H .centres) c ≡ channelAt S r c .range
   pub stretch : (c : ℕ) → c < length (r .channels) → table (λ i. memberIn (H .numbers) (startHeld H c + i)) (startHeld H (c + 1) - startHeld H c) ≡ members S r c
 
 -- ---- lists
@@ -70,7 +71,7 @@ map-table f at n =
     is-table (λ i. f (at i)) n (map f (table at n)) nan (length-map (table at n) f ∙ length-table at n)
     (λ k h. getD-map f (table at n) k nan (omega (arith, length-table at n)) ∙ ap f (getD-table at n k 0 h))
 
-module _ (S : Scene) (r : Routing) (stations : List ℕ) (H : Held) (M : Means S r stations H) where
+module _ (S : Scene) (r : Routing) (occupied : ℕ) (H : Held) (M : Means S r occupied H) where
   abbrev X : ℕ
   X = length (r .crossings)
 
@@ -98,7 +99,7 @@ module _ (S : Scene) (r : Routing) (stations : List ℕ) (H : Held) (M : Means S
     own = crossingAt S r x
 
     abbrev first : ℕ
-    first = getD (H .grid .ends) (4 * own .branch + 2) 0
+    first = getD (H .ends) (4 * own .branch + 2) 0
 
     abbrev count : ℕ
     count = pathAt S r (own .branch) .count
@@ -112,7 +113,7 @@ module _ (S : Scene) (r : Routing) (stations : List ℕ) (H : Held) (M : Means S
         let at = M .step x h in
         ⊎-elim
         (λ (z : own .step ≤ 0).
-        rw (le-leb x first (omega arith), eq-eqb (own .step) 0 (omega arith)) (M .exits x h false))
+        rw (le-leb x first (omega arith), eq-eqb (own .step) 0 (omega arith)) (M .leaves x h))
         (λ (z : 0 < own .step). rw (lt-leb x first (omega arith), ne-eqb (own .step) 0 (λ e. omega arith)) (point-is l (x - 1) (omega arith)))
         (le-or-lt (own .step) 0)
 
@@ -122,7 +123,7 @@ module _ (S : Scene) (r : Routing) (stations : List ℕ) (H : Held) (M : Means S
         let at = M .step x h in
         let most = M .inside x h in
         ⊎-elim
-        (λ (z : count ≤ suc (own .step)). rw (le-leb (first + count) (x + 1) (omega arith), eq-eqb (suc (own .step)) count (omega arith)) (M .exits x h true))
+        (λ (z : count ≤ suc (own .step)). rw (le-leb (first + count) (x + 1) (omega arith), eq-eqb (suc (own .step)) count (omega arith)) (M .enters x h))
         (λ (z : suc (own .step) < count).
         rw (lt-leb (first + count) (x + 1) (omega arith), ne-eqb (suc (own .step)) count (λ e. omega arith))
         (point-is l (x + 1) (omega arith) ∙ ap (pointOf S r ps) (add-one x)))
@@ -180,20 +181,20 @@ module _ (S : Scene) (r : Routing) (stations : List ℕ) (H : Held) (M : Means S
     order-below : (p : ℕ) → p < length (wishOrder ws) → getD (wishOrder ws) p 0 < n
     order-below p h = let z = wish-below ws p (omega (arith, length-order ws)) in omega (arith, length-map ms (wish S r (take X l)), n-is)
 
-    pub space-is : take X (spaceIn stations H c l) ≡ spaceOne S r c (take X l)
+    pub space-is : take X (spaceIn occupied H c l) ≡ spaceOne S r c (take X l)
     unfolding spaceIn spaceBy spaceOne
     space-is =
         take-put X _ _ l
-        ∙ ap (λ (k : List Float). putAll (map at (wishOrder k)) (spaced (rangeIn (H .grid .unit) (H .grid .blocks) (H .grid .frames) stations (H .centres) (H .corners) (edgeHeld H c)) (inOrder k (wishOrder k))) (take X l)) wishes-are
+        ∙ ap (λ (k : List Float). putAll (map at (wishOrder k)) (spaced (rangeAt occupied (H .centres) c) (inOrder k (wishOrder k))) (take X l)) wishes-are
         ∙ ap (λ (k : Channel). putAll (map at (wishOrder ws)) (spaced k (inOrder ws (wishOrder ws))) (take X l)) (M .range c g)
         ∙ ap (λ (k : List ℕ). putAll k (spaced (channelAt S r c .range) (inOrder ws (wishOrder ws))) (take X l)) (map-at at (λ j. getD ms j 0) (wishOrder ws) (λ p h. at-is _ (order-below p h)))
 
-  pub spaced-is : (c : ℕ) → c ≤ length (r .channels) → (l : List Float) → take X (spacedIn stations H c l) ≡ spacedTo S r c (take X l)
+  pub spaced-is : (c : ℕ) → c ≤ length (r .channels) → (l : List Float) → take X (spacedIn occupied H c l) ≡ spacedTo S r c (take X l)
   unfolding spacedIn spacedTo
   spaced-is zero h l = refl
-  spaced-is (suc c) h l = space-is c h (spacedIn stations H c l) ∙ ap (spaceOne S r c) (spaced-is c (omega arith) l)
+  spaced-is (suc c) h l = space-is c h (spacedIn occupied H c l) ∙ ap (spaceOne S r c) (spaced-is c (omega arith) l)
 
-  pub rounds-are : (n : ℕ) (l : List Float) → take X l ≡ roundsTo S r 0 → take X (roundsIn stations H (length (r .channels)) n l) ≡ roundsTo S r n
+  pub rounds-are : (n : ℕ) (l : List Float) → take X l ≡ roundsTo S r 0 → take X (roundsIn occupied H (length (r .channels)) n l) ≡ roundsTo S r n
   unfolding roundsIn roundsTo
   rounds-are zero l e = e
-  rounds-are (suc n) l e = spaced-is (length (r .channels)) (omega arith) (roundsIn stations H (length (r .channels)) n l) ∙ ap (spacedTo S r (length (r .channels))) (rounds-are n l e)
+  rounds-are (suc n) l e = spaced-is (length (r .channels)) (omega arith) (roundsIn occupied H (length (r .channels)) n l) ∙ ap (spacedTo S r (length (r .channels))) (rounds-are n l e)

@@ -15,7 +15,7 @@ use Rattle.order.proofs.Merging.{le-or-lt}
 use Rattle.geometry.specs.Plane.{pointAt}
 use Rattle.mesh.specs.Mesh.{lowAt, highAt}
 use Rattle.walk.specs.Trace.{Walk, traced}
-use Rattle.crossings.specs.Route.{Scene, Line, Routing, Keyed, Crossing, Path, noChannel, noCrossing, noPath, noRouting, placeIn, numberOf, makeChannel, withChannel, crossingOf, cross, crossAll, addWalk, addBranch, tracedTo, routing}
+use Rattle.crossings.specs.Route.{Scene, Line, Routing, Keyed, Crossing, Path, noChannel, noCrossing, noPath, noRouting, vertexOf, numberOf, makeChannel, withChannel, crossingOf, cross, crossAll, addWalk, addBranch, tracedTo, routing}
 
 -- ---- one element more
 
@@ -215,8 +215,8 @@ module _ (S : Scene) where
   unfolding addBranch addWalk
   add-one-branch e none r w = end-branch e (length (r .crossings)) 0 r noPath w (λ h. absurd (omega arith)) zero-le
   add-one-branch e (some l) r w =
-      let va = placeIn (l .sa) (S .occupied) in
-      let vb = placeIn (l .sb) (S .occupied) in
+      let va = vertexOf (l .sa) (S .occupied) in
+      let vb = vertexOf (l .sb) (S .occupied) in
       let t = traced (S .corners) (S .twins) (λ v. pointAt (S .centres) v) va vb in
       let n = length (r .crossings) in
       let all = crossAll S va vb e 0 (t .edges) r in

@@ -9,14 +9,15 @@ ghost use Rattle.order.specs.Table.{table, strided};
 ghost use Rattle.network.specs.Views.{pointsIn, fromRowsIn, toRowsIn};
 ghost use Rattle.runs.specs.Finite.{allOf};
 ghost use Rattle.crossings.specs.Route.{pointOf, roundsTo, routing};
-ghost use Rattle.crossings.specs.Views.{grid, sceneIn};
-ghost use Rattle.wishes.specs.Held.{Entered};
+ghost use Rattle.crossings.specs.Stages.Views.{grid, sceneIn};
+ghost use Rattle.wishes.specs.Stages.Held.{Entered};
 use crate::space::put_points;
 use crate::space::rounds;
+use crate::space::write_ranges;
 use grouping::group::group;
 use network::refuse::finite_to;
 
-// Spaces all crossings of the routing that the lists hold, so many rounds, and puts their points into `ways`; whether all their places are finite. `sorted`, `spare` and `keys` are work lists.
+// Spaces all crossings of the routing that the lists hold, so many rounds, and puts their points into `ways`; whether all their places are finite. The channels' ranges are written behind the mesh's points; `sorted`, `spare` and `keys` are work lists.
 pub fn space_all_rounds(
     sub: &[u32],
     from: &[i64],
@@ -30,7 +31,7 @@ pub fn space_all_rounds(
     k: usize,
     c: usize,
     stations: &[u32],
-    centres: &[f64],
+    centres: &mut [f64],
     corners: &[u32],
     twins: &[u32],
     channels: usize,
@@ -43,7 +44,7 @@ pub fn space_all_rounds(
     spare: &mut [u32],
     keys: &mut [u64],
 ) -> bool
-    requires { ⌜ (length (now from) ≤ 2 ^ 32) × (channels < 2 ^ 32) × (4 * (length (now from) + channels) + 4 ≤ length (now ends)) × (crossings < 2 ^ 32) × (3 * crossings ≤ length (now numbers)) × (2 * crossings ≤ length (now ways)) × (crossings ≤ length (now sorted)) × (crossings ≤ length (now spare)) × (crossings ≤ length (now keys)) ⌝ }
+    requires { ⌜ (length (now from) ≤ 2 ^ 32) × (channels < 2 ^ 32) × (4 * (length (now from) + channels) + 4 ≤ length (now ends)) × (crossings < 2 ^ 32) × (3 * crossings ≤ length (now numbers)) × (2 * crossings ≤ length (now ways)) × (crossings ≤ length (now sorted)) × (crossings ≤ length (now spare)) × (crossings ≤ length (now keys)) × (length (now sub) ≤ 2 ^ 32) × (c ≤ 2 ^ 32) × (2 * c + 3 * channels ≤ length (now centres)) ⌝ }
     requires { ⌜ Entered (grid (now sub) (now from) (now to) (now service) unit (now ends) (now blocks) (now places) (now frames)) k c (now stations) (now centres) (now corners) (now twins) (now numbers) (now along) channels crossings ⌝ }
     ensures { λ _. ⌜ pointsIn crossings (now (ways .exit)) ≡ table (pointOf (sceneIn (grid (now (sub .entry)) (now (from .entry)) (now (to .entry)) (now (service .entry)) unit (now (ends .entry)) (now (blocks .entry)) (now (places .entry)) (now (frames .entry))) k c (now (stations .entry)) (now (centres .entry)) (now (corners .entry)) (now (twins .entry))) (routing (sceneIn (grid (now (sub .entry)) (now (from .entry)) (now (to .entry)) (now (service .entry)) unit (now (ends .entry)) (now (blocks .entry)) (now (places .entry)) (now (frames .entry))) k c (now (stations .entry)) (now (centres .entry)) (now (corners .entry)) (now (twins .entry)))) (roundsTo (sceneIn (grid (now (sub .entry)) (now (from .entry)) (now (to .entry)) (now (service .entry)) unit (now (ends .entry)) (now (blocks .entry)) (now (places .entry)) (now (frames .entry))) k c (now (stations .entry)) (now (centres .entry)) (now (corners .entry)) (now (twins .entry))) (routing (sceneIn (grid (now (sub .entry)) (now (from .entry)) (now (to .entry)) (now (service .entry)) unit (now (ends .entry)) (now (blocks .entry)) (now (places .entry)) (now (frames .entry))) k c (now (stations .entry)) (now (centres .entry)) (now (corners .entry)) (now (twins .entry)))) iterations)) crossings ⌝ }
     ensures { λ r. ⌜ r ≡ allOf isFinite (roundsTo (sceneIn (grid (now (sub .entry)) (now (from .entry)) (now (to .entry)) (now (service .entry)) unit (now (ends .entry)) (now (blocks .entry)) (now (places .entry)) (now (frames .entry))) k c (now (stations .entry)) (now (centres .entry)) (now (corners .entry)) (now (twins .entry))) (routing (sceneIn (grid (now (sub .entry)) (now (from .entry)) (now (to .entry)) (now (service .entry)) unit (now (ends .entry)) (now (blocks .entry)) (now (places .entry)) (now (frames .entry))) k c (now (stations .entry)) (now (centres .entry)) (now (corners .entry)) (now (twins .entry)))) iterations) ⌝ }
@@ -51,17 +52,24 @@ pub fn space_all_rounds(
 {
     let m = from.len();
     group(m, channels, crossings, ends, numbers, sorted, spare, keys);
-    rounds(
-        sub,
-        from,
-        to,
-        service,
+    write_ranges(
+        m,
         unit,
         ends,
         blocks,
-        places,
         frames,
         stations,
+        corners,
+        c,
+        channels,
+        centres,
+    );
+    rounds(
+        m,
+        sub.len(),
+        c,
+        ends,
+        places,
         centres,
         corners,
         numbers,

@@ -1,16 +1,15 @@
 // Crossings spaced on their channels, round after round.
 ghost use mathlib.Core.Path.{_≡_};
 ghost use mathlib.Core.List.{_++_, map};
-ghost use Prim.Native.Nat.{_+_, _-_, _*_, _^_, _≤_, _<_};
+ghost use Prim.Native.Nat.{ℕ, _+_, _-_, _*_, _^_, _≤_, _<_};
 ghost use lib.ListN.{length, getD, take, drop};
 ghost use Rattle.order.specs.Table.{table};
 ghost use Rattle.channel.specs.Space.{putAll};
 ghost use Rattle.network.specs.Views.{pointsIn};
-ghost use Rattle.crossings.specs.Views.{grid};
-ghost use Rattle.crossings.specs.Gap.{gapOf};
-ghost use Rattle.wishes.specs.Held.{held, edgeIn, stationIn, pointIn, wishIn, rangeIn, Boxed, Ready, spaceIn, spacedIn, roundsIn};
-ghost use Rattle.grouping.specs.Grouped.{startIn, memberIn};
+ghost use Rattle.wishes.specs.Stages.Held.{held, edgeIn, stationIn, pointIn, wishIn, rangeIn, rangeAt, putRange, Boxed, Cornered, Ranged, Ready, spaceIn, spacedIn, roundsIn};
+ghost use Rattle.grouping.specs.Stages.Grouped.{startIn, memberIn};
 use channel::Channel;
+use crossings::gap::gap_of;
 use channel::ends::channel;
 use channel::space::space_sorted;
 use geometry::number_at;
@@ -50,13 +49,6 @@ fn station_at(stations: &[u32], v: usize) -> usize
     at(stations, 2 * v + 1) as usize
 }
 
-// The gap between lines.
-fn gap_of(unit: f64) -> f64
-    ensures { λ r. ⌜ r ≡ gapOf unit ⌝ }
-{
-    0.8 * unit
-}
-
 // The stretch where lines may cross the channel of half-edge h.
 fn range_of(
     unit: f64,
@@ -86,17 +78,62 @@ fn range_of(
     )
 }
 
-// The wishes of n crossings, those from `start` on among the crossings grouped by channel.
-fn take_wishes(
-    sub: &[u32],
-    from: &[i64],
-    to: &[i64],
-    service: &[u8],
+// Sets the range of channel d, three numbers, behind c points of a list.
+fn put_range(list: &mut [f64], c: usize, d: usize, r: Channel)
+    requires { ⌜ 2 * c + 3 * d + 3 ≤ length (now list) ⌝ }
+    ensures { λ _. ⌜ now (list .exit) ≡ putRange (now (list .entry)) c d r ⌝ }
+{
+    let i = 2 * c + 3 * d;
+    list[i] = r.lo;
+    list[i + 1] = r.hi;
+    list[i + 2] = r.gap;
+}
+
+// Writes every channel's range behind the c points of the mesh.
+pub(crate) fn write_ranges(
+    m: usize,
     unit: f64,
     ends: &[u32],
     blocks: &[f64],
-    places: &[f64],
     frames: &[f64],
+    stations: &[u32],
+    corners: &[u32],
+    c: usize,
+    channels: usize,
+    centres: &mut [f64],
+)
+    requires { ⌜ (m ≤ 2 ^ 32) × (channels < 2 ^ 32) × (2 * c + 3 * channels ≤ length (now centres)) ⌝ }
+    requires { ⌜ ((d : ℕ) → d < channels → Cornered (now frames) (now stations) (now corners) c (edgeIn m (now ends) d)) ⌝ }
+    ensures { λ _. ⌜ Ranged unit (now (blocks .entry)) (now (frames .entry)) (now (stations .entry)) (now (corners .entry)) m (now (ends .entry)) c channels (now (centres .entry)) (now (centres .exit)) ⌝ }
+{
+    let mut d = 0;
+    while d < channels {
+        let h = edge_of(m, ends, d);
+        let r = range_of(unit, blocks, frames, stations, centres, corners, h);
+        put_range(centres, c, d, r);
+        d += 1;
+    }
+}
+
+// The range of channel d, behind c points of a list.
+fn range_at(list: &[f64], c: usize, d: usize) -> Channel
+    requires { ⌜ (c ≤ 2 ^ 32) × (d < 2 ^ 32) ⌝ }
+    ensures { λ r. ⌜ r ≡ rangeAt c (now (list .entry)) d ⌝ }
+{
+    let i = 2 * c + 3 * d;
+    Channel {
+        lo: number_at(list, i),
+        hi: number_at(list, i + 1),
+        gap: number_at(list, i + 2),
+    }
+}
+
+// The wishes of n crossings, those from `start` on among the crossings grouped by channel.
+fn take_wishes(
+    m: usize,
+    base: usize,
+    ends: &[u32],
+    places: &[f64],
     centres: &[f64],
     corners: &[u32],
     numbers: &[u32],
@@ -105,28 +142,13 @@ fn take_wishes(
     n: usize,
     ways: &mut [f64],
 )
-    requires { ⌜ (length (now from) ≤ 2 ^ 32) × (start < 2 ^ 32) × (n ≤ 2 ^ 32) × (n ≤ length (now ways)) ⌝ }
-    ensures { λ _. ⌜ now (ways .exit) ≡ table (λ i. wishIn (held (grid (now (sub .entry)) (now (from .entry)) (now (to .entry)) (now (service .entry)) unit (now (ends .entry)) (now (blocks .entry)) (now (places .entry)) (now (frames .entry))) (now (centres .entry)) (now (corners .entry)) (now (numbers .entry))) (now (along .entry)) (memberIn (now (numbers .entry)) (start + i))) n ++ drop n (now (ways .entry)) ⌝ }
+    requires { ⌜ (m ≤ 2 ^ 32) × (base ≤ 2 ^ 32) × (start < 2 ^ 32) × (n ≤ 2 ^ 32) × (n ≤ length (now ways)) ⌝ }
+    ensures { λ _. ⌜ now (ways .exit) ≡ table (λ i. wishIn (held m base (now (ends .entry)) (now (places .entry)) (now (centres .entry)) (now (corners .entry)) (now (numbers .entry))) (now (along .entry)) (memberIn (now (numbers .entry)) (start + i))) n ++ drop n (now (ways .entry)) ⌝ }
 {
     let mut i = 0;
     while i < n {
         let x = member_of(numbers, start + i);
-        ways[i] = wish_of(
-            sub,
-            from,
-            to,
-            service,
-            unit,
-            ends,
-            blocks,
-            places,
-            frames,
-            centres,
-            corners,
-            numbers,
-            along,
-            x,
-        );
+        ways[i] = wish_of(m, base, ends, places, centres, corners, numbers, along, x);
         i += 1;
     }
 }
@@ -157,16 +179,11 @@ fn put_places(
 
 // Spaces channel c's crossings: all its wishes are taken before any place changes.
 fn space_one(
-    sub: &[u32],
-    from: &[i64],
-    to: &[i64],
-    service: &[u8],
-    unit: f64,
+    m: usize,
+    base: usize,
+    occupied: usize,
     ends: &[u32],
-    blocks: &[f64],
     places: &[f64],
-    frames: &[f64],
-    stations: &[u32],
     centres: &[f64],
     corners: &[u32],
     numbers: &[u32],
@@ -179,23 +196,17 @@ fn space_one(
     spare: &mut [u32],
     keys: &mut [u64],
 )
-    requires { ⌜ (length (now from) ≤ 2 ^ 32) × (c < channels) × (channels < 2 ^ 32) × (most ≤ 2 ^ 32) × (most ≤ length (now ways)) × (most ≤ length (now sorted)) × (most ≤ length (now spare)) × (most ≤ length (now keys)) ⌝ }
-    requires { ⌜ Ready (now stations) (held (grid (now sub) (now from) (now to) (now service) unit (now ends) (now blocks) (now places) (now frames)) (now centres) (now corners) (now numbers)) channels most ⌝ }
-    ensures { λ _. ⌜ now (along .exit) ≡ spaceIn (now (stations .entry)) (held (grid (now (sub .entry)) (now (from .entry)) (now (to .entry)) (now (service .entry)) unit (now (ends .entry)) (now (blocks .entry)) (now (places .entry)) (now (frames .entry))) (now (centres .entry)) (now (corners .entry)) (now (numbers .entry))) c (now (along .entry)) ⌝ }
+    requires { ⌜ (m ≤ 2 ^ 32) × (base ≤ 2 ^ 32) × (occupied ≤ 2 ^ 32) × (c < channels) × (channels < 2 ^ 32) × (most ≤ 2 ^ 32) × (most ≤ length (now ways)) × (most ≤ length (now sorted)) × (most ≤ length (now spare)) × (most ≤ length (now keys)) ⌝ }
+    requires { ⌜ Ready (held m base (now ends) (now places) (now centres) (now corners) (now numbers)) channels most ⌝ }
+    ensures { λ _. ⌜ now (along .exit) ≡ spaceIn occupied (held m base (now (ends .entry)) (now (places .entry)) (now (centres .entry)) (now (corners .entry)) (now (numbers .entry))) c (now (along .entry)) ⌝ }
 {
-    let m = from.len();
     let start = start_of(m, ends, c);
     let n = start_of(m, ends, c + 1) - start;
     take_wishes(
-        sub,
-        from,
-        to,
-        service,
-        unit,
+        m,
+        base,
         ends,
-        blocks,
         places,
-        frames,
         centres,
         corners,
         numbers,
@@ -204,31 +215,18 @@ fn space_one(
         n,
         ways,
     );
-    let range = range_of(
-        unit,
-        blocks,
-        frames,
-        stations,
-        centres,
-        corners,
-        edge_of(m, ends, c),
-    );
+    let range = range_at(centres, occupied, c);
     space_sorted(range, n, ways, keys, sorted, spare);
     put_places(numbers, start, n, sorted, ways, along);
 }
 
 // One round: the first channels' crossings spaced, one channel after another.
 fn round(
-    sub: &[u32],
-    from: &[i64],
-    to: &[i64],
-    service: &[u8],
-    unit: f64,
+    m: usize,
+    base: usize,
+    occupied: usize,
     ends: &[u32],
-    blocks: &[f64],
     places: &[f64],
-    frames: &[f64],
-    stations: &[u32],
     centres: &[f64],
     corners: &[u32],
     numbers: &[u32],
@@ -240,23 +238,18 @@ fn round(
     spare: &mut [u32],
     keys: &mut [u64],
 )
-    requires { ⌜ (length (now from) ≤ 2 ^ 32) × (channels < 2 ^ 32) × (most ≤ 2 ^ 32) × (most ≤ length (now ways)) × (most ≤ length (now sorted)) × (most ≤ length (now spare)) × (most ≤ length (now keys)) ⌝ }
-    requires { ⌜ Ready (now stations) (held (grid (now sub) (now from) (now to) (now service) unit (now ends) (now blocks) (now places) (now frames)) (now centres) (now corners) (now numbers)) channels most ⌝ }
-    ensures { λ _. ⌜ now (along .exit) ≡ spacedIn (now (stations .entry)) (held (grid (now (sub .entry)) (now (from .entry)) (now (to .entry)) (now (service .entry)) unit (now (ends .entry)) (now (blocks .entry)) (now (places .entry)) (now (frames .entry))) (now (centres .entry)) (now (corners .entry)) (now (numbers .entry))) channels (now (along .entry)) ⌝ }
+    requires { ⌜ (m ≤ 2 ^ 32) × (base ≤ 2 ^ 32) × (occupied ≤ 2 ^ 32) × (channels < 2 ^ 32) × (most ≤ 2 ^ 32) × (most ≤ length (now ways)) × (most ≤ length (now sorted)) × (most ≤ length (now spare)) × (most ≤ length (now keys)) ⌝ }
+    requires { ⌜ Ready (held m base (now ends) (now places) (now centres) (now corners) (now numbers)) channels most ⌝ }
+    ensures { λ _. ⌜ now (along .exit) ≡ spacedIn occupied (held m base (now (ends .entry)) (now (places .entry)) (now (centres .entry)) (now (corners .entry)) (now (numbers .entry))) channels (now (along .entry)) ⌝ }
 {
     let mut c = 0;
     while c < channels {
         space_one(
-            sub,
-            from,
-            to,
-            service,
-            unit,
+            m,
+            base,
+            occupied,
             ends,
-            blocks,
             places,
-            frames,
-            stations,
             centres,
             corners,
             numbers,
@@ -273,18 +266,13 @@ fn round(
     }
 }
 
-// So many rounds.
+// So many rounds. The exits stand behind `base` points of `places`, the channels' ranges behind `occupied` points of `centres`.
 pub(crate) fn rounds(
-    sub: &[u32],
-    from: &[i64],
-    to: &[i64],
-    service: &[u8],
-    unit: f64,
+    m: usize,
+    base: usize,
+    occupied: usize,
     ends: &[u32],
-    blocks: &[f64],
     places: &[f64],
-    frames: &[f64],
-    stations: &[u32],
     centres: &[f64],
     corners: &[u32],
     numbers: &[u32],
@@ -297,23 +285,18 @@ pub(crate) fn rounds(
     spare: &mut [u32],
     keys: &mut [u64],
 )
-    requires { ⌜ (length (now from) ≤ 2 ^ 32) × (channels < 2 ^ 32) × (most ≤ 2 ^ 32) × (most ≤ length (now ways)) × (most ≤ length (now sorted)) × (most ≤ length (now spare)) × (most ≤ length (now keys)) ⌝ }
-    requires { ⌜ Ready (now stations) (held (grid (now sub) (now from) (now to) (now service) unit (now ends) (now blocks) (now places) (now frames)) (now centres) (now corners) (now numbers)) channels most ⌝ }
-    ensures { λ _. ⌜ now (along .exit) ≡ roundsIn (now (stations .entry)) (held (grid (now (sub .entry)) (now (from .entry)) (now (to .entry)) (now (service .entry)) unit (now (ends .entry)) (now (blocks .entry)) (now (places .entry)) (now (frames .entry))) (now (centres .entry)) (now (corners .entry)) (now (numbers .entry))) channels iterations (now (along .entry)) ⌝ }
+    requires { ⌜ (m ≤ 2 ^ 32) × (base ≤ 2 ^ 32) × (occupied ≤ 2 ^ 32) × (channels < 2 ^ 32) × (most ≤ 2 ^ 32) × (most ≤ length (now ways)) × (most ≤ length (now sorted)) × (most ≤ length (now spare)) × (most ≤ length (now keys)) ⌝ }
+    requires { ⌜ Ready (held m base (now ends) (now places) (now centres) (now corners) (now numbers)) channels most ⌝ }
+    ensures { λ _. ⌜ now (along .exit) ≡ roundsIn occupied (held m base (now (ends .entry)) (now (places .entry)) (now (centres .entry)) (now (corners .entry)) (now (numbers .entry))) channels iterations (now (along .entry)) ⌝ }
 {
     let mut i = 0;
     while i < iterations {
         round(
-            sub,
-            from,
-            to,
-            service,
-            unit,
+            m,
+            base,
+            occupied,
             ends,
-            blocks,
             places,
-            frames,
-            stations,
             centres,
             corners,
             numbers,

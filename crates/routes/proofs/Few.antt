@@ -13,7 +13,7 @@ use Rattle.order.proofs.Merging.{le-or-lt}
 use Rattle.channel.proofs.Spacing.{length-put}
 use Rattle.walk.specs.Trace.{Walk, traced}
 use Rattle.walk.proofs.Walks.{traced-short}
-use Rattle.crossings.specs.Route.{Scene, Routing, Crossing, Path, Line, noPath, placeIn, centreAt, crossAll, addWalk, addBranch, tracedTo, routing, spaceOne, spacedTo, roundsTo}
+use Rattle.crossings.specs.Route.{Scene, Routing, Crossing, Path, Line, noPath, vertexOf, centreAt, crossAll, addWalk, addBranch, tracedTo, routing, spaceOne, spacedTo, roundsTo}
 use Rattle.routing.proofs.Tracing.{cross-long}
 
 -- ---- places after the rounds
@@ -73,8 +73,8 @@ module _ (S : Scene) where
   unfolding addBranch
   few-branch e none r f = few-more long e r (addBranch S e none r) noPath refl (omega arith) zero-le f
   few-branch e (some l) r f =
-      let va = placeIn (l .sa) (S .occupied) in
-      let vb = placeIn (l .sb) (S .occupied) in
+      let va = vertexOf (l .sa) (S .occupied) in
+      let vb = vertexOf (l .sb) (S .occupied) in
       few-walk va vb e (traced (S .corners) (S .twins) (centreAt S) va vb) r (traced-short (S .corners) (S .twins) (centreAt S) va vb) f
 
   few-to : (e : ℕ) → Few long e (tracedTo S e)

@@ -24,20 +24,22 @@ use Rattle.network.specs.declared.words.Kind.the-variants.{Undrawn, Open, Inter
 use Rattle.network.specs.Words.{kindOf}
 use Rattle.network.specs.Refusal.{refuse}
 use Rattle.network.specs.Views.{fromRowsIn, toRowsIn, pointsIn, orderIn}
-use Rattle.detour.specs.Paths.{pathIn}
+use Rattle.detour.specs.Stages.Paths.{pathIn}
 use Rattle.runs.specs.Finite.{allOf}
-use Rattle.runs.specs.Views.{wayOf, waysOf}
+use Rattle.runs.specs.Stages.Views.{wayOf, wayCount}
 use Rattle.crossings.specs.Route as Route
 use Rattle.crossings.specs.Route.{Scene, Path, noPath, pathAt, pointOf, routing, roundsTo, waypoints}
-use Rattle.crossings.specs.Views.{Grid, grid, exitAt, lineBetween, lineFor, lineIn, linesIn, sceneIn}
-use Rattle.crossings.specs.Store.{SameRows}
-use Rattle.routing.specs.Traced.{Traced, Pathless, lined}
+use Rattle.crossings.specs.Stages.Views.{Grid, grid, exitAt, lineBetween, lineFor, lineIn, linesIn, sceneIn}
+use Rattle.crossings.specs.Stages.Store.{SameRows}
+use Rattle.routing.specs.Stages.Traced.{Traced, Pathless, lined}
 use Rattle.routing.specs.declared.routes.Routed.{Routed}
 use Rattle.routing.proofs.Rows.{path-count, path-row}
 use Rattle.routing.proofs.Known.{routing-few}
-use Rattle.wishes.specs.Held.{stationIn, Entered}
+use Rattle.wishes.specs.Stages.Held.{stationIn, Entered}
+use Rattle.exits.specs.Stages.Exits.{Exited}
+use Rattle.exits.proofs.Keeping.{line-same, exited-rows}
 use Rattle.routes.specs.Routes.{crossingsOf, routeRefusal}
-use Rattle.routes.specs.Led.{Led}
+use Rattle.routes.specs.Stages.Led.{Led}
 use Rattle.routes.proofs.Few.{length-rounds, routing-short}
 
 -- ---- refusals
@@ -121,11 +123,11 @@ module _ (S : Scene) (m : ℕ) (corners before behind : List ℕ) (iterations ro
       let z : length (S .lines) * length (S .corners) ≡ length (S .lines) * 0 = ap (λ (t : ℕ). length (S .lines) * t) meshless in
       omega (arith, crossings-many S iterations, f .many)
 
-  none-along : (e : ℕ) → e < m → pathIn (wayOf behind e) (waysOf behind e) ways ≡ waypoints S (routing S) (crossingsOf S iterations) e
+  none-along : (e : ℕ) → e < m → pathIn (wayOf behind e) (wayCount behind e) ways ≡ waypoints S (routing S) (crossingsOf S iterations) e
   unfolding waypoints
   none-along e h =
       let f = routing-short S in
-      nothing-along (pointOf S (routing S) (crossingsOf S iterations)) (pathAt S (routing S) e .first) (pathAt S (routing S) e .count) (wayOf behind e) (waysOf behind e) ways
+      nothing-along (pointOf S (routing S) (crossingsOf S iterations)) (pathAt S (routing S) e .first) (pathAt S (routing S) e .count) (wayOf behind e) (wayCount behind e) ways
       (omega (arith, f .each e (omega arith)))
       (omega (arith, read-zero 3 m behind e h (p .counts)))
 
@@ -146,27 +148,10 @@ module _ (sub : List ℕ) (from to : List ℤ) (service : List ℕ) (unit : Floa
   abbrev with : List ℕ → Grid
   with ends = grid sub from to service unit ends blocks places frames
 
-  line-for : (ra rb : ℕ) (x : Kind) → lineFor (with behind) ra rb x ≡ lineFor (with before) ra rb x
-  unfolding lineFor lineBetween exitAt
-  line-for ra rb Undrawn = refl
-  line-for ra rb (Open a b) = refl
-  line-for ra rb (Internal a b) = refl
-  line-for ra rb (Line a b) = refl
-
   module _ (rows : SameRows (length from) before behind) where
-    line-same : (e : ℕ) → e < length from → lineIn (with behind) e ≡ lineIn (with before) e
-    unfolding lineIn
-    line-same e h =
-        let x = kindOf sub from to service e in
-        let a : getD behind (4 * e) 0 ≡ getD before (4 * e) 0 = sym (getD-first 4 0 (length from) e behind 0 h) ∙ ap (λ (l : List ℕ). getD l e 0) (rows .from) ∙ getD-first 4 0 (length from) e before 0 h in
-        let b : getD behind (4 * e + 1) 0 ≡ getD before (4 * e + 1) 0 = sym (getD-strided 4 1 0 (length from) e behind 0 h) ∙ ap (λ (l : List ℕ). getD l e 0) (rows .to) ∙ getD-strided 4 1 0 (length from) e before 0 h in
-        ap (λ (r : ℕ). lineFor (with behind) r (getD behind (4 * e + 1) 0) x) a
-        ∙ ap (λ (r : ℕ). lineFor (with behind) (getD before (4 * e) 0) r x) b
-        ∙ line-for (getD before (4 * e) 0) (getD before (4 * e + 1) 0) x
-
     lines-same : linesIn (with behind) ≡ linesIn (with before)
     unfolding linesIn
-    lines-same = table-ext (lineIn (with behind)) (lineIn (with before)) (length from) line-same
+    lines-same = table-ext (lineIn (with behind)) (lineIn (with before)) (length from) (line-same sub from to service unit blocks places frames before behind (rows .from) (rows .to))
 
     scene-same : (k c : ℕ) (stations : List ℕ) (centres : List Float) (corners twins : List ℕ) → sceneIn (with behind) k c stations centres corners twins ≡ sceneIn (with before) k c stations centres corners twins
     unfolding sceneIn
@@ -200,10 +185,11 @@ module _ (sub : List ℕ) (from to : List ℤ) (service : List ℕ) (unit : Floa
       led-ten (sceneOf before) (length from) corners before ends iterations room finite ways (traced .rows) (meshOk corners twins c) (r .full) (r .crossings) ok (traced .crossings k (gridOf before)) (traced .full) h
 
   module _ (left : r .full ≡ false) (boxes : 4 * k ≤ length frames) (occupied : (v : ℕ) → v < c → stationIn stations v < k) where
-    pub entered : Entered (gridOf ends) k c stations centres corners twins numbers along (r .channels) (r .crossings)
-    entered =
+    pub entered : Exited (gridOf before) → Entered (gridOf ends) k c stations centres corners twins numbers along (r .channels) (r .crossings)
+    entered E =
         record {
           mesh = ok;
+          exits = exited-rows sub from to service unit blocks places frames before ends (traced .rows .from) (traced .rows .to) E;
           boxes = boxes;
           occupied = occupied;
           channels-are = traced .channels left k (gridOf ends);
@@ -242,21 +228,21 @@ module _ (sub : List ℕ) (from to : List ℤ) (service : List ℕ) (unit : Floa
       first-is : (e : ℕ) → e < length from → wayOf behind e ≡ pathAt S (routing S) e .first
       first-is e l = read-path (λ (p : Path). p .first) 2 (length from) behind (routing S .paths) e l refl (kept .2 ∙ traced .stored left k (gridOf ends) .firsts)
 
-      count-is : (e : ℕ) → e < length from → waysOf behind e ≡ pathAt S (routing S) e .count
+      count-is : (e : ℕ) → e < length from → wayCount behind e ≡ pathAt S (routing S) e .count
       count-is e l = read-path (λ (p : Path). p .count) 3 (length from) behind (routing S .paths) e l refl (kept .3 ∙ traced .stored left k (gridOf ends) .counts)
 
-      inside : (e : ℕ) → e < length from → wayOf behind e + waysOf behind e ≤ r .crossings
+      inside : (e : ℕ) → e < length from → wayOf behind e + wayCount behind e ≤ r .crossings
       inside e l = omega (arith, first-is e l, count-is e l, path-row S e (omega (arith, number)) .within, traced .crossings k (gridOf ends))
 
-      along-is : (e : ℕ) → e < length from → pathIn (wayOf behind e) (waysOf behind e) ways ≡ waypoints S (routing S) (crossingsOf S iterations) e
+      along-is : (e : ℕ) → e < length from → pathIn (wayOf behind e) (wayCount behind e) ways ≡ waypoints S (routing S) (crossingsOf S iterations) e
       unfolding waypoints crossingsOf
       along-is e l =
           let f : ℕ → Point = pointOf S (routing S) (roundsTo S (routing S) iterations) in
-          along-from f ways (wayOf behind e) (waysOf behind e) (r .crossings) (inside e l) points
-          ∙ ap (λ (i : ℕ). map f (upFrom i (waysOf behind e))) (first-is e l)
+          along-from f ways (wayOf behind e) (wayCount behind e) (r .crossings) (inside e l) points
+          ∙ ap (λ (i : ℕ). map f (upFrom i (wayCount behind e))) (first-is e l)
           ∙ ap (λ (n : ℕ). map f (upFrom (pathAt S (routing S) e .first) n)) (count-is e l)
 
-      count-short : (e : ℕ) → e < length from → waysOf behind e ≤ length corners
+      count-short : (e : ℕ) → e < length from → wayCount behind e ≤ length corners
       count-short e l = omega (arith, count-is e l, routing-short S .each e (omega (arith, number)), ap length (scene-corners (gridOf ends) k c stations centres corners twins))
 
       finite-is : finite ≡ allOf isFinite (crossingsOf S iterations)

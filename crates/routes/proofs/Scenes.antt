@@ -16,14 +16,14 @@ use Rattle.network.specs.Words.{occupied, isOccupied}
 use Rattle.network.specs.Views.{countsIn, orderIn, pointsIn}
 use Rattle.units.specs.Unit.{coordinates}
 use Rattle.crossings.specs.Route.{Scene}
-use Rattle.crossings.specs.Views.{Grid, lineIn, linesIn, sceneIn}
-use Rattle.crossings.specs.Store.{Rising}
-use Rattle.routing.specs.Traced.{Pathless}
+use Rattle.crossings.specs.Stages.Views.{Grid, lineIn, linesIn, sceneIn}
+use Rattle.crossings.specs.Stages.Store.{Rising}
+use Rattle.routing.specs.Stages.Traced.{Pathless}
 use Rattle.crossings.proofs.Occupied.{occupied-rises}
-use Rattle.wishes.specs.Held.{stationIn}
+use Rattle.wishes.specs.Stages.Held.{stationIn}
 use Rattle.routes.specs.Routes.{meshUsed, meshFits}
-use Rattle.routes.specs.Routed.{routedIn, Routes}
-use Rattle.routes.specs.Led.{Led}
+use Rattle.routes.specs.Stages.Routed.{routedIn, Routes}
+use Rattle.routes.specs.Stages.Led.{Led}
 use Rattle.routes.proofs.Leading.{led-none}
 
 -- ---- the occupied stations

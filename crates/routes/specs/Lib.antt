@@ -1,3 +1,2 @@
 pub mod Routes
-pub mod Routed
-pub mod Led
+pub mod Stages

@@ -4,12 +4,13 @@ ghost use Prim.Native.Nat.{ℕ, _+_, _*_, _≤_, _<_, min};
 ghost use lib.ListN.{length};
 ghost use Rattle.mesh.specs.Mesh.{meshOk};
 ghost use Rattle.network.specs.Views.{orderIn};
-ghost use Rattle.crossings.specs.Store.{Rising};
-ghost use Rattle.crossings.specs.Views.{grid, sceneIn};
-ghost use Rattle.wishes.specs.Held.{stationIn};
+ghost use Rattle.crossings.specs.Stages.Store.{Rising};
+ghost use Rattle.crossings.specs.Stages.Views.{grid, sceneIn};
+ghost use Rattle.wishes.specs.Stages.Held.{stationIn};
+ghost use Rattle.exits.specs.Stages.Exits.{Exited};
 ghost use Rattle.routes.specs.Routes.{meshUsed};
-ghost use Rattle.routes.specs.Routed.{Routes};
-ghost use Rattle.routes.specs.Led.{Led};
+ghost use Rattle.routes.specs.Stages.Routed.{Routes};
+ghost use Rattle.routes.specs.Stages.Led.{Led};
 use crossings::corners::occupied_corners;
 use mesh::mesh_ok;
 use rounds::space_all_rounds;
@@ -32,7 +33,7 @@ fn mesh_used(stations: usize, iterations: u32) -> bool
     0 < iterations
 }
 
-// Routes the lines through the mesh over the c occupied stations, whose places are at the front of path.
+// Routes the lines through the mesh over the c occupied stations, whose places are at the front of path; the channels' ranges are written behind them.
 fn route_used(
     iterations: u32,
     room: usize,
@@ -53,12 +54,12 @@ fn route_used(
     blocks: &[f64],
     places: &[f64],
     frames: &[f64],
-    path: &[f64],
+    path: &mut [f64],
     numbers: &mut [u32],
     along: &mut [f64],
     ways: &mut [f64],
 ) -> Found
-    requires { ⌜ (length (now from) ≤ 8192) × (c ≤ 4096) × (4 * k ≤ length (now frames)) × (2 * c ≤ length (now path)) ⌝ }
+    requires { ⌜ (length (now from) ≤ 8192) × (c ≤ 4096) × (4 * k ≤ length (now frames)) × (2 * c + 3 * min (length (now corners)) 24576 ≤ length (now path)) × (length (now sub) ≤ 4096) × Exited (grid (now sub) (now from) (now to) (now service) unit (now ends) (now blocks) (now places) (now frames)) ⌝ }
     requires { ⌜ (3 * room ≤ length (now numbers)) × (room ≤ length (now along)) × (2 * room ≤ length (now ways)) × (room ≤ length (now sorted)) × (room ≤ length (now spare)) × (room ≤ length (now keys)) ⌝ }
     requires { ⌜ (4 * length (now from) + 4 * min (length (now corners)) 24576 + 4 ≤ length (now ends)) × (min (length (now corners)) 24576 ≤ length (now sorted)) × (min (length (now corners)) 24576 ≤ length (now spare)) × (min (length (now corners)) 24576 ≤ length (now keys)) ⌝ }
     requires { ⌜ Rising (orderIn c (now stations)) ⌝ }
@@ -124,7 +125,7 @@ fn route_used(
     Found { late: 0, finite }
 }
 
-// Routes the lines of the network through the mesh, where the crossing list holds `room` crossings.
+// Routes the lines of the network, whose exits stand in `places`, through the mesh, where the crossing list holds `room` crossings.
 pub fn route_lines(
     iterations: u32,
     room: usize,
@@ -149,7 +150,7 @@ pub fn route_lines(
     along: &mut [f64],
     ways: &mut [f64],
 ) -> Found
-    requires { ⌜ (length (now from) ≤ 8192) × (k ≤ 4096) × (2 * k ≤ length (now stations)) × (2 * k ≤ length (now places)) × (4 * k ≤ length (now frames)) × (2 * k ≤ length (now path)) ⌝ }
+    requires { ⌜ (length (now from) ≤ 8192) × (k ≤ 4096) × (2 * k ≤ length (now stations)) × (2 * k ≤ length (now places)) × (4 * k ≤ length (now frames)) × (2 * k + 3 * min (length (now corners)) 24576 ≤ length (now path)) × (length (now sub) ≤ 4096) × Exited (grid (now sub) (now from) (now to) (now service) unit (now ends) (now blocks) (now places) (now frames)) ⌝ }
     requires { ⌜ (3 * room ≤ length (now numbers)) × (room ≤ length (now along)) × (2 * room ≤ length (now ways)) × (room ≤ length (now sorted)) × (room ≤ length (now spare)) × (room ≤ length (now keys)) ⌝ }
     requires { ⌜ (4 * length (now from) + 4 * min (length (now corners)) 24576 + 4 ≤ length (now ends)) × (min (length (now corners)) 24576 ≤ length (now sorted)) × (min (length (now corners)) 24576 ≤ length (now spare)) × (min (length (now corners)) 24576 ≤ length (now keys)) ⌝ }
     ensures { λ r. ⌜ Routes (grid (now (sub .entry)) (now (from .entry)) (now (to .entry)) (now (service .entry)) unit (now (ends .entry)) (now (blocks .entry)) (now (places .entry)) (now (frames .entry))) k (now (stations .entry)) (now (corners .entry)) (now (twins .entry)) iterations room (r .late) (r .finite) (now (stations .exit)) (now (ends .exit)) (now (ways .exit)) ⌝ }

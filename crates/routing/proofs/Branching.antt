@@ -21,7 +21,7 @@ use Rattle.walk.specs.Trace.{Walk, traced, Trailed}
 use Rattle.walk.proofs.Walks.{traced-short, trail-short, trail-in}
 use Rattle.network.specs.Views.{fromRowsIn, toRowsIn}
 use Rattle.crossings.specs.Route.{Scene, Routing, Keyed, Crossing, Path, noRouting, noChannel, numberOf, centreAt, crossAll, addWalk, addBranch, tracedTo}
-use Rattle.crossings.specs.Store.{Marked, markOf, Stock, stock, Held, meshed, Grown, walkOf, walkAt, crossingsTo, addWay, firstFor, countFor, SameRows, Fits, Branched, Filled, Unmarked}
+use Rattle.crossings.specs.Stages.Store.{Marked, markOf, Stock, stock, Held, meshed, Grown, walkOf, walkAt, crossingsTo, addWay, firstFor, countFor, SameRows, Fits, Branched, Filled, Unmarked}
 use Rattle.crossings.proofs.Written.{putPair, pair-other, pair-rows, pair-first, pair-second, length-pair, rows-then, rows-same}
 
 -- ---- walks

@@ -18,7 +18,7 @@ use Rattle.order.proofs.Strides.{strided-ext, strided-zero, strided-suc}
 use Rattle.geometry.specs.Plane.{pointAt}
 use Rattle.walk.specs.Trace.{Walk, traced}
 use Rattle.crossings.specs.Route.{Scene, Routing, Keyed, Path, noRouting, noPath, numberOf, centreAt, addWalk, addBranch, tracedTo}
-use Rattle.crossings.specs.Store.{Marked, markOf, Stock, stock, Held, meshed, walkOf, walkAt, crossingsTo, addWay, firstFor, countFor, SameRows, Fits, Branched, Filled, Unmarked}
+use Rattle.crossings.specs.Stages.Store.{Marked, markOf, Stock, stock, Held, meshed, walkOf, walkAt, crossingsTo, addWay, firstFor, countFor, SameRows, Fits, Branched, Filled, Unmarked}
 use Rattle.crossings.proofs.Written.{putPair, pair-other, pair-rows, pair-first, pair-second, rows-then, rows-same}
 use Rattle.routing.proofs.Branching.{crossings-none, crossings-more, crossings-within}
 

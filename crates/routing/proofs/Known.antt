@@ -14,8 +14,8 @@ use Rattle.mesh.proofs.Meshes.{Sound, mesh-sound}
 use Rattle.mesh.proofs.Pigeons.{channels-few}
 use Rattle.walk.specs.Trace.{traced}
 use Rattle.walk.proofs.Walks.{traced-in}
-use Rattle.crossings.specs.Route.{Scene, Routing, Keyed, Line, noChannel, numberOf, placeIn, centreAt, makeChannel, withChannel, cross, crossAll, addWalk, addBranch, tracedTo, routing}
-use Rattle.crossings.specs.Views.{Edged}
+use Rattle.crossings.specs.Route.{Scene, Routing, Keyed, Line, noChannel, numberOf, vertexOf, centreAt, makeChannel, withChannel, cross, crossAll, addWalk, addBranch, tracedTo, routing}
+use Rattle.crossings.specs.Stages.Views.{Edged}
 use Rattle.crossings.proofs.Numbers.{same-key, number-le, number-front, number-new, number-keyed, with-old, with-new, made-low, made-high}
 
 module _ (S : Scene) where
@@ -66,8 +66,8 @@ module _ (S : Scene) where
     unfolding addBranch addWalk
     known-branch e none r f = f
     known-branch e (some l) r f =
-        let va = placeIn (l .sa) (S .occupied) in
-        let vb = placeIn (l .sb) (S .occupied) in
+        let va = vertexOf (l .sa) (S .occupied) in
+        let vb = vertexOf (l .sb) (S .occupied) in
         known-all va vb e 0 (traced (S .corners) (S .twins) (centreAt S) va vb .edges) r (traced-in (S .corners) (S .twins) (centreAt S) va vb n sound) f
 
     known-to : (e : ℕ) → Known (tracedTo S e .channels)

@@ -12,7 +12,7 @@ use lib.Seq.{getD-append-add, getD-append-seam}
 use Rattle.order.proofs.Merging.{le-or-lt}
 use Rattle.mesh.specs.Mesh.{lowAt, highAt}
 use Rattle.walk.specs.Trace.{Walk, traced}
-use Rattle.crossings.specs.Route.{Scene, Routing, Keyed, Crossing, Path, Line, noCrossing, noPath, numberOf, placeIn, centreAt, makeChannel, withChannel, crossingOf, cross, crossAll, addWalk, addBranch, tracedTo, routing}
+use Rattle.crossings.specs.Route.{Scene, Routing, Keyed, Crossing, Path, Line, noCrossing, noPath, numberOf, vertexOf, centreAt, makeChannel, withChannel, crossingOf, cross, crossAll, addWalk, addBranch, tracedTo, routing}
 use Rattle.crossings.proofs.Numbers.{number-le, with-old, with-new}
 
 -- crossings of branch e from its number k on
@@ -158,8 +158,8 @@ module _ (S : Scene) where
       subst (λ (z : List Crossing). Rows (suc e) z (r .paths ++ (noPath ∷ []))) (append-nil (r .crossings))
       (rows-more e (r .crossings) [] (r .paths) noPath q (λ i h. absurd (omega arith)) (λ h. absurd (omega arith)) zero-le zero-le)
   rows-branch e (some l) r q =
-      let va = placeIn (l .sa) (S .occupied) in
-      let vb = placeIn (l .sb) (S .occupied) in
+      let va = vertexOf (l .sa) (S .occupied) in
+      let vb = vertexOf (l .sb) (S .occupied) in
       rows-walk va vb e (traced (S .corners) (S .twins) (centreAt S) va vb) r q
 
   rows : (e : ℕ) → Rows e (tracedTo S e .crossings) (tracedTo S e .paths)
@@ -220,8 +220,8 @@ module _ (S : Scene) where
   unfolding addBranch addWalk
   branch-channelled e none r f = f
   branch-channelled e (some l) r f =
-      let va = placeIn (l .sa) (S .occupied) in
-      let vb = placeIn (l .sb) (S .occupied) in
+      let va = vertexOf (l .sa) (S .occupied) in
+      let vb = vertexOf (l .sb) (S .occupied) in
       all-channelled va vb e 0 (traced (S .corners) (S .twins) (centreAt S) va vb .edges) r f
 
   channelled : (e : ℕ) → Channelled (tracedTo S e)

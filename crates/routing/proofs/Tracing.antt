@@ -26,9 +26,9 @@ use Rattle.network.specs.Views.{orderIn}
 use Rattle.crossings.specs.Route as Route
 use Rattle.crossings.specs.declared.ways.Way.{Way}
 use Rattle.crossings.specs.Route.{Scene, Routing, Crossing, Path, centreAt, cross, crossAll, addWalk, addBranch, tracedTo, routing}
-use Rattle.crossings.specs.Views.{Grid, sceneIn, linesIn, lineIn, lineFor, lineBetween, Stored}
-use Rattle.crossings.specs.Store.{stock, Held, meshed, walkOf, walkAt, crossingsTo, addWay, wayFor, wayOf, SameRows, Fits, Filled, Unmarked, Wayed}
-use Rattle.routing.specs.Traced.{Settled, lined, Traced, Pathless}
+use Rattle.crossings.specs.Stages.Views.{Grid, sceneIn, linesIn, lineIn, lineFor, lineBetween, Stored}
+use Rattle.crossings.specs.Stages.Store.{stock, Held, meshed, walkOf, walkAt, crossingsTo, addWay, wayFor, wayOf, SameRows, Fits, Filled, Unmarked, Wayed}
+use Rattle.routing.specs.Stages.Traced.{Settled, lined, Traced, Pathless}
 use Rattle.routing.specs.declared.routes.Routed.{Routed}
 use Rattle.crossings.proofs.Written.{putPair, pair-other, pair-rows, pair-first, pair-second, length-pair, rows-then, rows-same}
 use Rattle.routing.proofs.Filling.{front-read, front-rows}

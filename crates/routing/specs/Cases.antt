@@ -8,7 +8,7 @@ use Rattle.geometry.specs.Plane.{point}
 use Rattle.geometry.specs.Cross.{orient, crosses}
 use Rattle.mesh.specs.Mesh.{noTwin, next, endAt, lowAt, highAt}
 use Rattle.walk.specs.Trace.{crossesEdge, leave, outBy, passOn, traced}
-use Rattle.crossings.specs.Route.{Line, Scene, Keyed, Crossing, Path, Routing, placeIn, numberOf, makeChannel, withChannel, crossingOf, cross, crossAll, addWalk, addBranch, tracedTo, routing}
+use Rattle.crossings.specs.Route.{Line, Scene, Keyed, Crossing, Path, Routing, vertexOf, numberOf, makeChannel, withChannel, crossingOf, cross, crossAll, addWalk, addBranch, tracedTo, routing}
 
 -- (0, 0), (1, 1), (1, -1), (2, 0) and (4, 0)
 abbrev points : List Float
@@ -52,5 +52,5 @@ absent = noTwin
 pub worked : map answers ((absent ∷ 3 ∷ absent ∷ 1 ∷ absent ∷ absent ∷ []) ∷ (absent ∷ absent ∷ absent ∷ absent ∷ absent ∷ absent ∷ []) ∷ [])
     ≡ (((0, 0, 0) ∷ (0, 2, 0) ∷ (0, 3, 0) ∷ []) ∷ [], ((1, 2) ∷ []) ∷ ((0, 1) ∷ (0, 0) ∷ (1, 1) ∷ (2, 0) ∷ (3, 0) ∷ []) ∷ [])
     ∷ (((0, 0, 0) ∷ (0, 2, 0) ∷ (0, 3, 0) ∷ []) ∷ [], ((1, 2) ∷ []) ∷ ((0, 1) ∷ (0, 0) ∷ (1, 1) ∷ (2, 1) ∷ (3, 0) ∷ []) ∷ []) ∷ []
-unfolding routing tracedTo addBranch addWalk crossAll cross crossingOf withChannel makeChannel numberOf placeIn traced leave outBy passOn crossesEdge crosses orient next endAt lowAt highAt ofBits lt sub mul
+unfolding routing tracedTo addBranch addWalk crossAll cross crossingOf withChannel makeChannel numberOf vertexOf traced leave outBy passOn crossesEdge crosses orient next endAt lowAt highAt ofBits lt sub mul
 worked = refl

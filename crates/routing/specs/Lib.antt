@@ -1,2 +1,2 @@
-pub mod Traced
 pub mod Cases
+pub mod Stages

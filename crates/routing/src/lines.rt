@@ -7,7 +7,7 @@ ghost use Rattle.order.specs.Order.{pick};
 ghost use Rattle.geometry.specs.Plane.{pointAt};
 ghost use Rattle.mesh.specs.Mesh.{meshOk};
 ghost use Rattle.walk.specs.Round.{roundOf};
-ghost use Rattle.crossings.specs.Store.{walkOf, walkAt, crossingsTo, stock, Branched, Filled, Unmarked};
+ghost use Rattle.crossings.specs.Stages.Store.{walkOf, walkAt, crossingsTo, stock, Branched, Filled, Unmarked};
 use crossings::crossings::store_trail;
 use order::at;
 use walk::trace::trace;

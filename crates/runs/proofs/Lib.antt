@@ -1,3 +1,2 @@
 -- Laws that the functions' proofs use.
 pub mod Paths
-pub mod Scenes

@@ -16,13 +16,13 @@ use Rattle.network.specs.Words.{Safe, stationOf, occupied}
 use Rattle.network.specs.Views.{countsIn, pointsIn, boxesIn}
 use Rattle.network.proofs.Views.{putPoint, point-same, point-other, points-zero, points-push}
 use Rattle.detour.specs.Detour.{detour}
-use Rattle.detour.specs.Paths.{pathIn, Led}
+use Rattle.detour.specs.Stages.Paths.{pathIn, Led}
 use Rattle.detour.proofs.Shifting.{point-before, path-zero, path-more, path-cons, length-path}
 use Rattle.detour.proofs.Detours.{length-detour, led-short}
 use Rattle.network.specs.declared.words.Kind.{Kind}
 use Rattle.network.specs.declared.words.Kind.the-variants.{Undrawn, Open, Internal, Line}
 use Rattle.runs.specs.Run.{isLine}
-use Rattle.runs.specs.Views.{Lead, Held, openFrom, internalFrom, ledIn, ledRun, lineFrom, runFrom, wayOf, waysOf, runIn, otherRun, Ran}
+use Rattle.runs.specs.Stages.Views.{Lead, Held, openFrom, internalFrom, ledIn, ledRun, lineFrom, runFrom, wayOf, wayCount, runIn, otherRun, Ran}
 
 -- a list of at least four points whose first k are ps
 pub record Front (k : ℕ) (l : List Float) (ps : List Point) : Type 0 where
@@ -197,12 +197,12 @@ line-few L frames s t w n p q x y =
     ends-few w n (L .ways) p q x y (ledIn (L .led) (L .cell) (L .gap) (L .k) (L .stations) frames s t path)
     (led-few (L .led) (L .cell) (L .gap) (L .k) (L .stations) frames s t path)
 
-pub run-few : (H : Held) (e : ℕ) (K : Kind) → length (runIn H e K) ≤ waysOf (H .ends) e + 8
+pub run-few : (H : Held) (e : ℕ) (K : Kind) → length (runIn H e K) ≤ wayCount (H .ends) e + 8
 unfolding runIn runFrom openFrom internalFrom lineFrom
 run-few H e Undrawn = omega arith
 run-few H e (Open a b) = omega arith
 run-few H e (Internal a b) = omega arith
-run-few H e (Line a b) = line-few (H .lead) (H .frames) (stationOf (H .sub) a) (stationOf (H .sub) b) (wayOf (H .ends) e) (waysOf (H .ends) e) _ _ _ _
+run-few H e (Line a b) = line-few (H .lead) (H .frames) (stationOf (H .sub) a) (stationOf (H .sub) b) (wayOf (H .ends) e) (wayCount (H .ends) e) _ _ _ _
 
 -- a branch's buses fit 32 bits
 abbrev pub Small : Kind → Type 0

@@ -1,4 +1,4 @@
 pub mod Run
-pub mod Views
 pub mod Finite
 pub mod Lists
+pub mod Stages

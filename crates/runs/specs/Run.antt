@@ -41,14 +41,14 @@ unfoldable pub slot : Scene → ℕ → ℕ → Point
 slot S i row = rowEnd (S .sub) (S .blocks) (S .boxes) (S .bars) i row
 
 -- the path between the slots of a line from station s to station t, led round boxes where there are iterations
-unfoldable pub between : Scene → ℕ → ℕ → List Point → List Point
-between S s t path =
+unfoldable pub ledPath : Scene → ℕ → ℕ → List Point → List Point
+ledPath S s t path =
     cond (S .led) (detour (S .boxes) (S .occupied) (cellSize (S .boxes) (S .occupied)) (S .gap) s t path) path
 
 -- the points of a line between its two slots p and q, from station s to station t: from exit to exit by its waypoints
 unfoldable pub linePoints : Scene → ℕ → ℕ → List Point → Point → Point → List Point
 linePoints S s t via p q =
-    p ∷ (between S s t (exit (S .boxes) (S .places) s t (p .y) ∷ (via ++ (exit (S .boxes) (S .places) t s (q .y) ∷ []))) ++ (q ∷ []))
+    p ∷ (ledPath S s t (exit (S .boxes) (S .places) s t (p .y) ∷ (via ++ (exit (S .boxes) (S .places) t s (q .y) ∷ []))) ++ (q ∷ []))
 
 -- the points of a branch's run, whose ends have the rows ra and rb, by these waypoints where it is a line
 unfoldable pub runFor : Scene → ℕ → ℕ → List Point → Kind → List Point

@@ -6,8 +6,8 @@ ghost use lib.ListN.{length};
 ghost use Rattle.geometry.specs.Plane.{boxAt};
 ghost use Rattle.network.specs.Words.{kindOf};
 ghost use Rattle.network.proofs.Views.{putPoint};
-ghost use Rattle.detour.specs.Paths.{pathIn, Led};
-ghost use Rattle.runs.specs.Views.{lead, blockOf, barOf, slotOf, exitOf, openFrom, internalFrom, ledIn, ledRun, otherRun, Roomy, Stands, Ran};
+ghost use Rattle.detour.specs.Stages.Paths.{pathIn, Led};
+ghost use Rattle.runs.specs.Stages.Views.{lead, blockOf, barOf, slotOf, exitOf, firstExit, secondExit, openFrom, internalFrom, ledIn, ledRun, otherRun, HasRoom, Stands, Ran};
 use bars::Bar;
 use bars::bar_for;
 use bars::exit_x;
@@ -89,6 +89,30 @@ pub fn exit_of(places: &[f64], frames: &[f64], s: usize, t: usize, y: f64) -> Po
     }
 }
 
+// The first exit of branch e: two points for each branch, behind n points of a list.
+pub fn first_exit(n: usize, places: &[f64], e: usize) -> Point
+    requires { ⌜ (n ≤ 2 ^ 32) × (e < 2 ^ 32) ⌝ }
+    ensures { λ r. ⌜ r ≡ firstExit n (now (places .entry)) e ⌝ }
+{
+    let i = n + 2 * e;
+    Point {
+        x: number_at(places, 2 * i),
+        y: number_at(places, 2 * i + 1),
+    }
+}
+
+// The second exit of branch e.
+pub fn second_exit(n: usize, places: &[f64], e: usize) -> Point
+    requires { ⌜ (n ≤ 2 ^ 32) × (e < 2 ^ 32) ⌝ }
+    ensures { λ r. ⌜ r ≡ secondExit n (now (places .entry)) e ⌝ }
+{
+    let i = n + 2 * e + 1;
+    Point {
+        x: number_at(places, 2 * i),
+        y: number_at(places, 2 * i + 1),
+    }
+}
+
 // Sets point i of a list.
 pub fn put_point(list: &mut [f64], i: usize, p: Point)
     requires { ⌜ (2 * i + 1 < length (now list)) × (i < 2 ^ 32) ⌝ }
@@ -162,7 +186,7 @@ fn copy_points(ways: &[f64], w: usize, n: usize, path: &mut [f64], i: usize)
 
 // Puts a path behind the first point of a list: a, the n points of `ways` from point w on, b.
 fn put_middle(path: &mut [f64], a: Point, ways: &[f64], w: usize, n: usize, b: Point)
-    requires { ⌜ (Roomy n (now path)) × (w + n < 2 ^ 31) ⌝ }
+    requires { ⌜ (HasRoom n (now path)) × (w + n < 2 ^ 31) ⌝ }
     ensures { λ _. ⌜ pathIn 1 (n + 2) (now (path .exit)) ≡ a ∷ (pathIn w n (now (ways .entry)) ++ (b ∷ [])) ⌝ }
 {
     put_point(path, 1, a);
@@ -225,7 +249,7 @@ pub fn run_line(
     n: usize,
     path: &mut [f64],
 ) -> usize
-    requires { ⌜ (Roomy n (now path)) × (w + n < 2 ^ 31) ⌝ }
+    requires { ⌜ (HasRoom n (now path)) × (w + n < 2 ^ 31) ⌝ }
     requires { ⌜ Stands cell k (now stations) (now frames) (now index) ⌝ }
     ensures { λ r. ⌜ Ran r (now (path .exit)) (ledRun (lead led cell gap k (now (stations .entry)) (now (ways .entry))) (now (frames .entry)) s t p q x y w n) ⌝ }
 {

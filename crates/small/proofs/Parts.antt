@@ -12,7 +12,7 @@ use Rattle.drawing.specs.declared.answer.Answer.{Answer}
 use Rattle.drawing.specs.Network.{Network, Lists, Work, work, Crossings, crossings}
 use Rattle.drawing.specs.Answer.{Call, call, layoutOf}
 use Rattle.drawing.specs.Number.{Answered}
-use Rattle.small.specs.Held.{noughts, zeros, workLists, crossingLists, heldCall, Held}
+use Rattle.small.specs.Held.{zeroNumbers, zeros, workLists, crossingLists, heldCall, Held}
 
 take-replicate : {A : Type 0} (s n : ℕ) (x : A) → s ≤ n → take s (replicate n x) ≡ replicate s x
 take-replicate zero n x h = refl
@@ -25,8 +25,8 @@ front s n x h = ap (λ (k : ℕ). take k (replicate n x)) (sub-zero s) ∙ take-
 pub held-by : (o : Options) (N : Network) (L : Lists) (s c : ℕ) (a : Answer) (L' : Lists) (W' : Work) (X' : Crossings)
     → (s ≤ 128) × (c ≤ 128)
     → Answered o N L
-    (work (take (s - 0) (drop 0 (noughts 128))) (noughts 192) (noughts 320) (noughts 1873) (noughts 1873) (noughts 1873) (zeros 128) (zeros 192) (zeros 256) (zeros 160))
-    (crossings (noughts 384) (take (c - 0) (drop 0 (zeros 128))) (zeros 256))
+    (work (take (s - 0) (drop 0 (zeroNumbers 128))) (zeroNumbers 192) (zeroNumbers 320) (zeroNumbers 1873) (zeroNumbers 1873) (zeroNumbers 1873) (zeros 384) (zeros 192) (zeros 256) (zeros 232))
+    (crossings (zeroNumbers 384) (take (c - 0) (drop 0 (zeros 128))) (zeros 256))
     (call a L' W' X')
     → Held o N L s c a L'
 unfolding heldCall

@@ -10,8 +10,8 @@ use Rattle.drawing.specs.declared.answer.Answer.{Answer}
 use Rattle.drawing.specs.Network.{Network, Lists, Work, work, Crossings, crossings}
 use Rattle.drawing.specs.Answer.{Call, layoutOf}
 
-abbrev pub noughts : ℕ → List ℕ
-noughts n = replicate n 0
+abbrev pub zeroNumbers : ℕ → List ℕ
+zeroNumbers n = replicate n 0
 
 abbrev pub zeros : ℕ → List Float
 zeros n = replicate n f0
@@ -19,11 +19,11 @@ zeros n = replicate n f0
 -- the work lists, the first with room for so many numbers, the others long enough for 64 buses and 64 branches, or fewer and a mesh
 abbrev pub workLists : ℕ → Work
 workLists stations =
-    work (noughts stations) (noughts 192) (noughts 320) (noughts 1873) (noughts 1873) (noughts 1873) (zeros 128) (zeros 192) (zeros 256) (zeros 160)
+    work (zeroNumbers stations) (zeroNumbers 192) (zeroNumbers 320) (zeroNumbers 1873) (zeroNumbers 1873) (zeroNumbers 1873) (zeros 384) (zeros 192) (zeros 256) (zeros 232)
 
 -- a crossing list for so many crossings
 abbrev pub crossingLists : ℕ → Crossings
-crossingLists room = crossings (noughts 384) (zeros room) (zeros 256)
+crossingLists room = crossings (zeroNumbers 384) (zeros room) (zeros 256)
 
 unfoldable pub heldCall : Options → Network → Lists → ℕ → ℕ → Call
 heldCall o N L stations room = layoutOf o N L (workLists stations) (crossingLists room)

@@ -40,10 +40,10 @@ pub fn draw_small(
     let mut sorted = [0u32; 1873];
     let mut spare = [0u32; 1873];
     let mut keys = [0u64; 1873];
-    let mut places = [0f64; 128];
+    let mut places = [0f64; 384];
     let mut blocks = [0f64; 192];
     let mut frames = [0f64; 256];
-    let mut path = [0f64; 160];
+    let mut path = [0f64; 232];
     let mut numbers = [0u32; 384];
     let mut crossings = [0f64; 128];
     let mut ways = [0f64; 256];

@@ -10,7 +10,7 @@ use Rattle.order.proofs.Tables.{table-ext}
 use Rattle.network.specs.Words.{stationCount}
 use Rattle.network.proofs.Stations.{station-below}
 use Rattle.stations.specs.Column.{voltage, falling, column, columns}
-use Rattle.stations.specs.Ranking.{placeIn}
+use Rattle.stations.specs.Stages.Ranking.{placeIn}
 use Rattle.stations.proofs.Placing.{place-some, place-ext}
 use Rattle.stations.proofs.Fronts.{front-at}
 

@@ -24,7 +24,7 @@ use Rattle.network.proofs.Views.{getD-points}
 use Rattle.network.proofs.Stations.{station-below}
 use Rattle.geometry.specs.declared.Point.{Point}
 use Rattle.geometry.specs.Plane.{origin}
-use Rattle.stations.specs.Entry.{fromEnd}
+use Rattle.stations.specs.Stages.Entry.{fromEnd}
 
 -- ---- what holds at the kind and the side that the tests found
 pub by-kind : {A : Type 0} (f : Bool → Kind → A) (x : ℕ) (b : Bool) (K L M : Kind) (v : A) → K ≡ M → K ≡ L → fromEnd x ≡ b → v ≡ f b L → v ≡ f (fromEnd x) M

@@ -19,8 +19,8 @@ use Rattle.network.specs.declared.words.Kind.the-variants.{Undrawn, Open, Inter
 use Rattle.network.specs.Words.{kindAt, stationOf, Safe}
 use Rattle.network.specs.Seed.{placeAt}
 use Rattle.stations.specs.Row.{hasRow, rowKey, rowsIn, row}
-use Rattle.stations.specs.Entry.{none, endStation, endKey, fromEnd, entryStation, entryKey}
-use Rattle.stations.specs.Ranking.{inStation}
+use Rattle.stations.specs.Stages.Entry.{none, endStation, endKey, fromEnd, entryStation, entryKey}
+use Rattle.stations.specs.Stages.Ranking.{inStation}
 use Rattle.stations.proofs.Placing.{before-ext}
 
 -- ---- counting by pairs

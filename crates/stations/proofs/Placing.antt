@@ -8,7 +8,7 @@ use borrow.Author.Tests.{lt-ltb, le-ltb}
 use Rattle.order.specs.Order.{pick, before}
 use Rattle.order.specs.Table.{howMany}
 use Rattle.order.proofs.Tables.{howMany-ext}
-use Rattle.stations.specs.Ranking.{inStation, placeIn}
+use Rattle.stations.specs.Stages.Ranking.{inStation, placeIn}
 
 module _ (of key : ℕ → ℕ) (k c x : ℕ) where
   pub place-none : k ≤ of x → placeIn of key k c x ≡ 0

@@ -20,8 +20,8 @@ use Rattle.network.specs.Views.{pointsIn}
 use Rattle.network.proofs.Stations.{station-below}
 use Rattle.network.proofs.Branches.{kind-safe}
 use Rattle.stations.specs.Row.{rowsIn, row, fromRow, toRow, fromRows, toRows}
-use Rattle.stations.specs.Entry.{none, endStation, endKey, toEntry, fromEnd, entryStation, entryKey}
-use Rattle.stations.specs.Ranking.{inStation, placeIn}
+use Rattle.stations.specs.Stages.Entry.{none, endStation, endKey, toEntry, fromEnd, entryStation, entryKey}
+use Rattle.stations.specs.Stages.Ranking.{inStation, placeIn}
 use Rattle.stations.proofs.Fronts.{front-at}
 use Rattle.stations.proofs.Placing.{place-none, place-some, station-ext, place-ext}
 use Rattle.stations.proofs.Entries.{of-at, rows-counted, row-counted}

@@ -18,7 +18,7 @@ use Rattle.order.proofs.Merging.{length-sort}
 use Rattle.order.proofs.Tables.{table-ext}
 use Rattle.order.proofs.Strides.{is-table, read-other, strided-other}
 use Rattle.network.specs.Views.{countsIn}
-use Rattle.stations.specs.Ranking.{inStation, placeIn}
+use Rattle.stations.specs.Stages.Ranking.{inStation, placeIn}
 use Rattle.stations.proofs.Prefix.{prefix-law}
 use Rattle.stations.proofs.Placing.{place-none, place-some}
 

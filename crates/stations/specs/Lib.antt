@@ -1,4 +1,3 @@
 pub mod Column
-pub mod Ranking
 pub mod Row
-pub mod Entry
+pub mod Stages

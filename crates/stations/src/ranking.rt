@@ -6,7 +6,7 @@ ghost use lib.ListN.{length, take, getD};
 ghost use Rattle.order.specs.Order.{keyAt, sortBy, upFrom, count};
 ghost use Rattle.order.specs.Table.{table, strided};
 ghost use Rattle.network.specs.Views.{countsIn};
-ghost use Rattle.stations.specs.Ranking.{inStation, placeIn};
+ghost use Rattle.stations.specs.Stages.Ranking.{inStation, placeIn};
 use order::number;
 use order::sort_part;
 

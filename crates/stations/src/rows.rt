@@ -9,7 +9,7 @@ ghost use Rattle.order.specs.Table.{table, strided};
 ghost use Rattle.network.specs.Words.{stationCount, kindOf, kinds};
 ghost use Rattle.network.specs.Views.{countsIn, pointsIn, fromRowsIn, toRowsIn};
 ghost use Rattle.stations.specs.Row.{rowsIn, fromRows, toRows};
-ghost use Rattle.stations.specs.Entry.{fromEnd, endStation, endKey, toEntry, entryStation, entryKey};
+ghost use Rattle.stations.specs.Stages.Entry.{fromEnd, endStation, endKey, toEntry, entryStation, entryKey};
 use crate::ranking::rank_in_stations;
 use float::key::order_key;
 use network::words::Kind;

@@ -25,7 +25,7 @@ use Rattle.stations.specs.Column.{voltage, falling}
 use Rattle.units.proofs.Blocks.{count-at}
 use Rattle.units.proofs.Occupied.{is-occupied, not-occupied}
 use Rattle.turns.specs.Turns.{topTo, placementOrder}
-use Rattle.turns.specs.Listed.{Listed, Turns}
+use Rattle.turns.specs.Stages.Listed.{Listed, Turns}
 use Rattle.order.proofs.Sorting.{sort-agree, sort-front}
 
 -- ---- the occupied stations, one station after the other

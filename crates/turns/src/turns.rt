@@ -6,7 +6,7 @@ ghost use Rattle.network.specs.Words.{busCounts, occupied};
 ghost use Rattle.network.specs.Views.{countsIn, orderIn};
 ghost use Rattle.stations.specs.Column.{falling};
 ghost use Rattle.turns.specs.Turns.{topTo, placementOrder};
-ghost use Rattle.turns.specs.Listed.{Listed, Turns};
+ghost use Rattle.turns.specs.Stages.Listed.{Listed, Turns};
 use float::key::key_of_bits;
 use order::sort_part;
 

@@ -17,7 +17,7 @@ use Rattle.network.specs.Views.{countsIn}
 use Rattle.network.specs.declared.words.Kind.{Kind}
 use Rattle.stations.specs.Row.{rowsIn}
 use Rattle.units.specs.Size.{Size, widthFor, heightFor, sizeFor, sizesFor, sizes}
-use Rattle.units.specs.Views.{sizeIn, sizesIn, rowCountsIn}
+use Rattle.units.specs.Stages.Views.{sizeIn, sizesIn, rowCountsIn}
 
 abbrev pub size : Float → Float → Size
 size a b = record { w = a; h = b }

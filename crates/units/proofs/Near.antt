@@ -83,12 +83,12 @@ module _ (ps : List Float) (n : ℕ) where
         go true t = ap (tier O) (neighbours-take reach (occupiedBelow counts s) (rw e (occupied-below counts s h t)))
         go false t = refl
 
-    pub scales-take : (gap : Float) → scalesOf O qs n gap counts ≡ scalesOf O ps n gap counts
+    pub scales-take : (sp : Float) → scalesOf O qs n sp counts ≡ scalesOf O ps n sp counts
     unfolding scalesOf
-    scales-take gap = table-ext (scaleAt O qs n reach counts) (scaleAt O ps n reach counts) (length counts) (scale-take reach)
+    scales-take sp = table-ext (scaleAt O qs n reach counts) (scaleAt O ps n reach counts) (length counts) (scale-take reach)
       where
         reach : Float
-        reach = O .«tier_radius» ⊗ gap
+        reach = O .«tier_radius» ⊗ sp
 
 -- the spacing by a list that has the distances at its front
 pub spacing-of : (ps l out : List Float) (n : ℕ) (r : Float) → out ≡ table (nearest ps n) n ++ drop n l → r ≡ orElse (medianOf (take n out)) f1 → r ≡ spacingOf ps n
@@ -103,8 +103,8 @@ module _ (ps : List Float) (n : ℕ) (seeds : List Point) (counts : List ℕ) (e
   unfolding spacing
   spacing-is = sym (spacing-take ps n) ∙ ap (λ (l : List Float). spacingOf l n) t ∙ ap (spacingOf (coordinates seeds (occupied counts))) e
 
-  pub scales-is : (O : Options) (gap : Float) → scalesOf O ps n gap counts ≡ scales O seeds counts gap
+  pub scales-is : (O : Options) (sp : Float) → scalesOf O ps n sp counts ≡ scales O seeds counts sp
   unfolding scales
-  scales-is O gap =
-      sym (scales-take ps n O counts e gap) ∙ ap (λ (l : List Float). scalesOf O l n gap counts) t
-      ∙ ap (λ (m : ℕ). scalesOf O (coordinates seeds (occupied counts)) m gap counts) e
+  scales-is O sp =
+      sym (scales-take ps n O counts e sp) ∙ ap (λ (l : List Float). scalesOf O l n sp counts) t
+      ∙ ap (λ (m : ℕ). scalesOf O (coordinates seeds (occupied counts)) m sp counts) e

@@ -20,7 +20,7 @@ use Rattle.network.specs.Views.{countsIn, pointsIn}
 use Rattle.network.proofs.Views.{putPoint, getD-points}
 use Rattle.units.specs.Size.{Size, sizeAt, larger, sides}
 use Rattle.units.specs.Unit.{coordinates}
-use Rattle.units.specs.Views.{sizeIn, sizesIn}
+use Rattle.units.specs.Stages.Views.{sizeIn, sizesIn}
 use Rattle.units.proofs.Blocks.{count-at, getD-sizes}
 
 -- those of the first s that are occupied, and how many

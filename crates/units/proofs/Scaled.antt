@@ -18,7 +18,7 @@ use Rattle.network.specs.declared.options.Options.{Options}
 use Rattle.network.specs.Words.{occupied}
 use Rattle.network.specs.Views.{countsIn}
 use Rattle.units.specs.Scale.{tier, occupiedBelow, scaleAt, scalesOf}
-use Rattle.units.specs.Views.{scalesIn}
+use Rattle.units.specs.Stages.Views.{scalesIn}
 use Rattle.units.proofs.Near.{occupied-below}
 use Rattle.units.proofs.Occupied.{passedCount, is-occupied, not-occupied}
 
@@ -67,7 +67,7 @@ module _ (O : Options) (ps : List Float) (n : ℕ) (reach : Float) (k : ℕ) (st
         (strided-push 3 2 nan s l v (omega arith) p ∙ ap (λ (t : List Float). t ++ (v ∷ [])) e
         ∙ ap (λ (x : Float). scaled s ++ (x ∷ [])) f ∙ sym (table-suc (scaleAt O ps n reach (countsIn k st)) s))
 
-pub scales-end : (O : Options) (ps : List Float) (n : ℕ) (gap : Float) (k : ℕ) (st : List ℕ)
-    → scaled O ps n (O .«tier_radius» ⊗ gap) k st k ≡ scalesOf O ps n gap (countsIn k st)
+pub scales-end : (O : Options) (ps : List Float) (n : ℕ) (sp : Float) (k : ℕ) (st : List ℕ)
+    → scaled O ps n (O .«tier_radius» ⊗ sp) k st k ≡ scalesOf O ps n sp (countsIn k st)
 unfolding scalesOf
-scales-end O ps n gap k st = ap (scaled O ps n (O .«tier_radius» ⊗ gap) k st) (sym (length-strided 2 0 0 k st))
+scales-end O ps n sp k st = ap (scaled O ps n (O .«tier_radius» ⊗ sp) k st) (sym (length-strided 2 0 0 k st))

@@ -182,9 +182,9 @@ unfolding spacingOf
 spacing-doubles lo top e r h d l ps ps' n P some = or-doubles lo top _ _ some (median-doubles lo top (l .room) _ _ (table-paired lo top e r h d l ps ps' n P 0 n (le-of-eq (zero-add n))))
 
 -- fill × spacing / typical
-pub unit-doubles : {i j k t u v : ℕ} {gap gap' fill side : Float} (lo₁ top₁ lo top : ℕ) → Stepped i t fill → Doubles j u gap gap' → Stepped k v side → 0 < grains side
+pub unit-doubles : {i j k t u v : ℕ} {sp sp' fill side : Float} (lo₁ top₁ lo top : ℕ) → Stepped i t fill → Doubles j u sp sp' → Stepped k v side → 0 < grains side
     → lo₁ + 1074 ≡ j + i → 52 ≤ lo₁ → u * t ≤ top₁ * 2 ^ 1074 → Limit top₁
     → lo ≤ 2045 → 2 ^ (52 + lo) * v ≤ 2 ^ lo₁ * 2 ^ 1074 → top₁ * 2 ^ 1074 ≤ top * 2 ^ k → Limit top
-    → Doubles lo top (unitFor fill gap side) (unitFor fill gap' side)
+    → Doubles lo top (unitFor fill sp side) (unitFor fill sp' side)
 unfolding unitFor
 unit-doubles lo₁ top₁ lo top f g z p a b c d e h k l = div-doubles lo top (mul-doubles-2 lo₁ top₁ f g a b c d) z p e h k l

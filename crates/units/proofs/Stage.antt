@@ -10,7 +10,7 @@ use Rattle.network.specs.Views.{countsIn, pointsIn}
 use Rattle.units.specs.Size.{Size, sizesFor}
 use Rattle.units.specs.Unit.{coordinates, spacingOf, spacing, typical, unitFor}
 use Rattle.units.specs.Scale.{scalesOf, scales}
-use Rattle.units.specs.Views.{sizesIn, scalesIn, rowCountsIn}
+use Rattle.units.specs.Stages.Views.{sizesIn, scalesIn, rowCountsIn}
 use Rattle.units.proofs.Near.{spacing-is, scales-is}
 
 module _ (k n : ℕ) (st : List ℕ) (places path : List Float) where
@@ -20,14 +20,14 @@ module _ (k n : ℕ) (st : List ℕ) (places path : List Float) where
   abbrev zs : List Size
   zs = sizesFor cs (rowCountsIn k st)
 
-  module _ (e : n ≡ length (occupied cs)) (t : take (2 * n) path ≡ coordinates (pointsIn k places) (occupied cs)) (gap : Float) (g : gap ≡ spacingOf path n) where
-    gap-is : gap ≡ spacing (pointsIn k places) cs
-    gap-is = g ∙ spacing-is path n (pointsIn k places) cs e t
+  module _ (e : n ≡ length (occupied cs)) (t : take (2 * n) path ≡ coordinates (pointsIn k places) (occupied cs)) (sp : Float) (g : sp ≡ spacingOf path n) where
+    sp-is : sp ≡ spacing (pointsIn k places) cs
+    sp-is = g ∙ spacing-is path n (pointsIn k places) cs e t
 
-    pub unit-left : (O : Options) (blocks : List Float) (side r : Float) → sizesIn k blocks ≡ zs → side ≡ typical (sizesIn k blocks) cs → r ≡ unitFor (O .fill) gap side
+    pub unit-left : (O : Options) (blocks : List Float) (side r : Float) → sizesIn k blocks ≡ zs → side ≡ typical (sizesIn k blocks) cs → r ≡ unitFor (O .fill) sp side
         → r ≡ unitFor (O .fill) (spacing (pointsIn k places) cs) (typical zs cs)
-    unit-left O blocks side r z s u = cc (z, s, u, gap-is)
+    unit-left O blocks side r z s u = cc (z, s, u, sp-is)
 
-    pub scales-left : (O : Options) (blocks : List Float) → scalesIn k blocks ≡ scalesOf O path n gap cs
+    pub scales-left : (O : Options) (blocks : List Float) → scalesIn k blocks ≡ scalesOf O path n sp cs
         → scalesIn k blocks ≡ scales O (pointsIn k places) cs (spacing (pointsIn k places) cs)
-    scales-left O blocks q = q ∙ scales-is path n (pointsIn k places) cs e t O gap ∙ ap (scales O (pointsIn k places) cs) gap-is
+    scales-left O blocks q = q ∙ scales-is path n (pointsIn k places) cs e t O sp ∙ ap (scales O (pointsIn k places) cs) sp-is

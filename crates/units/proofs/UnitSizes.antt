@@ -146,8 +146,8 @@ sixteen : AtMost (1074 + 4) (ofBits binary64 0x4030_0000_0000_0000)
 unfolding mostTest isFinite ofBits ofFields odd
 sixteen = most-lit (1074 + 4) (ofBits binary64 0x4030_0000_0000_0000) tt
 
-pub unit-most : (g : ℕ) (fill gap side : Float) → g + 4 ≤ 2097 → lt f0 fill ≡ true → le fill (ofBits binary64 0x4030_0000_0000_0000) ≡ true → AtMost g gap → AtLeast 1074 side → AtMost (g + 4) (unitFor fill gap side)
+pub unit-most : (g : ℕ) (fill sp side : Float) → g + 4 ≤ 2097 → lt f0 fill ≡ true → le fill (ofBits binary64 0x4030_0000_0000_0000) ≡ true → AtMost g sp → AtLeast 1074 side → AtMost (g + 4) (unitFor fill sp side)
 unfolding unitFor
-unit-most g fill gap side G a b h s =
+unit-most g fill sp side G a b h s =
     let f : AtMost (1074 + 4) fill = between-most (1074 + 4) fill f0 (ofBits binary64 0x4030_0000_0000_0000) (le-of-lt-float f0 fill (subst T (sym a) tt)) (subst T (sym b) tt) (f0-most (1074 + 4)) sixteen in
-    div-most (g + 4) 1074 (g + 4) (fill ⊗ gap) side (omega arith) G (mul-most (1074 + 4) g (g + 4) fill gap (omega arith) G f h) s
+    div-most (g + 4) 1074 (g + 4) (fill ⊗ sp) side (omega arith) G (mul-most (1074 + 4) g (g + 4) fill sp (omega arith) G f h) s

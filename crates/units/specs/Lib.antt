@@ -1,5 +1,5 @@
 pub mod Size
 pub mod Unit
 pub mod Scale
-pub mod Views
 pub mod Doubles
+pub mod Stages

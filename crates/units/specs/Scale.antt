@@ -29,9 +29,9 @@ scaleAt O ps n reach counts s = let c = tier O (neighbours ps n reach (occupiedB
 
 unfoldable pub scalesOf : Options → List Float → ℕ → Float → List ℕ → List Float
 unfolding scaleAt
-scalesOf O ps n gap counts = table (scaleAt O ps n (O .«tier_radius» ⊗ gap) counts) (length counts)
+scalesOf O ps n spacing counts = table (scaleAt O ps n (O .«tier_radius» ⊗ spacing) counts) (length counts)
 
 -- the scales by the spacing
 unfoldable pub scales : Options → List Point → List ℕ → Float → List Float
 unfolding coordinates scalesOf
-scales O seeds counts gap = let ss = occupied counts in scalesOf O (coordinates seeds ss) (length ss) gap counts
+scales O seeds counts spacing = let ss = occupied counts in scalesOf O (coordinates seeds ss) (length ss) spacing counts

@@ -33,4 +33,4 @@ typical zs counts = maxOf (orElse (medianOf (sides zs (occupied counts))) f1) f1
 
 -- of a fill, the spacing and the typical side
 unfoldable pub unitFor : Float → Float → Float → Float
-unitFor fill gap side = fill ⊗ gap ⊘ side
+unitFor fill spacing side = fill ⊗ spacing ⊘ side

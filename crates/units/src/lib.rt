@@ -6,7 +6,7 @@ ghost use Rattle.network.specs.Views.{countsIn, pointsIn};
 ghost use Rattle.units.specs.Size.{sizesFor};
 ghost use Rattle.units.specs.Unit as Unit;
 ghost use Rattle.units.specs.Scale as Scale;
-ghost use Rattle.units.specs.Views.{sizesIn, scalesIn, rowCountsIn};
+ghost use Rattle.units.specs.Stages.Views.{sizesIn, scalesIn, rowCountsIn};
 use network::options::Options;
 
 pub mod scale;
@@ -34,8 +34,8 @@ pub fn units(
 {
     sizes::sizes(k, stations, blocks);
     let n = unit::coordinates(k, stations, places, path);
-    let gap = unit::spacing(n, path, frames, keys, sorted, spare);
+    let spacing = unit::spacing(n, path, frames, keys, sorted, spare);
     let side = unit::typical(k, stations, blocks, frames, keys, sorted, spare);
-    scale::scales(o, k, n, gap, stations, path, blocks, keys, sorted, spare);
-    unit::unit_for(o.fill, gap, side)
+    scale::scales(o, k, n, spacing, stations, path, blocks, keys, sorted, spare);
+    unit::unit_for(o.fill, spacing, side)
 }

@@ -5,7 +5,7 @@ ghost use lib.ListN.{length};
 ghost use Rattle.network.specs.Words.{occupied};
 ghost use Rattle.network.specs.Views.{countsIn};
 ghost use Rattle.units.specs.Scale.{tier, scalesOf};
-ghost use Rattle.units.specs.Views.{sizesIn, scalesIn};
+ghost use Rattle.units.specs.Stages.Views.{sizesIn, scalesIn};
 use network::options::Options;
 
 // The scale of a station with so many neighbours. The second tier is tested first.
@@ -26,7 +26,7 @@ pub(crate) fn scales(
     o: Options,
     k: usize,
     n: usize,
-    gap: f64,
+    spacing: f64,
     stations: &[u32],
     path: &[f64],
     blocks: &mut [f64],
@@ -35,10 +35,10 @@ pub(crate) fn scales(
     spare: &mut [u32],
 )
     requires { ⌜ (n ≡ length (occupied (countsIn k (now stations)))) × (2 * k ≤ length (now stations)) × (2 * n ≤ length (now path)) × (3 * k ≤ length (now blocks)) × (n < 2 ^ 32) × (n ≤ length (now keys)) × (n ≤ length (now sorted)) × (n ≤ length (now spare)) ⌝ }
-    ensures { λ _. ⌜ scalesIn k (now (blocks .exit)) ≡ scalesOf o (now (path .entry)) n gap (countsIn k (now (stations .entry))) ⌝ }
+    ensures { λ _. ⌜ scalesIn k (now (blocks .exit)) ≡ scalesOf o (now (path .entry)) n spacing (countsIn k (now (stations .entry))) ⌝ }
     ensures { λ _. ⌜ sizesIn k (now (blocks .exit)) ≡ sizesIn k (now (blocks .entry)) ⌝ }
 {
-    neighbours::neighbour_counts(path, n, o.tier_radius * gap, spare, keys, sorted);
+    neighbours::neighbour_counts(path, n, o.tier_radius * spacing, spare, keys, sorted);
     let mut j = 0;
     let mut s = 0;
     while s < k {

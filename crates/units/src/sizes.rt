@@ -5,7 +5,7 @@ ghost use lib.ListN.{length, take};
 ghost use Rattle.network.specs.Words.{occupied};
 ghost use Rattle.network.specs.Views.{countsIn};
 ghost use Rattle.units.specs.Size.{widthFor, heightFor, sizesFor, sides};
-ghost use Rattle.units.specs.Views.{sizesIn, rowCountsIn};
+ghost use Rattle.units.specs.Stages.Views.{sizesIn, rowCountsIn};
 use float::small::max;
 use network::options::Options;
 

@@ -7,7 +7,7 @@ ghost use Rattle.order.specs.Median.{medianOf, orElse};
 ghost use Rattle.network.specs.Words.{occupied};
 ghost use Rattle.network.specs.Views.{countsIn, pointsIn};
 ghost use Rattle.units.specs.Unit.{coordinates, spacingOf, typical, unitFor};
-ghost use Rattle.units.specs.Views.{sizesIn};
+ghost use Rattle.units.specs.Stages.Views.{sizesIn};
 use crate::sizes;
 use float::small::max;
 use order::Middle;
@@ -92,8 +92,8 @@ pub(crate) fn typical(
 }
 
 // The unit by a fill, the spacing and the typical side.
-pub(crate) fn unit_for(fill: f64, gap: f64, side: f64) -> f64
-    ensures { λ r. ⌜ r ≡ unitFor fill gap side ⌝ }
+pub(crate) fn unit_for(fill: f64, spacing: f64, side: f64) -> f64
+    ensures { λ r. ⌜ r ≡ unitFor fill spacing side ⌝ }
 {
-    fill * gap / side
+    fill * spacing / side
 }

@@ -12,7 +12,7 @@ use Rattle.network.specs.declared.options.Options.{Options}
 use Rattle.network.specs.Options.{inRange}
 use Rattle.network.specs.Words.{stationCount, occupied}
 use Rattle.network.specs.Refusal.{refuse, shapeRefusal, tooFar}
-use Rattle.placement.specs.Modest.{illSized}
+use Rattle.placement.specs.Sized.{illSized}
 use Rattle.runs.specs.Finite.{allOf, finitePoint, finiteBox, finiteBar}
 use Rattle.drawing.specs.declared.answer.Plot.{Plot}
 use Rattle.drawing.specs.declared.answer.Answer.the-variants.{Drawn}

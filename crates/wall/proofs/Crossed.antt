@@ -135,7 +135,7 @@ module _ (S : Scene) where
 
   -- ---- branches
   abbrev corner : ℕ → ℕ
-  corner s = Route.placeIn s (S .occupied)
+  corner s = Route.vertexOf s (S .occupied)
 
   abbrev pub walked : Line → Walk
   walked l = traced (S .corners) (S .twins) (Route.centreAt S) (corner (l .sa)) (corner (l .sb))

@@ -35,13 +35,13 @@ use Rattle.placement.specs.Place.{Frame, frames, places, boxes, boxOf, boxOn, b
 use Rattle.turns.specs.Turns.{placementOrder}
 use Rattle.bars.specs.declared.Bar.{Bar}
 use Rattle.bars.specs.Bar as Bars
-use Rattle.bars.specs.Bar.{Span, bare, rows, reach, lengthened, barFor, barAt, position, rowEnd, middle}
+use Rattle.bars.specs.Bar.{Span, bare, rows, reach, lengthened, barFor, barAt, position, rowEnd, barMiddle}
 use Rattle.bars.specs.Exit.{exitX, exit}
 use Rattle.runs.specs.Run as Run
 use Rattle.cells.specs.Cells.{cellSize}
 use Rattle.detour.specs.Detour.{detour}
 use Rattle.crossings.specs.Route as Route
-use Rattle.runs.specs.Run.{Scene, slot, between, linePoints, runFor, runOf, allPieces, role}
+use Rattle.runs.specs.Run.{Scene, slot, ledPath, linePoints, runFor, runOf, allPieces, role}
 use Rattle.drawing.specs.Network.{Network}
 use Rattle.crossings.specs.Gap.{gapOf}
 use Rattle.routes.specs.Routes.{crossingsOf}
@@ -73,7 +73,7 @@ pick-bar false a b h k = k
 lengthened-fits : (f : Float) (b : Bar) → FitsBar b → FitsBar (lengthened f b)
 unfolding lengthened
 lengthened-fits f b h =
-    pick-bar (lt (b .y1 ⊖ b .y0) (minBar ⊗ f)) (record { x = b .x; y0 = middle b ⊖ minBar ⊗ f ⊘ f2; y1 = middle b ⊕ minBar ⊗ f ⊘ f2 }) b h h
+    pick-bar (lt (b .y1 ⊖ b .y0) (minBar ⊗ f)) (record { x = b .x; y0 = barMiddle b ⊖ minBar ⊗ f ⊘ f2; y1 = barMiddle b ⊕ minBar ⊗ f ⊘ f2 }) b h h
 
 bars-fit : (sub columns : List ℕ) (spans : List Span) (fs : List Float) (bs : List Box) (i : ℕ) → FitsBar (barAt (Bars.bars sub columns spans fs bs) i)
 unfolding Bars.bars barFor Bars.barX
@@ -106,9 +106,9 @@ module _ (S : Scene) (B : (i : ℕ) → FitsBar (barAt (S .bars) i)) (X : (s : �
   unfolding position
   position-fits i = (B i, div-fits binary64 _ _)
 
-  between-fits : (s t : ℕ) (path : List Point) → Every FitsPoint path → Every FitsPoint (between S s t path)
-  unfolding between
-  between-fits s t path h = go (S .led)
+  ledPath-fits : (s t : ℕ) (path : List Point) → Every FitsPoint path → Every FitsPoint (ledPath S s t path)
+  unfolding ledPath
+  ledPath-fits s t path h = go (S .led)
     where
       go : (u : Bool) → Every FitsPoint (cond u (detour (S .boxes) (S .occupied) (cellSize (S .boxes) (S .occupied)) (S .gap) s t path) path)
       go true = detour-fits (S .boxes) (S .occupied) (cellSize (S .boxes) (S .occupied)) (S .gap) s t path h
@@ -127,8 +127,8 @@ module _ (S : Scene) (B : (i : ℕ) → FitsBar (barAt (S .bars) i)) (X : (s : �
       let e = exit (S .boxes) (S .places) s t (p .y) in
       let f = exit (S .boxes) (S .places) t s (q .y) in (
         slot-fits a ra,
-        every-append FitsPoint (between S s t (e ∷ (via ++ (f ∷ [])))) (q ∷ [])
-            (between-fits s t (e ∷ (via ++ (f ∷ [])))
+        every-append FitsPoint (ledPath S s t (e ∷ (via ++ (f ∷ [])))) (q ∷ [])
+            (ledPath-fits s t (e ∷ (via ++ (f ∷ [])))
             (exit-fits s t (p .y) (slot-fits a ra .1), every-append FitsPoint via (f ∷ []) v (exit-fits t s (q .y) (slot-fits b rb .1), tt)))
             (slot-fits b rb, tt),
       )
@@ -219,8 +219,8 @@ module _ (o : Options) (N : Network) where
   via e = getD (waysOf routed (crossingsOf routed (o .«route_iterations»))) e []
 
   -- a path from station s to station t, led round boxes where there are iterations
-  abbrev pub ledPath : ℕ → ℕ → List Point → List Point
-  ledPath s t path =
+  abbrev pub ledWay : ℕ → ℕ → List Point → List Point
+  ledWay s t path =
       cond (ltb 0 (o .«route_iterations»)) (detour (drawing o N .boxes) stationList (cellSize (drawing o N .boxes) stationList) (gapOf unit) s t path) path
 
   -- the points of branch e's run, and what they are by its kind
@@ -237,7 +237,7 @@ module _ (o : Options) (N : Network) where
       let t = stationOf (N .station) b in
       let u = slotAt a (rowNumber N s e) in
       let w = slotAt b (rowNumber N t e) in
-      points ≡ u ∷ (ledPath s t (exit (drawing o N .boxes) end s t (u .y) ∷ (via e ++ (exit (drawing o N .boxes) end t s (w .y) ∷ []))) ++ (w ∷ []))
+      points ≡ u ∷ (ledWay s t (exit (drawing o N .boxes) end s t (u .y) ∷ (via e ++ (exit (drawing o N .boxes) end t s (w .y) ∷ []))) ++ (w ∷ []))
 
   scene : Scene
   scene = sceneOf o N (planned o N)
@@ -278,7 +278,7 @@ module _ (o : Options) (N : Network) where
 
   by-kind : (e : ℕ) (k : Kind)
       → Ended e (runFor scene (fromRow (N .station) seeds (allKinds N) e k) (toRow (N .station) seeds (allKinds N) e k) (getD (scene .ways) e []) k) k
-  unfolding Ended runFor linePoints between slot fromRow toRow scene sceneOf ledScene drawing planned straightScene
+  unfolding Ended runFor linePoints ledPath slot fromRow toRow scene sceneOf ledScene drawing planned straightScene
   by-kind e Undrawn = refl
   by-kind e (Open a b) = refl
   by-kind e (Internal a b) = refl

@@ -44,7 +44,7 @@ use Rattle.drawing.specs.Drawing.{drawing, planned, straightScene, routedOf, ro
 use Rattle.drawing.specs.Answer.{layoutOf}
 use Rattle.wall.specs.Wall.{kind, allKinds, rowNumber, order, rowEndIn, endIn, exitIn, exitAt, lineOf, boxList, stations, ifUsed, routedIn, crossingPoints, detoured}
 use Rattle.wall.proofs.Crossed.{way-is}
-use Rattle.wall.proofs.Opened.{counts, seeds, unit, scales, fs, os, end, slotAt, stationList, routed, via, via-is, ledPath, kinds-length, kind-at, from-row, to-row}
+use Rattle.wall.proofs.Opened.{counts, seeds, unit, scales, fs, os, end, slotAt, stationList, routed, via, via-is, ledWay, kinds-length, kind-at, from-row, to-row}
 use Rattle.wall.proofs.Parts.{counts-length, seeds-length, unit-of, boxes-length, held-box, scales-length, held-scale, held-end}
 
 places-length : (fs : List Frame) (os : List Offset) (seeds : List Point) (order : List ℕ) (i : ℕ) → length (placesTo fs os seeds order i) ≡ length seeds
@@ -184,7 +184,7 @@ module _ (o : Options) (N : Network) (L : Lists) (W : Work) (X : Crossings) (p :
   corners-are v l = at-corner (table at k) (stations N) v l ∙ ap (λ (ps : List Point). placeAt ps (getD (stations N) v 0)) (sym places-are)
 
   -- ---- the path
-  led-is : (s t : ℕ) (path : List Point) → ledPath o N s t path ≡ detoured o N p exit s t path
+  led-is : (s t : ℕ) (path : List Point) → ledWay o N s t path ≡ detoured o N p exit s t path
   led-is s t path =
       ap (λ (l : List Box). cond (ltb 0 (o .«route_iterations»)) (detour l (stations N) (cellSize l (stations N)) (gapOf (unit o N)) s t path) path) boxes-are
       ∙ ap (λ (u : Float). cond (ltb 0 (o .«route_iterations»)) (detour (boxList N exit) (stations N) (cellSize (boxList N exit) (stations N)) (gapOf u) s t path) path) (sym (unit-of o N L W X p drawn))
@@ -211,12 +211,12 @@ module _ (o : Options) (N : Network) (L : Lists) (W : Work) (X : Crossings) (p :
     abbrev way : List Point
     way = crossingPoints (routedIn o N p exit at) (o .«route_iterations») e s t
 
-    pub line-points : u ∷ (ledPath o N s t (E ∷ (via o N e ++ (F ∷ []))) ++ (w ∷ []))
+    pub line-points : u ∷ (ledWay o N s t (E ∷ (via o N e ++ (F ∷ []))) ++ (w ∷ []))
         ≡ endIn N p exit e a ∷ (detoured o N p exit s t (exitAt N p exit at e a b ∷ (way ++ (exitAt N p exit at e b a ∷ []))) ++ (endIn N p exit e b ∷ []))
     line-points =
-        ap (λ (q : Point). u ∷ (ledPath o N s t (q ∷ (via o N e ++ (F ∷ []))) ++ (w ∷ []))) (exit-of e a b f)
-        ∙ ap (λ (q : Point). u ∷ (ledPath o N s t (exitAt N p exit at e a b ∷ (via o N e ++ (q ∷ []))) ++ (w ∷ []))) (exit-of e b a g)
-        ∙ ap (λ (v : List Point). u ∷ (ledPath o N s t (exitAt N p exit at e a b ∷ (v ++ (exitAt N p exit at e b a ∷ []))) ++ (w ∷ []))) (crossings-are e a b h K)
+        ap (λ (q : Point). u ∷ (ledWay o N s t (q ∷ (via o N e ++ (F ∷ []))) ++ (w ∷ []))) (exit-of e a b f)
+        ∙ ap (λ (q : Point). u ∷ (ledWay o N s t (exitAt N p exit at e a b ∷ (via o N e ++ (q ∷ []))) ++ (w ∷ []))) (exit-of e b a g)
+        ∙ ap (λ (v : List Point). u ∷ (ledWay o N s t (exitAt N p exit at e a b ∷ (v ++ (exitAt N p exit at e b a ∷ []))) ++ (w ∷ []))) (crossings-are e a b h K)
         ∙ ap (λ (v : List Point). u ∷ (v ++ (w ∷ []))) (led-is s t (exitAt N p exit at e a b ∷ (way ++ (exitAt N p exit at e b a ∷ []))))
         ∙ ap (λ (q : Point). q ∷ (detoured o N p exit s t (exitAt N p exit at e a b ∷ (way ++ (exitAt N p exit at e b a ∷ []))) ++ (w ∷ []))) (sym (held-end o N L W X p drawn a (rowNumber N s e) f))
         ∙ ap (λ (q : Point). endIn N p exit e a ∷ (detoured o N p exit s t (exitAt N p exit at e a b ∷ (way ++ (exitAt N p exit at e b a ∷ []))) ++ (q ∷ []))) (sym (held-end o N L W X p drawn b (rowNumber N t e) g))

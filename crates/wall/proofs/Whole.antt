@@ -38,7 +38,7 @@ use Rattle.stations.specs.Row.{hasRow}
 use Rattle.stations.proofs.RowLaw.{rows-below, rows-differ, rows-fill}
 use Rattle.stations.proofs.RowOrder as Kept
 use Rattle.placement.specs.Place.{Frame, frameAt, boxOn, boxOf, boxIn, noBox, foundFree, free, buffered}
-use Rattle.turns.specs.Listed.{Turns}
+use Rattle.turns.specs.Stages.Listed.{Turns}
 use Rattle.turns.proofs.Queue.{order-turns}
 use Rattle.order.proofs.Sorting.{map-agree}
 use Rattle.placement.proofs.Placing.{all-of}

@@ -33,7 +33,7 @@ use Rattle.units.specs.Unit.{coordinates, spacing, typical, unitFor}
 use Rattle.units.specs.Scale.{scales}
 use Rattle.offsets.specs.declared.offset.Offset.{Offset}
 use Rattle.offsets.specs.Offset.{offsets}
-use Rattle.placement.specs.Place.{Frame, boxOn, buffered, free, place}
+use Rattle.placement.specs.Place.{Frame, boxOn, buffered, free, place, tries, FirstOf}
 use Rattle.turns.specs.Turns.{placementOrder}
 use Rattle.cells.specs.Cells.{cellSize}
 use Rattle.detour.specs.Detour.{detour}
@@ -219,16 +219,6 @@ pub record Offsets (search : ℕ) (l : List Offset) : Type 0 where
 abbrev pub searched : Options → List Offset
 searched o = offsets (searchOf (o .search))
 
--- the places of the search, in their order: for widening 1, 2, 4 all offsets
-abbrev pub tries : Point → Size → List Offset → List Point
-tries c z os = map (place c z f1) os ++ (map (place c z f2) os ++ map (place c z f4) os)
-
--- c is the first of the list l that passes the test, or none passes and c is d
-abbrev pub FirstOf : (Point → Bool) → List Point → Point → Point → Type 0
-FirstOf test l d c =
-    ((i : ℕ) × (i < length l) × (getD l i d ≡ c) × (test c ≡ true) × ((j : ℕ) → j < i → test (getD l j d) ≡ false))
-    ⊎ ((c ≡ d) × ((j : ℕ) → j < length l → test (getD l j d) ≡ false))
-
 -- what station s's interior is drawn in: half its sides, 2 × (buses − 1) + 2 and max(rows, 2) + 2 blocks, and its block, unit × scale
 unfoldable pub frameIn : Network → Plot → Lists → ℕ → Frame
 frameIn N p L s =
@@ -378,7 +368,7 @@ routedIn o N p L places =
 
 -- A line from station s to station t crosses the mesh edges that `route_lines` walks over (`walk` specs Trace).
 abbrev pub walkOf : Route.Scene → ℕ → ℕ → Walk
-walkOf R s t = traced (R .corners) (R .twins) (λ v. pointAt (R .centres) v) (Route.placeIn s (R .occupied)) (Route.placeIn t (R .occupied))
+walkOf R s t = traced (R .corners) (R .twins) (λ v. pointAt (R .centres) v) (Route.vertexOf s (R .occupied)) (Route.vertexOf t (R .occupied))
 
 -- the point t of the way from the place of mesh edge h's lower corner to that of its higher corner
 abbrev pub pointOn : Route.Scene → ℕ → Float → Point

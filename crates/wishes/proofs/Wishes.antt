@@ -10,15 +10,15 @@ use borrow.Author.Tests.{lt-ltb, le-ltb}
 use Rattle.geometry.specs.declared.Point.{Point}
 use Rattle.geometry.specs.declared.Param.{Param}
 use Rattle.geometry.specs.Cross.{param, placeOr}
-use Rattle.wishes.specs.Held.{Held, edgeHeld, lowIn, highIn, beforeIn, behindIn, wishIn}
+use Rattle.wishes.specs.Stages.Held.{Held, edgeHeld, lowIn, highIn, beforeIn, behindIn, wishIn}
 
-module _ (H : Held) (ps : List Float) (x e first count : ℕ) (t : Float) (he : e ≡ getD (H .numbers) (3 * x + 1) 0) (hf : first ≡ getD (H .grid .ends) (4 * e + 2) 0)
-    (hc : count ≡ getD (H .grid .ends) (4 * e + 3) 0) (ht : t ≡ getD ps x nan) where
+module _ (H : Held) (ps : List Float) (x e first count : ℕ) (t : Float) (he : e ≡ getD (H .numbers) (3 * x + 1) 0) (hf : first ≡ getD (H .ends) (4 * e + 2) 0)
+    (hc : count ≡ getD (H .ends) (4 * e + 3) 0) (ht : t ≡ getD ps x nan) where
   -- past its path's end it wishes for its place
   pub wish-past : first + count ≤ x → t ≡ wishIn H ps x
   unfolding wishIn
   wish-past h =
-      let f : ltb x (getD (H .grid .ends) (4 * getD (H .numbers) (3 * x + 1) 0 + 2) 0 + getD (H .grid .ends) (4 * getD (H .numbers) (3 * x + 1) 0 + 3) 0) ≡ false = rw (← he, ← hf, ← hc) (le-ltb x (first + count) h) in
+      let f : ltb x (getD (H .ends) (4 * getD (H .numbers) (3 * x + 1) 0 + 2) 0 + getD (H .ends) (4 * getD (H .numbers) (3 * x + 1) 0 + 3) 0) ≡ false = rw (← he, ← hf, ← hc) (le-ltb x (first + count) h) in
       rw (f) ht
 
   pub wish-on : (k c : ℕ) (p q u w : Point) (m : Param) (r : Float) → x < first + count → c ≡ getD (H .numbers) (3 * x) 0 → k ≡ edgeHeld H c
@@ -26,5 +26,5 @@ module _ (H : Held) (ps : List Float) (x e first count : ℕ) (t : Float) (he : 
       → m ≡ param p q u w → r ≡ placeOr m t → r ≡ wishIn H ps x
   unfolding wishIn
   wish-on k c p q u w m r h hk hh hp hq hu hw hm hr =
-      let f : ltb x (getD (H .grid .ends) (4 * getD (H .numbers) (3 * x + 1) 0 + 2) 0 + getD (H .grid .ends) (4 * getD (H .numbers) (3 * x + 1) 0 + 3) 0) ≡ true = rw (← he, ← hf, ← hc) (lt-ltb x (first + count) h) in
+      let f : ltb x (getD (H .ends) (4 * getD (H .numbers) (3 * x + 1) 0 + 2) 0 + getD (H .ends) (4 * getD (H .numbers) (3 * x + 1) 0 + 3) 0) ≡ true = rw (← he, ← hf, ← hc) (lt-ltb x (first + count) h) in
       rw (f) (cc)

@@ -1,5 +1,5 @@
 -- `mesh::edges_ok` meets its contract. Assumes nothing.
-use Rattle.mesh.specs.Mesh.{allTo}
+use Rattle.order.specs.Order.{allTo}
 use Rattle.mesh.proofs.Tests.{edgeOk, all-none, corner-fails, twin-fails, edge-passes, edges-pass}
 use mathlib.Core.Path.{_≡_}
 use mathlib.Core.Bool.{true}

@@ -2,7 +2,7 @@
 use mathlib.Core.Path.{subst}
 use Prim.Native.Nat.{ℕ}
 use native.Mathlib.Omega.{arith}
-use Rattle.neighbours.specs.Sweep.{Swept}
+use Rattle.neighbours.specs.Stages.Sweep.{Swept}
 use borrow.Author.Needs.{needs}
 use Rattle.neighbours.proofs.nearest_neighbour_distances.Statement.{statement}
 use Rattle.neighbours.proofs.nearest_neighbour_distances.Tie as tie

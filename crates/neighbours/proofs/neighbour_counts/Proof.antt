@@ -4,7 +4,7 @@ use Rattle.proximity.specs.Near.{neighbours}
 use mathlib.Core.Path.{subst}
 use Prim.Native.Nat.{ℕ}
 use native.Mathlib.Omega.{arith}
-use Rattle.neighbours.specs.Sweep.{Swept}
+use Rattle.neighbours.specs.Stages.Sweep.{Swept}
 use Rattle.neighbours.proofs.Numbers.{front-of}
 use borrow.Author.Needs.{needs}
 use Rattle.neighbours.proofs.neighbour_counts.Statement.{statement}

@@ -5,7 +5,7 @@ use native.Mathlib.Omega.{arith}
 use native.Mathlib.Nat.{zero-add}
 use lib.ListN.{take, drop}
 use Rattle.network.specs.Views.{boxesIn}
-use Rattle.overlaps.specs.Sweep.{pairs}
+use Rattle.overlaps.specs.Stages.Sweep.{pairs}
 use Rattle.overlaps.proofs.Sweeps.{pairs-next, pairs-last}
 use borrow.Author.Needs.{needs}
 use Rattle.overlaps.proofs.count_pairs.Statement.{statement}

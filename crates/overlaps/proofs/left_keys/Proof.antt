@@ -8,7 +8,7 @@ use Rattle.float.specs.Ops.{orderKey}
 use Rattle.float.proofs.Keys.{finite-no-nan}
 use Rattle.order.specs.Table.{table}
 use Rattle.neighbours.proofs.Fills.{fill-none, fill-more}
-use Rattle.overlaps.specs.Sweep.{leftAt}
+use Rattle.overlaps.specs.Stages.Sweep.{leftAt}
 use borrow.Author.Needs.{needs}
 use Rattle.overlaps.proofs.left_keys.Statement.{statement}
 use Rattle.overlaps.proofs.left_keys.Tie as tie

@@ -1,7 +1,7 @@
 -- `pieces::survey` meets its contract. Assumes nothing.
 use mathlib.Core.Path.{refl}
 use native.Mathlib.Omega.{arith}
-use Rattle.runs.specs.Views.{held, lead}
+use Rattle.runs.specs.Stages.Views.{held, lead}
 use Rattle.pieces.proofs.Passes.{unwritten, others-below, lines-below, survey-count, survey-finite, survey-few}
 use borrow.Author.Needs.{needs}
 use Rattle.pieces.proofs.survey.Statement.{statement}

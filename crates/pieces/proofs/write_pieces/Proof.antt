@@ -1,7 +1,7 @@
 -- `pieces::write_pieces` meets its contract. Assumes nothing.
 use mathlib.Core.Path.{refl}
 use native.Mathlib.Omega.{arith}
-use Rattle.runs.specs.Views.{held, lead}
+use Rattle.runs.specs.Stages.Views.{held, lead}
 use Rattle.pieces.proofs.Passes.{kept, others-room-at, lines-room-at, both-written, whole-four, whole-one}
 use borrow.Author.Needs.{needs}
 use Rattle.pieces.proofs.write_pieces.Statement.{statement}

@@ -9,7 +9,7 @@ use Rattle.float.specs.Hypot.{hypotOf}
 use Rattle.cells.specs.declared.walk.Best.the-variants.{Nothing}
 use Rattle.cells.specs.Cells as Cells
 use Rattle.cells.specs.Index.{lookIn}
-use Rattle.cells.specs.Parts.{ray, spot}
+use Rattle.cells.specs.Stages.Parts.{ray, spot}
 use Rattle.cells.proofs.Numbers.{Near, near-start, near-sum, near-on, near-less, near-back}
 use Rattle.cells.proofs.Walking.{Left, walk-end, settled-at, ended-at, on-x, on-y, as-read}
 use borrow.Author.Needs.{needs}

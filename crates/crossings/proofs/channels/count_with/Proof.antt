@@ -1,7 +1,7 @@
 -- `crossings::channels::count_with` meets its contract. Assumes nothing.
 use native.Mathlib.Omega.{arith}
 use borrow.Author.Tests.{eq-eqb, ne-eqb}
-use Rattle.crossings.specs.Store.{countWith}
+use Rattle.crossings.specs.Stages.Store.{countWith}
 use borrow.Author.Needs.{needs}
 use Rattle.crossings.proofs.channels.count_with.Statement.{statement}
 use Rattle.crossings.proofs.channels.count_with.Tie as tie

@@ -1,5 +1,5 @@
 -- `crossings::crossings::place_on` meets its contract. Assumes nothing.
-use Rattle.crossings.specs.Store.{placeOn}
+use Rattle.crossings.specs.Stages.Store.{placeOn}
 use borrow.Author.Needs.{needs}
 use Rattle.crossings.proofs.crossings.place_on.Statement.{statement}
 use Rattle.crossings.proofs.crossings.place_on.Tie as tie

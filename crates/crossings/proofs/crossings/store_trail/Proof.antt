@@ -4,7 +4,7 @@ use mathlib.Core.Path.{_≡_, refl, _∙_}
 use Prim.Native.Nat.{_+_, _-_, _≤_}
 use lib.ListN.{length, take}
 use Rattle.crossings.specs.Route.{crossAll}
-use Rattle.crossings.specs.Store.{stock, Grown}
+use Rattle.crossings.specs.Stages.Store.{stock, Grown}
 use Rattle.crossings.proofs.Growing.{trail-start, trail-more, trail-end}
 use borrow.Author.Needs.{needs}
 use Rattle.crossings.proofs.crossings.store_trail.Statement.{statement}

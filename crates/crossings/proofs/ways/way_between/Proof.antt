@@ -1,5 +1,5 @@
 -- `crossings::ways::way_between` meets its contract. Assumes nothing.
-use Rattle.crossings.specs.Store.{wayFor}
+use Rattle.crossings.specs.Stages.Store.{wayFor}
 use native.Mathlib.Numerals.{add-one}
 use borrow.Author.Needs.{needs}
 use Rattle.crossings.proofs.ways.way_between.Statement.{statement}

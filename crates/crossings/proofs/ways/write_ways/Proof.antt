@@ -5,7 +5,7 @@ use mathlib.Core.Path.{_≡_, refl, _∙_}
 use Prim.Native.Nat.{_-_, _≤_}
 use lib.ListN.{length}
 use Rattle.network.specs.Views.{orderIn}
-use Rattle.crossings.specs.Store.{wayOf, Wayed}
+use Rattle.crossings.specs.Stages.Store.{wayOf, Wayed}
 use Rattle.crossings.proofs.Written.{ways-start, ways-more, ways-end, length-pair}
 use borrow.Author.Needs.{needs}
 use Rattle.crossings.proofs.ways.write_ways.Statement.{statement}

@@ -6,7 +6,7 @@ use lib.ListN.{length, take}
 use Rattle.network.specs.Words.{occupied}
 use Rattle.network.specs.Views.{countsIn, boxesIn}
 use Rattle.detour.specs.Detour as Detour
-use Rattle.detour.specs.Paths.{pathIn}
+use Rattle.detour.specs.Stages.Paths.{pathIn}
 use Rattle.detour.proofs.Detours.{Going, led-start, turn-free, turn-put, led-spent, led-end}
 use Rattle.detour.proofs.Shifting.{start-kept}
 use borrow.Author.Needs.{needs}

@@ -3,7 +3,7 @@ use Prim.Native.Nat.{_*_, _≤_, _-_}
 use mathlib.Core.Path.{refl, _≡_}
 use native.Mathlib.Omega.{arith}
 use lib.ListN.{length, length-set}
-use Rattle.detour.specs.Paths.{Shifted}
+use Rattle.detour.specs.Stages.Paths.{Shifted}
 use Rattle.detour.proofs.Shifting.{shift-start, shift-more, shift-end}
 use borrow.Author.Needs.{needs}
 use Rattle.detour.proofs.path.shift.Statement.{statement}

@@ -65,6 +65,12 @@ returns-6 c = rw (le-ltb _ _ (c .before .before .before .before .before .before 
 mul-if7 : tie.Need-mul-if7
 mul-if7 c = omega (arith, c .before .before .before .before .before .before .before .before .before .before .before .before .pre .0, c .before .before .before .before .before .before .before .before .before .before .before .before .pre .1, c .before .before .before .before .before .before .before .before .before .before .before .before .pre .2)
 
+mul-if7-2 : tie.Need-mul-if7-2
+mul-if7-2 c = omega (arith, c .before .before .before .before .before .before .before .before .before .before .before .before .pre .0, c .before .before .before .before .before .before .before .before .before .before .before .before .pre .1, c .before .before .before .before .before .before .before .before .before .before .before .before .pre .2)
+
+add-if7 : tie.Need-add-if7
+add-if7 c = omega (arith, c .before .before .before .before .before .before .before .before .before .before .before .before .pre .0, c .before .before .before .before .before .before .before .before .before .before .before .before .pre .1, c .before .before .before .before .before .before .before .before .before .before .before .before .pre .2)
+
 returns-7 : tie.Need-returns-7
 unfolding shortWork
 returns-7 c = rw (le-ltb _ _ (c .before .before .before .before .before .before .before .before .before .before .before .before .if1 .left), le-ltb _ _ (c .before .before .before .before .before .before .before .before .before .before .if2 .left), le-ltb _ _ (c .before .before .before .before .before .before .before .before .if3 .left), le-ltb _ _ (c .before .before .before .before .before .before .if4 .left), le-ltb _ _ (c .before .before .before .before .if5 .left), le-ltb _ _ (c .before .before .if6 .left), lt-ltb _ _ (c .if7 .taken))
@@ -127,6 +133,8 @@ short-work-spec =
     returns-5
     returns-6
     mul-if7
+    mul-if7-2
+    add-if7
     returns-7
     mul-if8
     returns-8

@@ -2,7 +2,7 @@
 use mathlib.Core.Path.{sym, ap, _∙_}
 use borrow.Author.Needs.{needs}
 use Rattle.fields.specs.Field.{minus, plus}
-use Rattle.fields.specs.Places.{signedOf}
+use Rattle.fields.specs.Stages.Places.{signedOf}
 use Rattle.fields.proofs.Fields.{bus-number-end, bus-number-minus, bus-number-plus}
 use Rattle.fields.proofs.Bounds.{positive-between, whole-between, minus-field, plus-field}
 use Rattle.fields.proofs.field.bus_number.Statement.{statement}

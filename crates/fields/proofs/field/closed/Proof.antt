@@ -1,6 +1,6 @@
 -- `fields::field::closed` meets its contract. Assumes nothing.
 use borrow.Author.Needs.{needs}
-use Rattle.fields.specs.Places.{fieldOf}
+use Rattle.fields.specs.Stages.Places.{fieldOf}
 use Rattle.fields.proofs.Fields.{closed-here, closed-not, closed-end}
 use Rattle.fields.proofs.field.closed.Statement.{statement}
 use Rattle.fields.proofs.field.closed.Tie as tie

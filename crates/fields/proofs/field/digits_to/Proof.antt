@@ -5,7 +5,7 @@ use native.Mathlib.Omega.{arith}
 use lib.ListN.{length, drop}
 use borrow.Author.Needs.{needs}
 use Rattle.fields.specs.Field.{digitsTo, limited}
-use Rattle.fields.specs.Places.{fieldOf}
+use Rattle.fields.specs.Stages.Places.{fieldOf}
 use Rattle.fields.proofs.Fields.{digits-end, digits-stop, digits-other, digits-more, digits-over}
 use Rattle.fields.proofs.field.digits_to.Statement.{statement}
 use Rattle.fields.proofs.field.digits_to.Tie as tie

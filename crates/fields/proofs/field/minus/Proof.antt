@@ -3,7 +3,7 @@ use mathlib.Core.Path.{subst}
 use Prim.Native.Nat.{_^_}
 use borrow.Author.Needs.{needs}
 use Rattle.fields.specs.declared.field.Field.the-variants.{Value}
-use Rattle.fields.specs.Places.{Between, minusOf}
+use Rattle.fields.specs.Stages.Places.{Between, minusOf}
 use Rattle.fields.proofs.Signs.{less-fits, minus-fits, minus-number}
 use Rattle.fields.proofs.field.minus.Statement.{statement}
 use Rattle.fields.proofs.field.minus.Tie as tie

@@ -6,7 +6,7 @@ use lib.Dec.{lit<}
 use lib.ListN.{drop}
 use borrow.Author.Needs.{needs}
 use Rattle.fields.specs.Field.{hexadecimal, pattern}
-use Rattle.fields.specs.Places.{fieldOf}
+use Rattle.fields.specs.Stages.Places.{fieldOf}
 use Rattle.fields.proofs.Fields.{hex-end, hex-other, hex-more, hex-done, hex-grows, hex-room}
 use Rattle.fields.proofs.field.pattern.Statement.{statement}
 use Rattle.fields.proofs.field.pattern.Tie as tie

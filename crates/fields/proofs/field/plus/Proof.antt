@@ -5,7 +5,7 @@ use native.Mathlib.Omega.{arith}
 use borrow.Author.Needs.{needs}
 use Rattle.fields.specs.declared.field.Field.the-variants.{Value}
 use Rattle.fields.proofs.Signs.{plus-number}
-use Rattle.fields.specs.Places.{Between, plusOf}
+use Rattle.fields.specs.Stages.Places.{Between, plusOf}
 use Rattle.fields.proofs.field.plus.Statement.{statement}
 use Rattle.fields.proofs.field.plus.Tie as tie
 

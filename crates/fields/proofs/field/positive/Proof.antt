@@ -1,7 +1,7 @@
 -- `fields::field::positive` meets its contract. Assumes nothing.
 use mathlib.Core.Path.{_∙_}
 use borrow.Author.Needs.{needs}
-use Rattle.fields.specs.Places.{fieldOf}
+use Rattle.fields.specs.Stages.Places.{fieldOf}
 use Rattle.fields.proofs.Fields.{positive-end, positive-zero, positive-other, positive-first}
 use Rattle.fields.proofs.field.positive.Statement.{statement}
 use Rattle.fields.proofs.field.positive.Tie as tie

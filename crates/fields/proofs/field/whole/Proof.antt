@@ -1,7 +1,7 @@
 -- `fields::field::whole` meets its contract. Assumes nothing.
 use mathlib.Core.Path.{_∙_}
 use borrow.Author.Needs.{needs}
-use Rattle.fields.specs.Places.{fieldOf}
+use Rattle.fields.specs.Stages.Places.{fieldOf}
 use Rattle.fields.proofs.Fields.{whole-end, whole-zero, whole-positive}
 use Rattle.fields.proofs.field.whole.Statement.{statement}
 use Rattle.fields.proofs.field.whole.Tie as tie

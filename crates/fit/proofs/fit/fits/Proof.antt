@@ -48,11 +48,11 @@ all-moderate-requires-2 c κs = search needs
 returns-7 : tie.Need-returns-7
 returns-7 c = by-numbers _ _ _ _ _ _ _ _ (c .before .before .before .before .before .before .before .before .before .before .before .before .station-count .ensures .0) (c .before .before .before .before .before .before .before .before .before .before .before .if1 .left) (c .before .before .before .before .before .before .before .before .before .before .if2 .left) _ (c .before .before .before .before .before .before .before .before .before .fours .ensures) (not-false _ (c .before .before .before .before .before .before .before .before .if3 .left)) _ (c .before .before .before .before .before .before .before .all-named .ensures) (not-false _ (c .before .before .before .before .before .before .if4 .left)) _ (c .before .before .before .before .before .all-join .ensures) (not-false _ (c .before .before .before .before .if5 .left)) _ (c .before .before .before .all-moderate .ensures) (not-false _ (c .before .before .if6 .left)) _ (c .before .all-moderate2 .ensures) (not-true _ (c .if7 .taken))
 
-all-upright-requires : tie.Need-all-upright-requires
-all-upright-requires c κs = omega (arith, c .before .before .before .before .before .before .before .before .before .before .before .if1 .left)
+all-ordered-requires : tie.Need-all-ordered-requires
+all-ordered-requires c κs = omega (arith, c .before .before .before .before .before .before .before .before .before .before .before .if1 .left)
 
 returns-8 : tie.Need-returns-8
-returns-8 c = by-sides _ _ _ _ _ _ _ _ (c .before .before .before .before .before .before .before .before .before .before .before .before .before .station-count .ensures .0) (c .before .before .before .before .before .before .before .before .before .before .before .before .if1 .left) (c .before .before .before .before .before .before .before .before .before .before .before .if2 .left) _ (c .before .before .before .before .before .before .before .before .before .before .fours .ensures) (not-false _ (c .before .before .before .before .before .before .before .before .before .if3 .left)) _ (c .before .before .before .before .before .before .before .before .all-named .ensures) (not-false _ (c .before .before .before .before .before .before .before .if4 .left)) _ (c .before .before .before .before .before .before .all-join .ensures) (not-false _ (c .before .before .before .before .before .if5 .left)) _ (c .before .before .before .before .all-moderate .ensures) (not-false _ (c .before .before .before .if6 .left)) _ (c .before .before .all-moderate2 .ensures) (not-false _ (c .before .if7 .left)) _ (c .all-upright .ensures)
+returns-8 c = by-sides _ _ _ _ _ _ _ _ (c .before .before .before .before .before .before .before .before .before .before .before .before .before .station-count .ensures .0) (c .before .before .before .before .before .before .before .before .before .before .before .before .if1 .left) (c .before .before .before .before .before .before .before .before .before .before .before .if2 .left) _ (c .before .before .before .before .before .before .before .before .before .before .fours .ensures) (not-false _ (c .before .before .before .before .before .before .before .before .before .if3 .left)) _ (c .before .before .before .before .before .before .before .before .all-named .ensures) (not-false _ (c .before .before .before .before .before .before .before .if4 .left)) _ (c .before .before .before .before .before .before .all-join .ensures) (not-false _ (c .before .before .before .before .before .if5 .left)) _ (c .before .before .before .before .all-moderate .ensures) (not-false _ (c .before .before .before .if6 .left)) _ (c .before .before .all-moderate2 .ensures) (not-false _ (c .before .if7 .left)) _ (c .all-ordered .ensures)
 
 pub fits-spec : {M : Type 1} → statement M
 fits-spec =
@@ -72,5 +72,5 @@ fits-spec =
     returns-6
     all-moderate-requires-2
     returns-7
-    all-upright-requires
+    all-ordered-requires
     returns-8)

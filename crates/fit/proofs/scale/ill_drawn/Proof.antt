@@ -16,11 +16,11 @@ any-occupied-requires c κs = search needs
 largest-requires : tie.Need-largest-requires
 largest-requires c κs = search needs
 
-modest-ends-requires : tie.Need-modest-ends-requires
-modest-ends-requires c κs = search needs
+sized-ends-requires : tie.Need-sized-ends-requires
+sized-ends-requires c κs = search needs
 
 returns-2 : tie.Need-returns-2
-returns-2 c = ill-ends _ _ _ _ (c .before .before .before .before .before .ill-sized .ensures) (c .before .before .before .before .if1 .left) _ (c .before .before .before .any-occupied .ensures) (c .before .before .if2 .taken) _ _ (c .before .largest .ensures) (c .modest-ends .ensures)
+returns-2 c = ill-ends _ _ _ _ (c .before .before .before .before .before .ill-sized .ensures) (c .before .before .before .before .if1 .left) _ (c .before .before .before .any-occupied .ensures) (c .before .before .if2 .taken) _ _ (c .before .largest .ensures) (c .sized-ends .ensures)
 
 returns-3 : tie.Need-returns-3
 returns-3 c = ill-skipped _ _ _ _ (c .before .before .before .ill-sized .ensures) (c .before .before .if1 .left) _ (c .before .any-occupied .ensures) (c .if2 .left)
@@ -33,6 +33,6 @@ ill-drawn-spec =
     returns
     any-occupied-requires
     largest-requires
-    modest-ends-requires
+    sized-ends-requires
     returns-2
     returns-3)

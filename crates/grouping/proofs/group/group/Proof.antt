@@ -4,7 +4,7 @@ use Prim.Native.Nat.{ℕ}
 use native.Mathlib.Omega.{arith}
 use lib.ListN.{length, take}
 use lib.Seq.{length-take-le}
-use Rattle.grouping.specs.Grouped.{Grouped}
+use Rattle.grouping.specs.Stages.Grouped.{Grouped}
 use borrow.Author.Needs.{needs}
 use Rattle.grouping.proofs.group.group.Statement.{statement}
 use Rattle.grouping.proofs.group.group.Tie as tie

@@ -3,7 +3,7 @@ use mathlib.Core.Path.{_∙_}
 use Prim.Native.Nat.{_^_, _-_}
 use native.Mathlib.Omega.{arith}
 use Rattle.listing.specs.Line.{branchLine}
-use Rattle.fields.specs.Places.{fieldOf, signedOf}
+use Rattle.fields.specs.Stages.Places.{fieldOf, signedOf}
 use Rattle.listing.specs.LinePlaces.{branchOf}
 use Rattle.fields.proofs.Bounds.{whole-most}
 use Rattle.listing.proofs.Exact.{branch-exact}

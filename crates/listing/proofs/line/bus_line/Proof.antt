@@ -4,7 +4,7 @@ use Prim.Native.Nat.{_^_, _-_}
 use native.Mathlib.Omega.{arith}
 use borrow.Author.Needs.{needs}
 use Rattle.listing.specs.Line.{busLine}
-use Rattle.fields.specs.Places.{fieldOf}
+use Rattle.fields.specs.Stages.Places.{fieldOf}
 use Rattle.listing.specs.LinePlaces.{busOf}
 use Rattle.fields.proofs.Bounds.{whole-most}
 use Rattle.listing.proofs.Lines.{known, then-got, then-wrong}

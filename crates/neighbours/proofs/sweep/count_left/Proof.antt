@@ -6,7 +6,7 @@ use native.Mathlib.Omega.{arith}
 use lib.ListN.{getD}
 use Rattle.order.specs.Table.{howMany}
 use Rattle.order.proofs.Tables.{howMany-zero}
-use Rattle.neighbours.specs.Sweep.{inReach}
+use Rattle.neighbours.specs.Stages.Sweep.{inReach}
 use Rattle.neighbours.proofs.Places.{place-below}
 use Rattle.neighbours.proofs.Sweeps.{many-left, none-left, all-left, many-stop-left}
 use borrow.Author.Needs.{needs}

@@ -5,7 +5,7 @@ use Prim.Native.Nat.{_+_, _≤_, _<_, _-_}
 use native.Mathlib.Omega.{arith}
 use lib.ListN.{getD}
 use Rattle.order.specs.Table.{howMany}
-use Rattle.neighbours.specs.Sweep.{inReach}
+use Rattle.neighbours.specs.Stages.Sweep.{inReach}
 use Rattle.neighbours.proofs.Places.{place-below}
 use Rattle.neighbours.proofs.Sweeps.{many-right, none-right, many-stop-right}
 use borrow.Author.Needs.{needs}

@@ -4,7 +4,7 @@ use Prim.Native.Nat.{_≤_, _-_}
 use native.Mathlib.Omega.{arith}
 use lib.ListN.{length, length-set}
 use Rattle.float.proofs.Keys.{finite-no-nan}
-use Rattle.neighbours.specs.Sweep.{Numbered}
+use Rattle.neighbours.specs.Stages.Sweep.{Numbered}
 use Rattle.neighbours.proofs.Numbers.{numbered-none, numbered-more}
 use borrow.Author.Needs.{needs}
 use Rattle.neighbours.proofs.sweep.keys_by_x.Statement.{statement}

@@ -3,7 +3,7 @@ use mathlib.Core.Path.{_≡_, subst}
 use Prim.Native.Nat.{ℕ, _≤_, _<_, _-_}
 use native.Mathlib.Omega.{arith}
 use lib.ListN.{getD}
-use Rattle.neighbours.specs.Sweep.{Others, Least, away}
+use Rattle.neighbours.specs.Stages.Sweep.{Others, Least, away}
 use Rattle.neighbours.proofs.Places.{place-below}
 use Rattle.neighbours.proofs.Sweeps.{least-left, least-stop-left}
 use borrow.Author.Needs.{needs}

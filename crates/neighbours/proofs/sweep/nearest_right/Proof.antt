@@ -4,7 +4,7 @@ use Prim.Native.Nat.{ℕ, _≤_, _<_, _-_}
 use native.Mathlib.Omega.{arith}
 use lib.ListN.{getD}
 use Rattle.float.proofs.Signs.{inf-bits, inf-no-nan}
-use Rattle.neighbours.specs.Sweep.{Others, Least, away}
+use Rattle.neighbours.specs.Stages.Sweep.{Others, Least, away}
 use Rattle.neighbours.proofs.Places.{place-below}
 use Rattle.neighbours.proofs.Sweeps.{least-start, least-right, least-stop-right}
 use borrow.Author.Needs.{needs}

@@ -3,7 +3,7 @@ use Prim.Native.Nat.{_/_, _%_}
 use mathlib.Core.Path.{ap, _∙_}
 use native.Mathlib.Omega.{arith}
 use Rattle.order.specs.Order.{keyAt}
-use Rattle.offsets.specs.OffsetList.{offsetAt}
+use Rattle.offsets.specs.Stages.OffsetList.{offsetAt}
 use Rattle.offsets.proofs.Grids.{less-fits, offset-made}
 use borrow.Author.Needs.{needs}
 use Rattle.offsets.proofs.offset.offset_at.Statement.{statement}

@@ -1,5 +1,5 @@
 -- `pieces::lines::lead_block` meets its contract. Assumes nothing.
-use Rattle.runs.specs.Views.{held, lead}
+use Rattle.runs.specs.Stages.Views.{held, lead}
 use Rattle.pieces.proofs.Adding.{passed-of}
 use Rattle.pieces.proofs.Passes.{block-asks, block-pieces, block-finite, block-room}
 use borrow.Author.Needs.{needs}

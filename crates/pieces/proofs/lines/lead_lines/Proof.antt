@@ -2,7 +2,7 @@
 use Prim.Native.Nat.{_-_}
 use native.Mathlib.Omega.{arith}
 use lib.ListN.{length}
-use Rattle.runs.specs.Views.{held, lead}
+use Rattle.runs.specs.Stages.Views.{held, lead}
 use Rattle.pieces.proofs.Passes.{Blocks, blocks-none, blocks-room, blocks-more, blocks-end}
 use Rattle.pieces.proofs.lines.lead_lines.Statement.{statement}
 use Rattle.pieces.proofs.lines.lead_lines.Tie as tie

@@ -48,10 +48,10 @@ use denote.Triple.Table.{entered, cited}
 use denote.Triple.Walked.{says, needs, Stays, stay-dropped, gave-slice, walkOf, goes-dropped, goes-gave-slice, Walks, ends-at, walked, walk-meets}
 use denote.Exit.{yes}
 use denote.Triple.Clauses.{ensured, lasts}
-use Rattle.runs.specs.Views.{lead, Stands}
+use Rattle.runs.specs.Stages.Views.{lead, Stands}
 use Rattle.pieces.specs.declared.Totals.{Totals}
 use Rattle.requests.specs.declared.request.LineRequest.{LineRequest}
-use Rattle.pieces.specs.Passes.{listPieces, listFinite, AskAll, RoomFor, Passed}
+use Rattle.pieces.specs.Stages.Passes.{listPieces, listFinite, AskAll, RoomFor, Passed}
 use Rattle.pieces.proofs.ArrayLent.{lent, room-back}
 use Rattle.pieces.proofs.Totals as S
 use Rattle.pieces.proofs.Totals.Laws as S′

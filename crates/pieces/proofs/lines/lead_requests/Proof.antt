@@ -53,11 +53,11 @@ use denote.Triple.Walked.{says, needs, Stays, stay-dropped, stay-slice, walkOf, 
 use denote.Exit.{yes}
 use denote.Triple.Clauses.{ensured, lasts}
 use Rattle.runs.specs.Finite.{allOf, finitePoint}
-use Rattle.runs.specs.Views.{Lead, lead, Stands}
+use Rattle.runs.specs.Stages.Views.{Lead, lead, Stands}
 use Rattle.pieces.specs.declared.Totals.{Totals}
 use Rattle.requests.specs.declared.request.LineRequest.{LineRequest}
-use Rattle.requests.specs.Requests.{nothingAt}
-use Rattle.pieces.specs.Passes.{requestRun, requestPieces, listPieces, listFinite, Asks, AskAll, RoomFor, Passed}
+use Rattle.requests.specs.Stages.Requests.{nothingAt}
+use Rattle.pieces.specs.Stages.Passes.{requestRun, requestPieces, listPieces, listFinite, Asks, AskAll, RoomFor, Passed}
 use Rattle.pieces.proofs.Again.{LentAgain, lends-again, comes-back}
 use Rattle.pieces.proofs.Leading.{Along, along-none, along-asks, along-room, along-more, along-end}
 use Rattle.pieces.proofs.Totals as S

@@ -2,7 +2,7 @@
 use Prim.Native.Nat.{_≤_, _-_}
 use native.Mathlib.Omega.{arith}
 use Rattle.network.specs.Views.{boxesIn}
-use Rattle.placement.specs.Views.{frame}
+use Rattle.placement.specs.Stages.Views.{frame}
 use Rattle.placement.proofs.Searching.{First, first-start, first-hit, first-miss, first-end}
 use borrow.Author.Needs.{needs}
 use Rattle.placement.proofs.search.first_free.Statement.{statement}

@@ -5,8 +5,8 @@ use native.Mathlib.Omega.{arith}
 use lib.ListN.{length, getD}
 use Rattle.order.proofs.Strides.{getD-strided, length-strided}
 use Rattle.network.specs.Views.{orderIn, pointsIn}
-use Rattle.placement.specs.Views.{framesIn}
-use Rattle.offsets.specs.OffsetList.{offsetsIn}
+use Rattle.placement.specs.Stages.Views.{framesIn}
+use Rattle.offsets.specs.Stages.OffsetList.{offsetsIn}
 use Rattle.placement.proofs.Placing.{Placed, placed-none, placed-more, placed-end, turn-below}
 use borrow.Author.Needs.{needs}
 use Rattle.placement.proofs.search.place_all.Statement.{statement}

@@ -1,7 +1,7 @@
 -- `placement::search::place_station` meets its contract. Assumes nothing.
 use mathlib.Core.Path.{refl, ap, _∙_}
 use Rattle.placement.specs.Place.{frameFor}
-use Rattle.placement.specs.Views.{putBox}
+use Rattle.placement.specs.Stages.Views.{putBox}
 use borrow.Author.Needs.{needs}
 use Rattle.placement.proofs.search.place_station.Statement.{statement}
 use Rattle.placement.proofs.search.place_station.Tie as tie

@@ -1,6 +1,6 @@
 -- `requests::request::nothing_at` meets its contract. Assumes nothing.
 use mathlib.Core.Path.{refl}
-use Rattle.requests.specs.Requests.{nothingAt}
+use Rattle.requests.specs.Stages.Requests.{nothingAt}
 use Rattle.requests.proofs.request.nothing_at.Statement.{statement}
 use Rattle.requests.proofs.request.nothing_at.Tie as tie
 use Rattle.requests.proofs.request.nothing_at.Reads as reads

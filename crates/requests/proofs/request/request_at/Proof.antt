@@ -38,7 +38,7 @@ use denote.Triple.Table.{entered}
 use denote.Triple.Walked.{says, needs, Stays, stay-none-slice, stay-none, walkOf, goes-none-slice, goes-none, Walks, ends-at, walked, walk-meets}
 use denote.Exit.{yes}
 use Rattle.requests.specs.declared.request.LineRequest.{LineRequest}
-use Rattle.requests.specs.Requests.{nothingAt}
+use Rattle.requests.specs.Stages.Requests.{nothingAt}
 use Rattle.requests.proofs.request.LineRequest as T
 use Rattle.requests.proofs.request.LineRequest.Laws as T′
 use Rattle.requests.proofs.request.request_at.Key.{name as #request-at}

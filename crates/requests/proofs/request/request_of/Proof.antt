@@ -52,7 +52,7 @@ enum-known-a : tie.Need-enum-known-a
 enum-known-a c = search needs
 
 line-request-requires : tie.Need-line-request-requires
-line-request-requires c κs = subst Small (c .before .a .given .1) (small _ _ (c .before .before .before .before .before .before .before .before .before .before .before .before .before .pre .1) (c .before .before .before .kind-of .ensures .1))
+line-request-requires c κs = let s = subst Small (c .before .a .given .1) (small _ _ (c .before .before .before .before .before .before .before .before .before .before .before .before .before .pre .1) (c .before .before .before .kind-of .ensures .1)) in (c .before .before .before .before .before .before .before .before .before .before .before .before .before .pre .0, c .before .before .before .before .before .before .before .before .before .before .before .before .before .pre .1, s .0, s .1)
 
 returns : tie.Need-returns
 returns c = undrawn-request _ _ _ _ (c .nothing-at .ensures) (sym (c .before .before .before .kind-of .ensures .0) ∙ c .before .enum-told .given .1)

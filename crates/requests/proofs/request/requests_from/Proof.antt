@@ -5,7 +5,7 @@ use borrow.Author.Needs.{needs}
 use Prim.Native.Nat.{_≤_, _-_}
 use mathlib.Core.Path.{_≡_, refl}
 use native.Mathlib.Omega.{arith}
-use Rattle.requests.specs.Requests.{lists, FilledTo}
+use Rattle.requests.specs.Stages.Requests.{lists, FilledTo}
 use Rattle.requests.proofs.request.requests_from.Statement.{statement}
 use Rattle.requests.proofs.request.requests_from.Tie as tie
 use Rattle.requests.proofs.request.requests_from.Reads as reads

@@ -3,7 +3,7 @@ use Prim.Native.Nat.{_-_, _≤_}
 use native.Mathlib.Omega.{arith}
 use lib.ListN.{length}
 use Rattle.runs.specs.Finite.{finiteBar}
-use Rattle.results.specs.Bars.{barsIn}
+use Rattle.results.specs.Stages.Bars.{barsIn}
 use Rattle.results.proofs.Turns.{busBar, bar-here}
 use Rattle.results.proofs.Bounding.{Left, all-start, all-yes, all-fails, all-end}
 use borrow.Author.Needs.{needs}

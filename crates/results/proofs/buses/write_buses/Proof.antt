@@ -6,7 +6,7 @@ use lib.ListN.{length}
 use Rattle.order.specs.Table.{table}
 use Rattle.bars.specs.Bar.{position}
 use Rattle.runs.specs.Lists.{flat, pointNumbers, barNumbers}
-use Rattle.results.specs.Bars.{barsIn}
+use Rattle.results.specs.Stages.Bars.{barsIn}
 use Rattle.results.proofs.Writes.{after-refusal, after-none}
 use Rattle.results.proofs.Turns.{busBar, Drawn, drawn-none, drawn-more}
 use borrow.Author.Needs.{needs}

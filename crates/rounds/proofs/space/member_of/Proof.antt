@@ -1,5 +1,5 @@
 -- `rounds::space::member_of` meets its contract. Assumes nothing.
-use Rattle.grouping.specs.Grouped.{memberIn}
+use Rattle.grouping.specs.Stages.Grouped.{memberIn}
 use native.Mathlib.Omega.{arith}
 use borrow.Author.Needs.{needs}
 use Rattle.rounds.proofs.space.member_of.Statement.{statement}

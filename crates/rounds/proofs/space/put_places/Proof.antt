@@ -2,7 +2,7 @@
 use Prim.Native.Nat.{_+_, _-_}
 use mathlib.Core.Path.{refl}
 use native.Mathlib.Omega.{arith}
-use Rattle.grouping.specs.Grouped.{memberIn}
+use Rattle.grouping.specs.Stages.Grouped.{memberIn}
 use Rattle.rounds.proofs.Putting.{Putting, put-start, put-step, put-none, put-end}
 use borrow.Author.Needs.{needs}
 use Rattle.rounds.proofs.space.put_places.Statement.{statement}

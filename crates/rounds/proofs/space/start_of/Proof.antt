@@ -1,5 +1,5 @@
 -- `rounds::space::start_of` meets its contract. Assumes nothing.
-use Rattle.grouping.specs.Grouped.{startIn}
+use Rattle.grouping.specs.Stages.Grouped.{startIn}
 use native.Mathlib.Omega.{arith}
 use borrow.Author.Needs.{needs}
 use Rattle.rounds.proofs.space.start_of.Statement.{statement}

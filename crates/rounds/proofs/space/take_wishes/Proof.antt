@@ -2,19 +2,18 @@
 use Prim.Native.Nat.{_≤_, _+_, _-_}
 use mathlib.Core.Path.{ap, _∙_}
 use native.Mathlib.Omega.{arith}
-use Rattle.wishes.specs.Held.{held, wishIn}
-use Rattle.grouping.specs.Grouped.{memberIn}
-use Rattle.crossings.specs.Views.{grid}
+use Rattle.wishes.specs.Stages.Held.{held, wishIn}
+use Rattle.grouping.specs.Stages.Grouped.{memberIn}
 use Rattle.grouping.proofs.Tabling.{Tabled, table-start, table-step, table-stop}
 use borrow.Author.Needs.{needs}
 use Rattle.rounds.proofs.space.take_wishes.Statement.{statement}
 use Rattle.rounds.proofs.space.take_wishes.Tie as tie
 
 abbrev Inv-loop : tie.InvT-loop
-Inv-loop sub from to service unit ends blocks places frames centres corners numbers along start n ways₀ i₀ ways i = (i ≤ n) × Tabled (λ k. wishIn (held (grid sub from to service unit ends blocks places frames) centres corners numbers) along (memberIn numbers (start + k))) ways₀ ways i
+Inv-loop m base ends places centres corners numbers along start n ways₀ i₀ ways i = (i ≤ n) × Tabled (λ k. wishIn (held m base ends places centres corners numbers) along (memberIn numbers (start + k))) ways₀ ways i
 
 abbrev μ-loop : tie.MeasureT-loop
-μ-loop sub from to service unit ends blocks places frames centres corners numbers along start n ways₀ i₀ ways i = n - i
+μ-loop m base ends places centres corners numbers along start n ways₀ i₀ ways i = n - i
 
 loop-holds : tie.Need-loop-holds Inv-loop μ-loop
 loop-holds c = (omega arith, table-start _ _)

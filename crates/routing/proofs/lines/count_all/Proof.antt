@@ -3,7 +3,7 @@ use native.Mathlib.Omega.{arith}
 use mathlib.Core.Path.{_≡_, _∙_, refl, ap}
 use Prim.Native.Nat.{_-_, _≤_, _*_}
 use lib.ListN.{length}
-use Rattle.crossings.specs.Store.{crossingsTo}
+use Rattle.crossings.specs.Stages.Store.{crossingsTo}
 use Rattle.routing.proofs.Branching.{crossings-none, crossings-step}
 use borrow.Author.Needs.{needs}
 use Rattle.routing.proofs.lines.count_all.Statement.{statement}

@@ -3,7 +3,7 @@ use native.Mathlib.Omega.{arith}
 use mathlib.Core.Path.{_≡_, refl}
 use Prim.Native.Nat.{_-_, _≤_}
 use lib.ListN.{length}
-use Rattle.crossings.specs.Store.{stock}
+use Rattle.crossings.specs.Stages.Store.{stock}
 use Rattle.routing.proofs.Branching.{mesh-most, crossings-few}
 use Rattle.routing.proofs.Filling.{Filling, fill-start, fill-more, fill-room, fill-end}
 use borrow.Author.Needs.{needs}

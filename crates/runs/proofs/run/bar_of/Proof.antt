@@ -1,5 +1,5 @@
 -- `runs::run::bar_of` meets its contract. Assumes nothing.
-use Rattle.runs.specs.Views.{barOf}
+use Rattle.runs.specs.Stages.Views.{barOf}
 use borrow.Author.Needs.{needs}
 use Rattle.runs.proofs.run.bar_of.Statement.{statement}
 use Rattle.runs.proofs.run.bar_of.Tie as tie

@@ -1,5 +1,5 @@
 -- `runs::run::block_of` meets its contract. Assumes nothing.
-use Rattle.runs.specs.Views.{blockOf}
+use Rattle.runs.specs.Stages.Views.{blockOf}
 use borrow.Author.Needs.{needs}
 use Rattle.runs.proofs.run.block_of.Statement.{statement}
 use Rattle.runs.proofs.run.block_of.Tie as tie

@@ -3,7 +3,7 @@ use Prim.Native.Nat.{_≤_, _-_}
 use mathlib.Core.Path.{refl, _≡_, _∙_}
 use native.Mathlib.Omega.{arith}
 use lib.ListN.{length}
-use Rattle.detour.specs.Paths.{pathIn, Led}
+use Rattle.detour.specs.Stages.Paths.{pathIn, Led}
 use Rattle.runs.proofs.Paths.{copy-none, copy-more, copy-end}
 use borrow.Author.Needs.{needs}
 use Rattle.runs.proofs.run.copy_points.Statement.{statement}

@@ -1,5 +1,5 @@
 -- `runs::run::exit_of` meets its contract. Assumes nothing.
-use Rattle.runs.specs.Views.{exitOf}
+use Rattle.runs.specs.Stages.Views.{exitOf}
 use borrow.Author.Needs.{needs}
 use Rattle.runs.proofs.run.exit_of.Statement.{statement}
 use Rattle.runs.proofs.run.exit_of.Tie as tie

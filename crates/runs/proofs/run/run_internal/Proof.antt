@@ -1,6 +1,6 @@
 -- `runs::run::run_internal` meets its contract. Assumes nothing.
 use Rattle.runs.proofs.Paths.{ran-of}
-use Rattle.runs.specs.Views.{internalFrom}
+use Rattle.runs.specs.Stages.Views.{internalFrom}
 use borrow.Author.Needs.{needs}
 use Rattle.runs.proofs.run.run_internal.Statement.{statement}
 use Rattle.runs.proofs.run.run_internal.Tie as tie

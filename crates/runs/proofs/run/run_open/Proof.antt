@@ -1,6 +1,6 @@
 -- `runs::run::run_open` meets its contract. Assumes nothing.
 use Rattle.runs.proofs.Paths.{ran-of}
-use Rattle.runs.specs.Views.{openFrom}
+use Rattle.runs.specs.Stages.Views.{openFrom}
 use borrow.Author.Needs.{needs}
 use Rattle.runs.proofs.run.run_open.Statement.{statement}
 use Rattle.runs.proofs.run.run_open.Tie as tie

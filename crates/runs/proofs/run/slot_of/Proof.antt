@@ -1,5 +1,5 @@
 -- `runs::run::slot_of` meets its contract. Assumes nothing.
-use Rattle.runs.specs.Views.{slotOf}
+use Rattle.runs.specs.Stages.Views.{slotOf}
 use borrow.Author.Needs.{needs}
 use Rattle.runs.proofs.run.slot_of.Statement.{statement}
 use Rattle.runs.proofs.run.slot_of.Tie as tie

@@ -4,7 +4,7 @@ use native.Mathlib.Omega.{arith}
 use borrow.Author.Needs.{needs}
 use Rattle.network.specs.Words.{stationCount}
 use Rattle.network.specs.Views.{pointsIn}
-use Rattle.stations.specs.Entry.{endKey}
+use Rattle.stations.specs.Stages.Entry.{endKey}
 use Rattle.stations.proofs.Ends.{by-kind, from-side, to-side, line-buses, seed-at}
 use Rattle.stations.proofs.rows.entry_key.Statement.{statement}
 use Rattle.stations.proofs.rows.entry_key.Tie as tie

@@ -1,7 +1,7 @@
 -- `stations::rows::entry_station` meets its contract. Assumes nothing.
 use mathlib.Core.Path.{refl}
 use borrow.Author.Needs.{needs}
-use Rattle.stations.specs.Entry.{endStation}
+use Rattle.stations.specs.Stages.Entry.{endStation}
 use Rattle.stations.proofs.Ends.{by-kind, from-side, to-side}
 use Rattle.stations.proofs.rows.entry_station.Statement.{statement}
 use Rattle.stations.proofs.rows.entry_station.Tie as tie

@@ -7,7 +7,7 @@ use borrow.Author.Needs.{needs}
 use Rattle.order.specs.Table.{table}
 use Rattle.network.specs.Words.{stationCount, kinds}
 use Rattle.network.specs.Views.{pointsIn}
-use Rattle.stations.specs.Entry.{entryStation, entryKey}
+use Rattle.stations.specs.Stages.Entry.{entryStation, entryKey}
 use Rattle.stations.proofs.Fronts.{front-zero, front-next}
 use Rattle.stations.proofs.Rowing.{key-of-entry, station-of-entry}
 use Rattle.stations.proofs.rows.fill_entries.Statement.{statement}

@@ -6,7 +6,7 @@ use lib.ListN.{length, getD, length-set}
 use borrow.Author.Needs.{needs}
 use Rattle.order.specs.Table.{table, strided}
 use Rattle.network.specs.Words.{kindOf}
-use Rattle.stations.specs.Entry.{toEntry}
+use Rattle.stations.specs.Stages.Entry.{toEntry}
 use Rattle.stations.proofs.Fronts.{side-zero, two-next}
 use Rattle.stations.proofs.rows.put_rows.Statement.{statement}
 use Rattle.stations.proofs.rows.put_rows.Tie as tie

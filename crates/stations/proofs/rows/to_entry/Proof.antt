@@ -2,7 +2,7 @@
 use mathlib.Core.Path.{sym, ap, _∙_}
 use borrow.Author.Needs.{needs}
 use Rattle.network.specs.declared.words.Kind.{Kind}
-use Rattle.stations.specs.Entry.{toEntry}
+use Rattle.stations.specs.Stages.Entry.{toEntry}
 use Rattle.stations.proofs.rows.to_entry.Statement.{statement}
 use Rattle.stations.proofs.rows.to_entry.Tie as tie
 

@@ -4,7 +4,7 @@ use mathlib.Core.Path.{_≡_, refl, subst}
 use native.Mathlib.Omega.{arith}
 use lib.ListN.{length, length-set}
 use Rattle.network.specs.Views.{countsIn}
-use Rattle.turns.specs.Listed.{Listed}
+use Rattle.turns.specs.Stages.Listed.{Listed}
 use Rattle.turns.proofs.Queue.{listed-none, counted-yes, counted-no}
 use borrow.Author.Needs.{needs}
 use Rattle.turns.proofs.turns.list_occupied.Statement.{statement}

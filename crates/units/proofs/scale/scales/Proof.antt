@@ -7,7 +7,7 @@ use Rattle.float.specs.Ops.{_⊗_}
 use Rattle.order.specs.Table.{table}
 use Rattle.order.proofs.Tables.{howMany-zero}
 use Rattle.proximity.specs.Near.{neighbours}
-use Rattle.units.specs.Views.{sizesIn, scalesIn}
+use Rattle.units.specs.Stages.Views.{sizesIn, scalesIn}
 use Rattle.units.proofs.Blocks.{sizes-beside}
 use Rattle.units.proofs.Occupied.{passedCount, count-yes, count-no}
 use Rattle.units.proofs.Scaled.{passed-below, counts-front, count-at, scaled, scales-start, scale-yes, scale-no, scales-step, scales-end}
@@ -16,16 +16,16 @@ use Rattle.units.proofs.scale.scales.Statement.{statement}
 use Rattle.units.proofs.scale.scales.Tie as tie
 
 abbrev Inv-loop : tie.InvT-loop
-Inv-loop o k n gap stations path blocks₀ keys sorted spare j₀ s₀ blocks j s = (s ≤ k) × (length blocks ≡ length blocks₀) × (j ≤ s) × (j ≡ passedCount k stations s) × (scalesIn s blocks ≡ scaled o path n (o .«tier_radius» ⊗ gap) k stations s) × (sizesIn k blocks ≡ sizesIn k blocks₀) × (n ≤ length spare) × (take n spare ≡ table (neighbours path n (o .«tier_radius» ⊗ gap)) n)
+Inv-loop o k n sp stations path blocks₀ keys sorted spare j₀ s₀ blocks j s = (s ≤ k) × (length blocks ≡ length blocks₀) × (j ≤ s) × (j ≡ passedCount k stations s) × (scalesIn s blocks ≡ scaled o path n (o .«tier_radius» ⊗ sp) k stations s) × (sizesIn k blocks ≡ sizesIn k blocks₀) × (n ≤ length spare) × (take n spare ≡ table (neighbours path n (o .«tier_radius» ⊗ sp)) n)
 
 abbrev μ-loop : tie.MeasureT-loop
-μ-loop o k n gap stations path blocks₀ keys sorted spare j₀ s₀ blocks j s = k - s
+μ-loop o k n sp stations path blocks₀ keys sorted spare j₀ s₀ blocks j s = k - s
 
 neighbour-counts-requires : tie.Need-neighbour-counts-requires Inv-loop μ-loop
 neighbour-counts-requires c κs = (c .before .before .before .before .before .before .before .before .before .before .pre .4, c .before .before .before .before .before .before .before .before .before .before .pre .2, c .before .before .before .before .before .before .before .before .before .before .pre .7, c .before .before .before .before .before .before .before .before .before .before .pre .5, c .before .before .before .before .before .before .before .before .before .before .pre .6)
 
 loop-holds : tie.Need-loop-holds Inv-loop μ-loop
-loop-holds c = (omega arith, refl, omega arith, sym (howMany-zero _), scales-start _ _ _ _ _ _ _, refl, omega (arith, c .before .before .before .before .before .before .before .before .before .before .before .before .before .before .before .before .before .pre .7, c .before .before .before .before .before .before .neighbour-counts .kept .1 .1 .1 .0), counts-front (neighbours (c .before .before .before .before .before .before .before .before .before .before .before .before .before .before .before .before .before .args .path .now) (c .before .before .before .before .before .before .before .before .before .before .before .before .before .before .before .before .before .args .n) (c .before .before .before .before .before .before .before .before .before .before .before .before .before .before .before .before .before .args .o .«tier_radius» ⊗ c .before .before .before .before .before .before .before .before .before .before .before .before .before .before .before .before .before .args .gap)) (c .before .before .before .before .before .before .before .before .before .before .before .before .before .before .before .before .before .args .n) _ _ (c .before .before .before .before .before .before .neighbour-counts .ensures))
+loop-holds c = (omega arith, refl, omega arith, sym (howMany-zero _), scales-start _ _ _ _ _ _ _, refl, omega (arith, c .before .before .before .before .before .before .before .before .before .before .before .before .before .before .before .before .before .pre .7, c .before .before .before .before .before .before .neighbour-counts .kept .1 .1 .1 .0), counts-front (neighbours (c .before .before .before .before .before .before .before .before .before .before .before .before .before .before .before .before .before .args .path .now) (c .before .before .before .before .before .before .before .before .before .before .before .before .before .before .before .before .before .args .n) (c .before .before .before .before .before .before .before .before .before .before .before .before .before .before .before .before .before .args .o .«tier_radius» ⊗ c .before .before .before .before .before .before .before .before .before .before .before .before .before .before .before .before .before .args .spacing)) (c .before .before .before .before .before .before .before .before .before .before .before .before .before .before .before .before .before .args .n) _ _ (c .before .before .before .before .before .before .neighbour-counts .ensures))
 
 mul-if1 : tie.Need-mul-if1 Inv-loop μ-loop
 mul-if1 c = search needs
@@ -74,7 +74,7 @@ loop-again c = let v = c .before .before .before .before .before .loop .inv in
     let h : c .before .before .before .before .before .loop .s < c .before .before .before .before .before .before .before .before .before .before .before .before .before .before .before .before .before .before .before .before .before .before .before .args .k = c .before .before .before .before .loop-test .taken in
     let l : 3 * c .before .before .before .before .before .before .before .before .before .before .before .before .before .before .before .before .before .before .before .before .before .before .before .args .k ≤ length (c .before .before .before .before .before .loop .blocks) = omega (arith, v .1, c .before .before .before .before .before .before .before .before .before .before .before .before .before .before .before .before .before .before .before .before .before .before .before .pre .3) in
     let g = c .before .before .if1 .taken in
-    let e = count-at (neighbours (c .before .before .before .before .before .before .before .before .before .before .before .before .before .before .before .before .before .before .before .before .before .before .before .args .path .now) (c .before .before .before .before .before .before .before .before .before .before .before .before .before .before .before .before .before .before .before .before .before .before .before .args .n) (c .before .before .before .before .before .before .before .before .before .before .before .before .before .before .before .before .before .before .before .before .before .before .before .args .o .«tier_radius» ⊗ c .before .before .before .before .before .before .before .before .before .before .before .before .before .before .before .before .before .before .before .before .before .before .before .args .gap)) (c .before .before .before .before .before .before .before .before .before .before .before .before .before .before .before .before .before .before .before .before .before .before .before .args .n) _ (c .before .before .before .before .before .loop .j) (v .7) (passed-below (c .before .before .before .before .before .before .before .before .before .before .before .before .before .before .before .before .before .before .before .before .before .before .before .args .k) (c .before .before .before .before .before .before .before .before .before .before .before .before .before .before .before .before .before .before .before .before .before .before .before .args .stations .now) (c .before .before .before .before .before .loop .s) (c .before .before .before .before .before .loop .j) (c .before .before .before .before .before .before .before .before .before .before .before .before .before .before .before .before .before .before .before .before .before .before .before .args .n) h (c .before .before .if1 .taken) (c .before .before .before .before .before .loop .inv .3) (c .before .before .before .before .before .before .before .before .before .before .before .before .before .before .before .before .before .before .before .before .before .before .before .pre .0)) in (
+    let e = count-at (neighbours (c .before .before .before .before .before .before .before .before .before .before .before .before .before .before .before .before .before .before .before .before .before .before .before .args .path .now) (c .before .before .before .before .before .before .before .before .before .before .before .before .before .before .before .before .before .before .before .before .before .before .before .args .n) (c .before .before .before .before .before .before .before .before .before .before .before .before .before .before .before .before .before .before .before .before .before .before .before .args .o .«tier_radius» ⊗ c .before .before .before .before .before .before .before .before .before .before .before .before .before .before .before .before .before .before .before .before .before .before .before .args .spacing)) (c .before .before .before .before .before .before .before .before .before .before .before .before .before .before .before .before .before .before .before .before .before .before .before .args .n) _ (c .before .before .before .before .before .loop .j) (v .7) (passed-below (c .before .before .before .before .before .before .before .before .before .before .before .before .before .before .before .before .before .before .before .before .before .before .before .args .k) (c .before .before .before .before .before .before .before .before .before .before .before .before .before .before .before .before .before .before .before .before .before .before .before .args .stations .now) (c .before .before .before .before .before .loop .s) (c .before .before .before .before .before .loop .j) (c .before .before .before .before .before .before .before .before .before .before .before .before .before .before .before .before .before .before .before .before .before .before .before .args .n) h (c .before .before .if1 .taken) (c .before .before .before .before .before .loop .inv .3) (c .before .before .before .before .before .before .before .before .before .before .before .before .before .before .before .before .before .before .before .before .before .before .before .pre .0)) in (
       omega arith,
       simp length-set (v .1),
       omega arith,
@@ -134,7 +134,7 @@ returns : tie.Need-returns Inv-loop μ-loop
 returns c = let v = c .before .loop .inv in
     let a = c .before .before .before .before .before .before .before .before .before .before .before .before .before .before .before .before .before .before .before .args in
     let e : c .before .loop .s ≡ a .k = omega arith in
-    (cc (e, v .4, scales-end (a .o) (a .path .now) (a .n) (a .gap) (a .k) (a .stations .now)), v .5)
+    (cc (e, v .4, scales-end (a .o) (a .path .now) (a .n) (a .spacing) (a .k) (a .stations .now)), v .5)
 
 pub scales-spec : {M : Type 1} → statement M
 scales-spec =

@@ -4,7 +4,7 @@ use Prim.Native.Nat.{_≤_, _<_, _-_}
 use native.Mathlib.Omega.{arith}
 use lib.ListN.{length, take, length-set}
 use Rattle.units.specs.Size.{sides}
-use Rattle.units.specs.Views.{sizesIn}
+use Rattle.units.specs.Stages.Views.{sizesIn}
 use Rattle.units.proofs.Occupied.{passed, sides-none, sides-more, passed-no, passed-all}
 use borrow.Author.Needs.{needs}
 use Rattle.units.proofs.sizes.sides.Statement.{statement}

@@ -4,7 +4,7 @@ use Prim.Native.Nat.{_+_, _*_, _≤_, _<_, _-_}
 use native.Mathlib.Omega.{arith}
 use lib.ListN.{length, length-set}
 use lib.Seq.{lt-length-set}
-use Rattle.units.specs.Views.{sizesIn}
+use Rattle.units.specs.Stages.Views.{sizesIn}
 use Rattle.units.proofs.Blocks.{sized, sizes-start, sizes-step, sizes-end}
 use borrow.Author.Needs.{needs}
 use Rattle.units.proofs.sizes.sizes.Statement.{statement}

@@ -1,16 +1,16 @@
 -- `wishes::wish::before_of` meets its contract. Assumes nothing.
-use Rattle.wishes.specs.Held.{beforeIn}
+use Rattle.wishes.specs.Stages.Held.{beforeIn}
 use borrow.Author.Tests.{le-leb, lt-leb}
 use borrow.Author.Needs.{needs}
 use Rattle.wishes.proofs.wish.before_of.Statement.{statement}
 use Rattle.wishes.proofs.wish.before_of.Tie as tie
 
-exit-of-requires : tie.Need-exit-of-requires
-exit-of-requires c κs = search needs
+first-exit-requires : tie.Need-first-exit-requires
+first-exit-requires c κs = search needs
 
 returns : tie.Need-returns
 unfolding beforeIn
-returns c = simp (le-leb _ _ (c .before .if1 .taken)) (c .exit-of .ensures)
+returns c = simp (le-leb _ _ (c .before .if1 .taken)) (c .first-exit .ensures)
 
 sub-point-of : tie.Need-sub-point-of
 sub-point-of c = search needs
@@ -24,4 +24,4 @@ returns-2 c = simp (lt-leb _ _ (c .before .if1 .left)) (c .point-of .ensures)
 
 pub before-of-spec : {M : Type 1} → statement M
 before-of-spec =
-    tie.close (tie.spec exit-of-requires returns sub-point-of point-of-requires returns-2)
+    tie.close (tie.spec first-exit-requires returns sub-point-of point-of-requires returns-2)

@@ -1,5 +1,5 @@
 -- `wishes::wish::behind_of` meets its contract. Assumes nothing.
-use Rattle.wishes.specs.Held.{behindIn}
+use Rattle.wishes.specs.Stages.Held.{behindIn}
 use borrow.Author.Tests.{le-leb, lt-leb}
 use borrow.Author.Needs.{needs}
 use Rattle.wishes.proofs.wish.behind_of.Statement.{statement}
@@ -8,12 +8,12 @@ use Rattle.wishes.proofs.wish.behind_of.Tie as tie
 add-if1 : tie.Need-add-if1
 add-if1 c = search needs
 
-exit-of-requires : tie.Need-exit-of-requires
-exit-of-requires c κs = search needs
+second-exit-requires : tie.Need-second-exit-requires
+second-exit-requires c κs = search needs
 
 returns : tie.Need-returns
 unfolding behindIn
-returns c = simp (le-leb _ _ (c .before .if1 .taken)) (c .exit-of .ensures)
+returns c = simp (le-leb _ _ (c .before .if1 .taken)) (c .second-exit .ensures)
 
 add-point-of : tie.Need-add-point-of
 add-point-of c = search needs
@@ -27,4 +27,4 @@ returns-2 c = simp (lt-leb _ _ (c .before .if1 .left)) (c .point-of .ensures)
 
 pub behind-of-spec : {M : Type 1} → statement M
 behind-of-spec =
-    tie.close (tie.spec add-if1 exit-of-requires returns add-point-of point-of-requires returns-2)
+    tie.close (tie.spec add-if1 second-exit-requires returns add-point-of point-of-requires returns-2)

@@ -66,7 +66,7 @@ before-of-requires : tie.Need-before-of-requires
 before-of-requires c κs = search needs
 
 behind-of-requires : tie.Need-behind-of-requires
-behind-of-requires c κs = (c .before .before .before .before .before .before .before .before .before .before .before .before .before .before .before .before .before .before .pre .0, omega (arith, c .before .before .before .before .before .before .before .at .ok), c .before .before .before .before .before .before .before .before .before .before .before .before .before .before .before .before .before .before .pre .1)
+behind-of-requires c κs = (c .before .before .before .before .before .before .before .before .before .before .before .before .before .before .pre .0, c .before .before .before .before .before .before .before .before .before .before .before .before .before .before .pre .1, omega (arith, c .before .before .before .before .before .before .before .at .ok), c .before .before .before .before .before .before .before .before .before .before .before .before .before .before .pre .2)
 
 low-of-requires : tie.Need-low-of-requires
 low-of-requires c κs = search needs

@@ -1,0 +1,2 @@
+pub mod Charted
+pub mod Held

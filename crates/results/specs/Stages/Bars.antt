@@ -1,0 +1,13 @@
+-- The bars of all buses as the lent work lists hold them. Definitions only.
+use Prim.Native.Nat.{ℕ}
+use mathlib.Core.List.{List}
+use lib.ListN.{length}
+use lib.Ieee.{Float}
+use Rattle.order.specs.Table.{table}
+use Rattle.network.specs.Words.{stationOf}
+use Rattle.bars.specs.declared.Bar.{Bar}
+use Rattle.runs.specs.Stages.Views.{barOf}
+
+-- by the buses' stations, the unit, and the lists of buses, blocks and boxes
+unfoldable pub barsIn : List ℕ → Float → List ℕ → List Float → List Float → List Bar
+barsIn sub unit buses blocks frames = table (λ i. barOf unit buses blocks frames (stationOf sub i) i) (length sub)

@@ -1,0 +1,2 @@
+pub mod Led
+pub mod Routed
