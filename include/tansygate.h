@@ -93,9 +93,9 @@ tansygate_plotted tansygate_layout(
     uint32_t *stations, size_t stations_len,                /* 2n */
     uint32_t *buses, size_t buses_len,                      /* 3n */
     uint32_t *ends, size_t ends_len,                        /* 4m + 4L + 4 */
-    uint32_t *sorted, size_t sorted_len,                    /* n + 2m + L + 1681 and at least I; also 1 a crossing */
-    uint32_t *spare, size_t spare_len,                      /* n + 2m + L + 1681; also 1 a crossing */
-    uint64_t *keys, size_t keys_len,                        /* n + 2m + L + 1681; also 1 a crossing */
+    uint32_t *sorted, size_t sorted_len,                    /* n + 2m + L and at least I; also 1 a crossing */
+    uint32_t *spare, size_t spare_len,                      /* n + 2m + L; also 1 a crossing */
+    uint64_t *keys, size_t keys_len,                        /* n + 2m + L; also 1 a crossing */
     double *places, size_t places_len,                      /* 2n + 4m */
     double *blocks, size_t blocks_len,                      /* 3n */
     double *frames, size_t frames_len,                      /* 4n */

@@ -19,7 +19,7 @@ struct Lists {
 impl Lists {
     fn new(net: &Network, mesh: &Mesh, pieces: usize, crossings: usize) -> Self {
         let (n, m, k, l) = (net.sub.len(), net.from.len(), net.stations(), mesh.corners.len());
-        let sorting = (n + 2 * m + l + 1681).max(crossings);
+        let sorting = (n + 2 * m + l).max(crossings);
         let sorted = sorting.max(library::index_length(n));
         let floats = [2 * n, 4 * n, 4 * k, k, 4 * pieces, 2 * n + 4 * m, 3 * n, 4 * n, 2 * n + 3 * l + 16, crossings, 2 * crossings];
         let wholes = [pieces, 2 * n, 3 * n, 4 * m + 4 * l + 4, sorted, sorting, 3 * crossings];

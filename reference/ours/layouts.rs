@@ -14,7 +14,7 @@ pub const MANY: usize = 20_000;
 fn work_lengths(call: &Call, r: &mut Random) -> [usize; 10] {
     let (n, m) = (call.net.sub.len(), call.net.from.len());
     let mesh = call.mesh.corners.len().min(LONGEST);
-    let sorting = n + 2 * m + mesh + 1681;
+    let sorting = n + 2 * m + mesh;
     let sorted = sorting.max(library::index_length(n));
     let mut lengths =
         [2 * n, 3 * n, 4 * m + 4 * mesh + 4, sorted, sorting, sorting, 2 * n + 4 * m, 3 * n, 4 * n, 2 * n + 3 * mesh + 16];

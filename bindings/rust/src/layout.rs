@@ -154,7 +154,7 @@ pub fn tx_schematic_layout(
 fn draw(input: &TxLayoutInput, options: &TxLayoutOptions, mesh: Mesh<'_>, room: Room) -> Result<TxLayout, Refusal> {
     let (n, m, k) = (input.bus_substation.len(), input.from.len(), input.substations());
     let l = mesh.triangles.len().min(LONGEST);
-    let sorting = (n + 2 * m + l + 1681).max(room.crossings);
+    let sorting = (n + 2 * m + l).max(room.crossings);
     let mut drawing = TxLayout {
         version: TX_LAYOUT_VERSION,
         positions: vec![0.0; 2 * n],

@@ -46,7 +46,7 @@ pub(crate) fn lay(
 ) -> Inside
     requires { ⌜ (k ≡ stationCount (now sub)) × (length (now sub) ≤ 4096) × (k ≤ length (now sub)) × (length (now from) ≤ 8192) × (length (now kv) ≡ length (now sub)) × (searchOf (o .search) ≤ 20) ⌝ }
     requires { ⌜ (2 * length (now sub) ≤ length (now stations)) × (3 * length (now sub) ≤ length (now buses)) × (4 * length (now from) ≤ length (now ends)) × (2 * length (now sub) + 4 * length (now from) ≤ length (now places)) × (3 * length (now sub) ≤ length (now blocks)) × (4 * length (now sub) ≤ length (now frames)) × (2 * length (now sub) ≤ length (now path)) ⌝ }
-    requires { ⌜ (length (now sub) + 2 * length (now from) + 1681 ≤ length (now sorted)) × (length (now sub) + 2 * length (now from) + 1681 ≤ length (now spare)) × (length (now sub) + 2 * length (now from) + 1681 ≤ length (now keys)) ⌝ }
+    requires { ⌜ (length (now sub) + 2 * length (now from) ≤ length (now sorted)) × (length (now sub) + 2 * length (now from) ≤ length (now spare)) × (length (now sub) + 2 * length (now from) ≤ length (now keys)) ⌝ }
     ensures { λ r. ⌜ Laid o (network (now (sub .entry)) (now (kv .entry)) (now (from .entry)) (now (to .entry)) (now (service .entry)) (now (xy .entry)) (now (corners .entry)) (now (twins .entry))) k (r .unit) (r .finite) (now (stations .exit)) (now (buses .exit)) (now (ends .exit)) (now (blocks .exit)) (now (places .exit)) (now (frames .exit)) ⌝ }
 {
     let inside = interiors(

@@ -33,9 +33,9 @@ pub record Fits (o : Options) (N : Network) (R : Room) : Type 0 where
   pub stations : 2 * length (N .station) ≤ R .stations
   pub buses : 3 * length (N .station) ≤ R .buses
   pub ends : 4 * length (N .from) + 4 * meshLength N + 4 ≤ R .ends
-  pub sorted : length (N .station) + 2 * length (N .from) + meshLength N + 1681 ≤ R .sorted
-  pub spare : length (N .station) + 2 * length (N .from) + meshLength N + 1681 ≤ R .spare
-  pub keys : length (N .station) + 2 * length (N .from) + meshLength N + 1681 ≤ R .keys
+  pub sorted : length (N .station) + 2 * length (N .from) + meshLength N ≤ R .sorted
+  pub spare : length (N .station) + 2 * length (N .from) + meshLength N ≤ R .spare
+  pub keys : length (N .station) + 2 * length (N .from) + meshLength N ≤ R .keys
   pub places : 2 * length (N .station) + 4 * length (N .from) ≤ R .places
   pub blocks : 3 * length (N .station) ≤ R .blocks
   pub frames : 4 * length (N .station) ≤ R .frames

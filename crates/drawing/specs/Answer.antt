@@ -70,7 +70,7 @@ shortResults n m k R =
 
 -- the length of the three lists that sorts use; `sorted` also holds boxes by cell
 abbrev pub sorting : ℕ → ℕ → ℕ → ℕ
-sorting n m mesh = n + 2 * m + mesh + 1681
+sorting n m mesh = n + 2 * m + mesh
 
 unfoldable pub shortWork : ℕ → ℕ → ℕ → Room → Bool
 shortWork n m mesh R =

@@ -36,7 +36,7 @@ fn short_work(n: usize, m: usize, mesh: usize, room: Room) -> bool
     requires { ⌜ (n ≤ 4096) × (m ≤ 8192) × (mesh ≤ 24576) ⌝ }
     ensures { λ r. ⌜ r ≡ shortWork n m mesh room ⌝ }
 {
-    let sorting = n + 2 * m + mesh + 1681;
+    let sorting = n + 2 * m + mesh;
     if room.stations < 2 * n {
         return true;
     }

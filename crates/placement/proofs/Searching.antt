@@ -1,8 +1,10 @@
 -- The search box by box and offset by offset: whether a place is free, and the first that is. Assumes nothing.
 use mathlib.Core.Path.{_≡_, sym, ap, _∙_}
 use mathlib.Core.Bool.{Bool, true, false, not, _&&_}
-use mathlib.Core.List.{List}
+use mathlib.Core.List.{List, _∷_}
 use Prim.Native.Nat.{ℕ, _+_, _≤_, _<_}
+use lib.IntN.{ℤ}
+use lib.ListN.{length}
 use lib.Ieee.{Float}
 use Rattle.float.specs.Ops.{f1, f2, f4}
 use Rattle.order.specs.Order.{pick}
@@ -15,7 +17,7 @@ use Rattle.offsets.specs.declared.offset.Offset.{Offset}
 use Rattle.placement.specs.declared.search.Found.{Found}
 use Rattle.placement.specs.declared.search.Found.the-variants.{At, Nowhere}
 use Rattle.placement.specs.Place.{Frame, free, place, buffered, firstFree, orNext, placeFor}
-use Rattle.offsets.specs.Stages.OffsetList.{offsetAt, offsetsIn}
+use Rattle.offset_table.specs.Table.{inside, skipped, pairAt, pairsIn}
 use Rattle.placement.proofs.Rest.{rest, rest-start, rest-more, rest-end}
 
 -- ---- whether p overlaps none of the first n boxes
@@ -41,48 +43,61 @@ module _ (p : Box) (fs : List Float) (n : ℕ) where
   unfolding free
   free-end j h i = sym (ap (free p) (rest-end (boxAt fs) n j h)) ∙ i
 
--- ---- the first free place among the first n offsets
-module _ (seed : Point) (r : Frame) (earlier : List Box) (widening : Float) (keys sorted : List ℕ) (n : ℕ) where
+-- ---- the first free place among the pairs of two lists within the search
+module _ (seed : Point) (r : Frame) (earlier : List Box) (widening : Float) (xs ys : List ℤ) (search : ℕ) where
   abbrev found : List Offset → Found
   found os = firstFree seed r earlier widening os
 
   abbrev spot : ℕ → Point
-  spot j = place seed (r .half) widening (offsetAt keys sorted j)
+  spot j = place seed (r .half) widening (pairAt xs ys j)
+
+  -- the pairs from the j-th on
+  abbrev pub onward : ℕ → List Offset
+  onward j = skipped search (rest (pairAt xs ys) (length xs) j)
 
   abbrev all : Found
-  all = found (offsetsIn n keys sorted)
+  all = found (skipped search (pairsIn xs ys))
 
   abbrev pub First : ℕ → Type 0
-  First j = firstFree seed r earlier widening (rest (offsetAt keys sorted) n j) ≡ firstFree seed r earlier widening (offsetsIn n keys sorted)
+  First j = firstFree seed r earlier widening (onward j) ≡ firstFree seed r earlier widening (skipped search (pairsIn xs ys))
 
   pub first-start : First 0
-  unfolding offsetsIn
-  first-start = ap found (rest-start (offsetAt keys sorted) n)
+  unfolding pairsIn
+  first-start = ap (λ (os : List Offset). found (skipped search os)) (rest-start (pairAt xs ys) (length xs))
 
-  module _ (j : ℕ) (c : Point) (p : Box) (b : Bool) (h : j < n) (o : Offset) (O : o ≡ offsetAt keys sorted j) (C : c ≡ place seed (r .half) widening o) (P : p ≡ buffered c r)
-      (B : b ≡ free p earlier) (i : First j) where
-    place-is : c ≡ spot j
-    place-is = C ∙ ap (place seed (r .half) widening) O
+  module _ (j : ℕ) (t : Bool) (o : Offset) (h : j < length xs) (O : o ≡ pairAt xs ys j) (I : t ≡ inside search o) where
+    onward-at : onward j ≡ pick t (pairAt xs ys j ∷ onward (j + 1)) (onward (j + 1))
+    unfolding skipped
+    onward-at =
+        ap (skipped search) (rest-more (pairAt xs ys) (length xs) j h)
+        ∙ ap (λ (x : Bool). pick x (pairAt xs ys j ∷ onward (j + 1)) (onward (j + 1))) (sym (I ∙ ap (inside search) O))
 
-    test-is : free (buffered (spot j) r) earlier ≡ b
-    test-is = sym (B ∙ ap (λ (q : Box). free q earlier) (P ∙ ap (λ (x : Point). buffered x r) place-is))
+    pub first-skip : t ≡ false → First j → First (j + 1)
+    first-skip e i = sym (ap found (onward-at ∙ ap (λ (x : Bool). pick x (pairAt xs ys j ∷ onward (j + 1)) (onward (j + 1))) e)) ∙ i
 
-    first-at : all ≡ pick b (At c) (found (rest (offsetAt keys sorted) n (j + 1)))
-    unfolding firstFree
-    first-at =
-        sym i ∙ ap found (rest-more (offsetAt keys sorted) n j h)
-        ∙ ap (λ (x : Bool). pick x (At (spot j)) (found (rest (offsetAt keys sorted) n (j + 1)))) test-is
-        ∙ ap (λ (x : Point). pick b (At x) (found (rest (offsetAt keys sorted) n (j + 1)))) (sym place-is)
+    module _ (e : t ≡ true) (c : Point) (p : Box) (b : Bool) (C : c ≡ place seed (r .half) widening o) (P : p ≡ buffered c r) (B : b ≡ free p earlier) (i : First j) where
+      place-is : c ≡ spot j
+      place-is = C ∙ ap (place seed (r .half) widening) O
 
-    pub first-hit : b ≡ true → At c ≡ all
-    first-hit t = sym (first-at ∙ ap (λ (x : Bool). pick x (At c) (found (rest (offsetAt keys sorted) n (j + 1)))) t)
+      test-is : free (buffered (spot j) r) earlier ≡ b
+      test-is = sym (B ∙ ap (λ (q : Box). free q earlier) (P ∙ ap (λ (x : Point). buffered x r) place-is))
 
-    pub first-miss : b ≡ false → First (j + 1)
-    first-miss t = sym (first-at ∙ ap (λ (x : Bool). pick x (At c) (found (rest (offsetAt keys sorted) n (j + 1)))) t)
+      first-at : all ≡ pick b (At c) (found (onward (j + 1)))
+      unfolding firstFree
+      first-at =
+          sym i ∙ ap found (onward-at ∙ ap (λ (x : Bool). pick x (pairAt xs ys j ∷ onward (j + 1)) (onward (j + 1))) e)
+          ∙ ap (λ (x : Bool). pick x (At (spot j)) (found (onward (j + 1)))) test-is
+          ∙ ap (λ (x : Point). pick b (At x) (found (onward (j + 1)))) (sym place-is)
 
-  pub first-end : (j : ℕ) → n ≤ j → First j → Nowhere ≡ all
-  unfolding firstFree
-  first-end j h i = sym (ap found (rest-end (offsetAt keys sorted) n j h)) ∙ i
+      pub first-hit : b ≡ true → At c ≡ all
+      first-hit y = sym (first-at ∙ ap (λ (x : Bool). pick x (At c) (found (onward (j + 1)))) y)
+
+      pub first-miss : b ≡ false → First (j + 1)
+      first-miss y = sym (first-at ∙ ap (λ (x : Bool). pick x (At c) (found (onward (j + 1)))) y)
+
+  pub first-end : (j : ℕ) → length xs ≤ j → First j → Nowhere ≡ all
+  unfolding firstFree skipped
+  first-end j h i = sym (ap (λ (os : List Offset). found (skipped search os)) (rest-end (pairAt xs ys) (length xs) j h)) ∙ i
 
 -- ---- the three widenings
 module _ (seed : Point) (r : Frame) (earlier : List Box) (os : List Offset) (o : Found) (O : o ≡ firstFree seed r earlier f1 os) where

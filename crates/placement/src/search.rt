@@ -8,14 +8,18 @@ ghost use Rattle.network.specs.Views.{countsIn, orderIn, pointsIn, boxesIn};
 ghost use Rattle.placement.specs.Place as Place;
 ghost use Rattle.placement.specs.Place.{free, boxOn, buffered, firstFree, placeFor};
 ghost use Rattle.placement.specs.Stages.Views.{half, frame, frameIn, framesIn, putBox, PlacedAs};
-ghost use Rattle.offsets.specs.Stages.OffsetList.{offsetsIn};
+ghost use Rattle.offsets.specs.Offset.{offsets};
+ghost use Rattle.offset_table.specs.Table.{skipped, pairsIn};
 ghost use Rattle.turns.specs.Stages.Listed.{Turns};
 use float::small::max;
 use geometry::Box;
 use geometry::Point;
 use network::options::Options;
+use offset_table::OFFSET_A;
+use offset_table::OFFSET_B;
+use offset_table::is_inside;
+use offset_table::pair_at;
 use offsets::offset::Offset;
-use offsets::offset::offset_at;
 
 // A free place, or none.
 pub enum Found {
@@ -89,29 +93,34 @@ fn place(seed: Point, w: f64, h: f64, widening: f64, o: Offset) -> Point
     }
 }
 
-// The first free place at one widening.
+// The first free place at one widening, by the pairs of two lists: those outside the search are skipped.
 fn first_free(
     seed: Point,
     w: f64,
     h: f64,
     f: f64,
     widening: f64,
-    keys: &[u64],
-    sorted: &[u32],
-    offsets: usize,
+    a: &[i32],
+    b: &[i32],
+    search: usize,
     frames: &[f64],
     count: usize,
 ) -> Found
     requires { ⌜ 4 * count ≤ length (now frames) ⌝ }
-    ensures { λ r. ⌜ r ≡ firstFree seed (frame w h f) (boxesIn count (now (frames .entry))) widening (offsetsIn offsets (now (keys .entry)) (now (sorted .entry))) ⌝ }
+    ensures { λ r. ⌜ r ≡ firstFree seed (frame w h f) (boxesIn count (now (frames .entry))) widening (skipped search (pairsIn (now (a .entry)) (now (b .entry)))) ⌝ }
 {
     let mut j = 0;
-    while j < offsets {
-        let c = place(seed, w, h, widening, offset_at(keys, sorted, j));
-        if is_free(buffered(c, w, h, f), frames, count) {
-            return Found::At(c);
+    while j < a.len() {
+        let o = pair_at(a, b, j);
+        if is_inside(o, search) {
+            let c = place(seed, w, h, widening, o);
+            if is_free(buffered(c, w, h, f), frames, count) {
+                return Found::At(c);
+            }
+            j += 1;
+        } else {
+            j += 1; // skipped
         }
-        j += 1;
     }
     Found::Nowhere
 }
@@ -122,35 +131,24 @@ fn place_for(
     w: f64,
     h: f64,
     f: f64,
-    keys: &[u64],
-    sorted: &[u32],
-    offsets: usize,
+    a: &[i32],
+    b: &[i32],
+    search: usize,
     frames: &[f64],
     count: usize,
 ) -> Point
     requires { ⌜ 4 * count ≤ length (now frames) ⌝ }
-    ensures { λ r. ⌜ r ≡ placeFor seed (frame w h f) (boxesIn count (now (frames .entry))) (offsetsIn offsets (now (keys .entry)) (now (sorted .entry))) ⌝ }
+    ensures { λ r. ⌜ r ≡ placeFor seed (frame w h f) (boxesIn count (now (frames .entry))) (skipped search (pairsIn (now (a .entry)) (now (b .entry)))) ⌝ }
 {
-    let near = first_free(seed, w, h, f, 1.0, keys, sorted, offsets, frames, count);
+    let near = first_free(seed, w, h, f, 1.0, a, b, search, frames, count);
     match near {
         Found::At(c) => c,
         Found::Nowhere => {
-            let wide = first_free(seed, w, h, f, 2.0, keys, sorted, offsets, frames, count);
+            let wide = first_free(seed, w, h, f, 2.0, a, b, search, frames, count);
             match wide {
                 Found::At(c) => c,
                 Found::Nowhere => {
-                    let widest = first_free(
-                        seed,
-                        w,
-                        h,
-                        f,
-                        4.0,
-                        keys,
-                        sorted,
-                        offsets,
-                        frames,
-                        count,
-                    );
+                    let widest = first_free(seed, w, h, f, 4.0, a, b, search, frames, count);
                     match widest {
                         Found::At(c) => c,
                         Found::Nowhere => seed,
@@ -178,14 +176,14 @@ fn place_station(
     p: usize,
     unit: f64,
     blocks: &[f64],
-    keys: &[u64],
-    sorted: &[u32],
-    offsets: usize,
+    a: &[i32],
+    b: &[i32],
+    search: usize,
     places: &mut [f64],
     frames: &mut [f64],
 )
     requires { ⌜ (3 * s + 2 < length (now blocks)) × (2 * s + 1 < length (now places)) × (4 * p + 3 < length (now frames)) ⌝ }
-    ensures { λ _. ⌜ PlacedAs unit (now (blocks .entry)) (offsetsIn offsets (now (keys .entry)) (now (sorted .entry))) s p (now (places .entry)) (now (frames .entry)) (now (places .exit)) (now (frames .exit)) ⌝ }
+    ensures { λ _. ⌜ PlacedAs unit (now (blocks .entry)) (skipped search (pairsIn (now (a .entry)) (now (b .entry)))) s p (now (places .entry)) (now (frames .entry)) (now (places .exit)) (now (frames .exit)) ⌝ }
 {
     let f = unit * blocks[3 * s + 2];
     let w = blocks[3 * s] * f / 2.0;
@@ -194,35 +192,64 @@ fn place_station(
         x: places[2 * s],
         y: places[2 * s + 1],
     };
-    let c = place_for(seed, w, h, f, keys, sorted, offsets, frames, p);
+    let c = place_for(seed, w, h, f, a, b, search, frames, p);
     places[2 * s] = c.x;
     places[2 * s + 1] = c.y;
     put_box(frames, p, box_on(c, w, h));
 }
 
 // Places the first r stations of the order, beside the counts in `stations`; frames holds their boxes in this order.
-pub fn place_all(
+fn place_all(
     k: usize,
     r: usize,
     unit: f64,
     stations: &[u32],
     blocks: &[f64],
-    keys: &[u64],
-    sorted: &[u32],
-    offsets: usize,
+    a: &[i32],
+    b: &[i32],
+    search: usize,
     places: &mut [f64],
     frames: &mut [f64],
 )
     requires { ⌜ (r ≤ k) × (2 * k ≤ length (now stations)) × (3 * k ≤ length (now blocks)) × (2 * k ≤ length (now places)) × (4 * k ≤ length (now frames)) ⌝ }
     requires { ⌜ Turns k (orderIn r (now stations)) ⌝ }
-    ensures { λ _. ⌜ pointsIn k (now (places .exit)) ≡ Place.places (framesIn unit k (now (blocks .entry))) (offsetsIn offsets (now (keys .entry)) (now (sorted .entry))) (pointsIn k (now (places .entry))) (orderIn r (now (stations .entry))) ⌝ }
+    ensures { λ _. ⌜ pointsIn k (now (places .exit)) ≡ Place.places (framesIn unit k (now (blocks .entry))) (skipped search (pairsIn (now (a .entry)) (now (b .entry)))) (pointsIn k (now (places .entry))) (orderIn r (now (stations .entry))) ⌝ }
 {
     let mut p = 0;
     while p < r {
         let s = stations[2 * p + 1] as usize;
-        place_station(s, p, unit, blocks, keys, sorted, offsets, places, frames);
+        place_station(s, p, unit, blocks, a, b, search, places, frames);
         p += 1;
     }
+}
+
+// The same by the table of offsets, lent once.
+pub fn place_by_table(
+    k: usize,
+    r: usize,
+    unit: f64,
+    stations: &[u32],
+    blocks: &[f64],
+    search: usize,
+    places: &mut [f64],
+    frames: &mut [f64],
+)
+    requires { ⌜ (search ≤ 20) × (r ≤ k) × (2 * k ≤ length (now stations)) × (3 * k ≤ length (now blocks)) × (2 * k ≤ length (now places)) × (4 * k ≤ length (now frames)) ⌝ }
+    requires { ⌜ Turns k (orderIn r (now stations)) ⌝ }
+    ensures { λ _. ⌜ pointsIn k (now (places .exit)) ≡ Place.places (framesIn unit k (now (blocks .entry))) (offsets search) (pointsIn k (now (places .entry))) (orderIn r (now (stations .entry))) ⌝ }
+{
+    place_all(
+        k,
+        r,
+        unit,
+        stations,
+        blocks,
+        &OFFSET_A,
+        &OFFSET_B,
+        search,
+        places,
+        frames,
+    );
 }
 
 // Station s's box at its place.

@@ -22,12 +22,10 @@ use Rattle.units.specs.Unit as Unit
 use Rattle.units.specs.Scale as Scale
 use Rattle.units.specs.Stages.Views.{sizesIn, scalesIn, rowCountsIn}
 use Rattle.units.proofs.Blocks.{sizes-view}
-use Rattle.offsets.specs.declared.offset.Offset.{Offset}
 use Rattle.offsets.specs.Offset.{offsets}
 use Rattle.turns.specs.Turns.{placementOrder}
 use Rattle.placement.specs.Place as Place
 use Rattle.placement.specs.Stages.Views.{framesIn}
-use Rattle.offsets.specs.Stages.OffsetList.{offsetsIn}
 use Rattle.plan.specs.Stages.Plan.{Interiors, Settled}
 
 module _ (o : Options) (sub kv : List ℕ) (from to : List ℤ) (service : List ℕ) (xy : List Float) (k : ℕ) where
@@ -67,16 +65,15 @@ module _ (o : Options) (sub kv : List ℕ) (from to : List ℤ) (service : List 
         finiteIs = f;
       }
 
-pub settled-joined : (sub kv : List ℕ) (k r c : ℕ) (unit : Float) (search : ℕ) (blocks : List Float) (seeds : List Point) (st keys sorted : List ℕ) (places frames : List Float)
+pub settled-joined : (sub kv : List ℕ) (k r : ℕ) (unit : Float) (search : ℕ) (blocks : List Float) (seeds : List Point) (st : List ℕ) (places frames : List Float)
     → countsIn k st ≡ busCounts sub
     → orderIn r st ≡ placementOrder sub kv (busCounts sub)
-    → offsetsIn c keys sorted ≡ offsets search
-    → pointsIn k places ≡ Place.places (framesIn unit k blocks) (offsetsIn c keys sorted) seeds (orderIn r st)
+    → pointsIn k places ≡ Place.places (framesIn unit k blocks) (offsets search) seeds (orderIn r st)
     → boxesIn k frames ≡ Place.boxes (framesIn unit k blocks) (countsIn k st) (pointsIn k places)
     → Settled sub kv k unit search blocks seeds st places frames
-settled-joined sub kv k r c unit search blocks seeds st keys sorted places frames cs od os ps bs =
+settled-joined sub kv k r unit search blocks seeds st places frames cs od ps bs =
     record {
       counts = cs;
-      placed = ps ∙ cc (od, os);
+      placed = ps ∙ cc od;
       boxes = bs ∙ cc cs;
     }

@@ -9,8 +9,7 @@ use network::options::Options;
 use network::refuse::finite_to;
 use network::seed::seeds;
 use network::words::bus_counts;
-use offsets::offset::offset_order;
-use placement::search::place_all;
+use placement::search::place_by_table;
 use placement::search::station_boxes;
 use stations::columns::columns;
 use stations::rows::rows;
@@ -97,22 +96,10 @@ pub fn settle(
     frames: &mut [f64],
 )
     requires { ⌜ (search ≤ 20) × (k ≤ 4096) × (length (now kv) ≡ length (now sub)) × (countsIn k (now stations) ≡ busCounts (now sub)) ⌝ }
-    requires { ⌜ (2 * k ≤ length (now stations)) × (k + 1681 ≤ length (now sorted)) × (k + 1681 ≤ length (now spare)) × (k + 1681 ≤ length (now keys)) × (3 * k ≤ length (now blocks)) × (2 * k ≤ length (now places)) × (4 * k ≤ length (now frames)) ⌝ }
+    requires { ⌜ (2 * k ≤ length (now stations)) × (k ≤ length (now sorted)) × (k ≤ length (now spare)) × (k ≤ length (now keys)) × (3 * k ≤ length (now blocks)) × (2 * k ≤ length (now places)) × (4 * k ≤ length (now frames)) ⌝ }
     ensures { λ _. ⌜ Settled (now (sub .entry)) (now (kv .entry)) k unit search (now (blocks .entry)) (pointsIn k (now (places .entry))) (now (stations .exit)) (now (places .exit)) (now (frames .exit)) ⌝ }
 {
     let r = placement_order(sub, kv, k, stations, keys, sorted, spare);
-    let c = offset_order(search, keys, sorted, spare);
-    place_all(
-        k,
-        r,
-        unit,
-        stations,
-        blocks,
-        keys,
-        sorted,
-        c,
-        places,
-        frames,
-    );
+    place_by_table(k, r, unit, stations, blocks, search, places, frames);
     station_boxes(k, unit, stations, blocks, places, frames);
 }

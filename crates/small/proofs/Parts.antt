@@ -25,7 +25,7 @@ front s n x h = ap (λ (k : ℕ). take k (replicate n x)) (sub-zero s) ∙ take-
 pub held-by : (o : Options) (N : Network) (L : Lists) (s c : ℕ) (a : Answer) (L' : Lists) (W' : Work) (X' : Crossings)
     → (s ≤ 128) × (c ≤ 128)
     → Answered o N L
-    (work (take (s - 0) (drop 0 (zeroNumbers 128))) (zeroNumbers 192) (zeroNumbers 320) (zeroNumbers 1873) (zeroNumbers 1873) (zeroNumbers 1873) (zeros 384) (zeros 192) (zeros 256) (zeros 232))
+    (work (take (s - 0) (drop 0 (zeroNumbers 128))) (zeroNumbers 192) (zeroNumbers 320) (zeroNumbers 513) (zeroNumbers 192) (zeroNumbers 192) (zeros 384) (zeros 192) (zeros 256) (zeros 232))
     (crossings (zeroNumbers 384) (take (c - 0) (drop 0 (zeros 128))) (zeros 256))
     (call a L' W' X')
     → Held o N L s c a L'

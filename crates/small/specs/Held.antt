@@ -19,7 +19,7 @@ zeros n = replicate n f0
 -- the work lists, the first with room for so many numbers, the others long enough for 64 buses and 64 branches, or fewer and a mesh
 abbrev pub workLists : ℕ → Work
 workLists stations =
-    work (zeroNumbers stations) (zeroNumbers 192) (zeroNumbers 320) (zeroNumbers 1873) (zeroNumbers 1873) (zeroNumbers 1873) (zeros 384) (zeros 192) (zeros 256) (zeros 232)
+    work (zeroNumbers stations) (zeroNumbers 192) (zeroNumbers 320) (zeroNumbers 513) (zeroNumbers 192) (zeroNumbers 192) (zeros 384) (zeros 192) (zeros 256) (zeros 232)
 
 -- a crossing list for so many crossings
 abbrev pub crossingLists : ℕ → Crossings

@@ -37,9 +37,9 @@ pub fn draw_small(
     let mut stations = [0u32; 128];
     let mut buses = [0u32; 192];
     let mut ends = [0u32; 320];
-    let mut sorted = [0u32; 1873];
-    let mut spare = [0u32; 1873];
-    let mut keys = [0u64; 1873];
+    let mut sorted = [0u32; 513];
+    let mut spare = [0u32; 192];
+    let mut keys = [0u64; 192];
     let mut places = [0f64; 384];
     let mut blocks = [0f64; 192];
     let mut frames = [0f64; 256];

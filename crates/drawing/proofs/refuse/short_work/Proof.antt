@@ -17,9 +17,6 @@ add-sorting c = omega (arith, c .pre .0, c .pre .1, c .pre .2)
 add-sorting-2 : tie.Need-add-sorting-2
 add-sorting-2 c = omega (arith, c .pre .0, c .pre .1, c .pre .2)
 
-add-sorting-3 : tie.Need-add-sorting-3
-add-sorting-3 c = omega (arith, c .pre .0, c .pre .1, c .pre .2)
-
 mul-if1 : tie.Need-mul-if1
 mul-if1 c = omega (arith, c .pre .0, c .pre .1, c .pre .2)
 
@@ -119,7 +116,6 @@ short-work-spec =
     mul-sorting
     add-sorting
     add-sorting-2
-    add-sorting-3
     mul-if1
     returns
     mul-if2

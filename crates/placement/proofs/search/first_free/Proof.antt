@@ -1,24 +1,28 @@
--- `placement::search::first_free` meets its contract: none of the offsets before j is free. Assumes nothing.
+-- `placement::search::first_free` meets its contract: none of the pairs before j within the search is free. Assumes nothing.
 use Prim.Native.Nat.{_≤_, _-_}
 use native.Mathlib.Omega.{arith}
+use lib.ListN.{length}
 use Rattle.network.specs.Views.{boxesIn}
 use Rattle.placement.specs.Stages.Views.{frame}
-use Rattle.placement.proofs.Searching.{First, first-start, first-hit, first-miss, first-end}
+use Rattle.placement.proofs.Searching.{First, first-start, first-skip, first-hit, first-miss, first-end}
 use borrow.Author.Needs.{needs}
 use Rattle.placement.proofs.search.first_free.Statement.{statement}
 use Rattle.placement.proofs.search.first_free.Tie as tie
 
 abbrev Inv-loop : tie.InvT-loop
-Inv-loop seed w h f widening keys sorted offsets frames count j₀ j = (j ≤ offsets) × First seed (frame w h f) (boxesIn count frames) widening keys sorted offsets j
+Inv-loop seed w h f widening a b search frames count j₀ j = (j ≤ length a) × First seed (frame w h f) (boxesIn count frames) widening a b search j
 
 abbrev μ-loop : tie.MeasureT-loop
-μ-loop seed w h f widening keys sorted offsets frames count j₀ j = offsets - j
+μ-loop seed w h f widening a b search frames count j₀ j = length a - j
 
 loop-holds : tie.Need-loop-holds Inv-loop μ-loop
 loop-holds c = (omega arith, first-start _ _ _ _ _ _ _)
 
-offset-at-requires : tie.Need-offset-at-requires Inv-loop μ-loop
-offset-at-requires c κs = search needs
+pair-at-requires : tie.Need-pair-at-requires Inv-loop μ-loop
+pair-at-requires c κs = search needs
+
+is-inside-requires : tie.Need-is-inside-requires Inv-loop μ-loop
+is-inside-requires c κs = search needs
 
 place-requires : tie.Need-place-requires Inv-loop μ-loop
 place-requires c κs = search needs
@@ -30,7 +34,7 @@ is-free-requires : tie.Need-is-free-requires Inv-loop μ-loop
 is-free-requires c κs = search needs
 
 returns : tie.Need-returns Inv-loop μ-loop
-returns c = first-hit _ _ _ _ _ _ _ _ _ _ _ (c .before .before .before .before .before .loop-test .taken) _ (c .before .before .before .before .offset-at .ensures) (c .before .before .before .place .ensures) (c .before .before .buffered .ensures) (c .before .is-free .ensures) (c .before .before .before .before .before .before .loop .inv .1) (c .if1 .taken)
+returns c = first-hit _ _ _ _ _ _ _ _ _ _ (c .before .before .before .before .before .before .before .loop-test .taken) (c .before .before .before .before .before .before .pair-at .ensures) (c .before .before .before .before .before .is-inside .ensures) (c .before .before .before .before .if1 .taken) _ _ _ (c .before .before .before .place .ensures) (c .before .before .buffered .ensures) (c .before .is-free .ensures) (c .before .before .before .before .before .before .before .before .loop .inv .1) (c .if2 .taken)
 
 add-j : tie.Need-add-j Inv-loop μ-loop
 add-j c = search needs
@@ -39,7 +43,16 @@ loop-less : tie.Need-loop-less Inv-loop μ-loop
 loop-less c = search needs
 
 loop-again : tie.Need-loop-again Inv-loop μ-loop
-loop-again c = (omega arith, first-miss _ _ _ _ _ _ _ _ _ _ _ (c .before .before .before .before .before .loop-test .taken) _ (c .before .before .before .before .offset-at .ensures) (c .before .before .before .place .ensures) (c .before .before .buffered .ensures) (c .before .is-free .ensures) (c .before .before .before .before .before .before .loop .inv .1) (c .if1 .left))
+loop-again c = (omega arith, first-miss _ _ _ _ _ _ _ _ _ _ (c .before .before .before .before .before .before .before .loop-test .taken) (c .before .before .before .before .before .before .pair-at .ensures) (c .before .before .before .before .before .is-inside .ensures) (c .before .before .before .before .if1 .taken) _ _ _ (c .before .before .before .place .ensures) (c .before .before .buffered .ensures) (c .before .is-free .ensures) (c .before .before .before .before .before .before .before .before .loop .inv .1) (c .if2 .left))
+
+add-j-2 : tie.Need-add-j-2 Inv-loop μ-loop
+add-j-2 c = search needs
+
+loop-less-2 : tie.Need-loop-less-2 Inv-loop μ-loop
+loop-less-2 c = search needs
+
+loop-again-2 : tie.Need-loop-again-2 Inv-loop μ-loop
+loop-again-2 c = (omega arith, first-skip _ _ _ _ _ _ _ _ _ _ (c .before .before .before .loop-test .taken) (c .before .before .pair-at .ensures) (c .before .is-inside .ensures) (c .if1 .left) (c .before .before .before .before .loop .inv .1))
 
 returns-2 : tie.Need-returns-2 Inv-loop μ-loop
 returns-2 c = first-end _ _ _ _ _ _ _ _ (c .loop-test .left) (c .before .loop .inv .1)
@@ -51,7 +64,8 @@ first-free-spec =
     Inv-loop
     μ-loop
     loop-holds
-    offset-at-requires
+    pair-at-requires
+    is-inside-requires
     place-requires
     buffered-requires
     is-free-requires
@@ -59,4 +73,7 @@ first-free-spec =
     add-j
     loop-less
     loop-again
+    add-j-2
+    loop-less-2
+    loop-again-2
     returns-2)

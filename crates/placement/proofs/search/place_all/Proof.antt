@@ -6,17 +6,17 @@ use lib.ListN.{length, getD}
 use Rattle.order.proofs.Strides.{getD-strided, length-strided}
 use Rattle.network.specs.Views.{orderIn, pointsIn}
 use Rattle.placement.specs.Stages.Views.{framesIn}
-use Rattle.offsets.specs.Stages.OffsetList.{offsetsIn}
+use Rattle.offset_table.specs.Table.{skipped, pairsIn}
 use Rattle.placement.proofs.Placing.{Placed, placed-none, placed-more, placed-end, turn-below}
 use borrow.Author.Needs.{needs}
 use Rattle.placement.proofs.search.place_all.Statement.{statement}
 use Rattle.placement.proofs.search.place_all.Tie as tie
 
 abbrev Inv-loop : tie.InvT-loop
-Inv-loop k r unit stations blocks keys sorted offsets places₀ frames₀ p₀ places frames p = (p ≤ r) × (length places ≡ length places₀) × (length frames ≡ length frames₀) × Placed (framesIn unit k blocks) (offsetsIn offsets keys sorted) (pointsIn k places₀) (orderIn r stations) k p places frames
+Inv-loop k r unit stations blocks a b search places₀ frames₀ p₀ places frames p = (p ≤ r) × (length places ≡ length places₀) × (length frames ≡ length frames₀) × Placed (framesIn unit k blocks) (skipped search (pairsIn a b)) (pointsIn k places₀) (orderIn r stations) k p places frames
 
 abbrev μ-loop : tie.MeasureT-loop
-μ-loop k r unit stations blocks keys sorted offsets places₀ frames₀ p₀ places frames p = r - p
+μ-loop k r unit stations blocks a b search places₀ frames₀ p₀ places frames p = r - p
 
 loop-holds : tie.Need-loop-holds Inv-loop μ-loop
 loop-holds c = (omega arith, refl, refl, placed-none _ _ _ _ _ _)
@@ -34,12 +34,12 @@ shared-slice-read-s : tie.Need-shared-slice-read-s Inv-loop μ-loop
 shared-slice-read-s c = search needs
 
 cast-s : tie.Need-cast-s Inv-loop μ-loop
-cast-s c = omega (arith, c .shared-slice-known5 .given (2 * c .before .before .loop .p + 1))
+cast-s c = omega (arith, c .shared-slice-known3 .given (2 * c .before .before .loop .p + 1))
 
 place-station-requires : tie.Need-place-station-requires Inv-loop μ-loop
 place-station-requires c κs =
     let l = c .before .before .before .before in
-    let s = c .before .before .before .before .before .before .before .before .before .before .before in
+    let s = c .before .before .before .before .before .before .before .before .before in
     let h : getD (s .args .stations .now) (2 * l .loop .p + 1) 0 < s .args .k = turn-below _ _ _ _ (s .pre .1) (omega arith) in
     (omega (arith, h, s .pre .0), omega (arith, h, s .pre .0, l .loop .inv .1), omega (arith, s .pre .0, l .loop .inv .2))
 
@@ -52,7 +52,7 @@ loop-less c = search needs
 loop-again : tie.Need-loop-again Inv-loop μ-loop
 loop-again c =
     let l = c .before .before .before .before .before .before .before .before .before in
-    let s = c .before .before .before .before .before .before .before .before .before .before .before .before .before .before .before .before in
+    let s = c .before .before .before .before .before .before .before .before .before .before .before .before .before .before in
     let t = c .before .before .before .before in
     let h : l .loop .p < length (orderIn (s .args .r) (s .args .stations .now)) = rw (length-strided 2 1 0 (s .args .r) (s .args .stations .now)) (omega arith) in (
       omega arith,

@@ -99,7 +99,7 @@ same-length-2 c = search needs
 returns : tie.Need-returns
 unfolding frameFor
 returns c =
-    let s = c .before .before .before .before .before .before .before .before .before .before .before .before .before .before .before .before .before in
+    let s = c .before .before .before .before .before .before .before .before .before .before .before .before .before .before .before in
     record {
       at = c .before .before .before .before .before .place-for .result;
       chosen = c .before .before .before .before .before .place-for .ensures;
