@@ -6,7 +6,7 @@ use mathlib.Core.List.{List, [], _∷_, _++_}
 use Prim.Native.Nat.{ℕ, _+_, _*_, _-_, _≤_}
 use native.Mathlib.Omega.{arith}
 use lib.IntN.{ℤ}
-use lib.ListN.{length, take, drop, length-append}
+use lib.ListN.{length, take, drop}
 use lib.Ieee.{Float}
 use Rattle.network.specs.declared.options.Options.{Options}
 use Rattle.drawing.specs.declared.answer.Plot.{Plot}
@@ -99,17 +99,6 @@ few-read t n h =
     let w = answered (parsed t) n h in
     let s = parsed-shape t in
     (omega (arith, w .1, s .0 .few), omega (arith, w .2, s .1 .few))
-
--- A list keeps its length where what is written over it is no longer.
-pub written-fits : {A : Type 0} (new old list : List A) → list ≡ over new old → length list ≡ length old → length new ≤ length old
-unfolding over
-written-fits new old list e h =
-    let k : length list ≡ length new + length (drop (length new) old) = ap length e ∙ length-append new (drop (length new) old) in omega (arith, k, h)
-
--- What is printed of one text is printed of an equal one.
-pub printed : (s t : List ℕ) (out behind : List ℕ) (r : ℕ)
-    → s ≡ t → r ≡ length s → behind ≡ over s out → (r ≡ length t) × (behind ≡ over t out)
-printed s t out behind r e h k = (h ∙ ap length e, k ∙ ap (λ (x : List ℕ). over x out) e)
 
 whole : {A : Type 0} (n : ℕ) (l : List A) → take (n - 0) (drop 0 l) ≡ take n l
 whole n l = let e : n - 0 ≡ n = omega arith in ap (λ (k : ℕ). take k l) e

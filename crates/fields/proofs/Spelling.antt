@@ -43,6 +43,16 @@ pub put-over : (l s : List ℕ) → length s ≤ length l → putAt l 0 s ≡ ov
 unfolding putAt over
 put-over l s h = let e : 0 + length s ≡ length s = omega arith in sets-eq s l 0 (omega arith) ∙ ap (λ (n : ℕ). s ++ drop n l) e
 
+-- what was put is known by another name
+pub put-same : (l m : List ℕ) (at r : ℕ) (s t : List ℕ) → s ≡ t → (r ≡ at + length s) × (m ≡ putAt l at s) → (r ≡ at + length t) × (m ≡ putAt l at t)
+put-same l m at r s t e h = subst (λ (u : List ℕ). (r ≡ at + length u) × (m ≡ putAt l at u)) e h
+
+-- a byte and what follows it
+pub put-after : (l m : List ℕ) (at r x : ℕ) (s t : List ℕ) → x ∷ s ≡ t → (r ≡ at + 1 + length s) × (m ≡ putAt (set l at x) (at + 1) s)
+    → (r ≡ at + length t) × (m ≡ putAt l at t)
+unfolding putAt
+put-after l m at r x s t e h = put-same l m at r (x ∷ s) t e (omega (arith, h .0), h .1 ∙ ap (λ (n : ℕ). sets (set l at x) n s) (add-one at))
+
 -- ---- the loop of `spell`
 pub length-digits : (base k n : ℕ) → length (digits base k n) ≡ k
 unfolding digits

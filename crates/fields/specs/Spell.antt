@@ -1,8 +1,9 @@
--- 01, Worked drawings: the fields of drawlist's output. Definitions only.
+-- 01, Worked drawings: the fields of drawlist's output, and 02, change 3: those of the table of offsets. Definitions only.
 use Prim.Native.Nat.{ℕ, zero, suc, _+_, _/_, _%_}
 use mathlib.Core.Bool.{true, false, cond}
 use mathlib.Core.List.{List, [], _∷_, _++_}
 use lib.Dec.{ltb}
+use lib.IntN.{ℤ, pos, negsuc}
 use lib.Seq.{sets}
 use lib.Ieee.{Float, eq, ofBits, toBits, binary64}
 
@@ -25,6 +26,12 @@ placesIn (suc f) n = elim (ltb n 10) [ true ↦ 1 | false ↦ suc (placesIn f (n
 unfoldable pub numberField : ℕ → ℕ → List ℕ
 unfolding digits placesIn
 numberField stop n = digits 10 (placesIn n n) n ++ (stop ∷ [])
+
+-- a signed number, with a minus where it is negative, and the byte that closes it
+unfoldable pub signedField : ℕ → ℤ → List ℕ
+unfolding numberField
+signedField stop (pos n) = numberField stop n
+signedField stop (negsuc n) = 45 ∷ numberField stop (suc n)
 
 -- the bits of a float, those of +0 for every zero
 unfoldable pub shown : Float → ℕ

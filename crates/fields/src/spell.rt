@@ -2,7 +2,7 @@
 ghost use mathlib.Core.Path.{_≡_};
 ghost use Prim.Native.Nat.{_+_, _^_, _≤_, _<_};
 ghost use lib.ListN.{length};
-ghost use Rattle.fields.specs.Spell.{glyph as glyphOf, digits, placesIn, numberField, shown as shownOf, floatField, putAt};
+ghost use Rattle.fields.specs.Spell.{glyph as glyphOf, digits, placesIn, numberField, signedField, shown as shownOf, floatField, putAt};
 
 // The byte of a digit.
 fn glyph(d: u64) -> u8
@@ -49,6 +49,20 @@ pub fn number_field(n: u32, stop: u8, at: usize, out: &mut [u8]) -> usize
     spell(n as u64, 10, k, at, out);
     out[at + k] = stop;
     at + k + 1
+}
+
+// A signed number and the byte that closes it; the place after them.
+pub fn signed_field(n: i32, stop: u8, at: usize, out: &mut [u8]) -> usize
+    requires { ⌜ at + 12 ≤ length (now out) ⌝ }
+    ensures { λ r. ⌜ r ≤ at + 12 ⌝ }
+    ensures { λ r. ⌜ r ≡ at + length (signedField stop n) ⌝ }
+    ensures { λ _. ⌜ now (out .exit) ≡ putAt (now (out .entry)) at (signedField stop n) ⌝ }
+{
+    if n < 0 {
+        out[at] = 45;
+        return number_field((-1 - n) as u32 + 1, stop, at + 1, out);
+    }
+    number_field(n as u32, stop, at, out)
 }
 
 // The bits of x, 0 for every zero.

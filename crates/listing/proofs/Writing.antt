@@ -4,7 +4,7 @@ use mathlib.Core.List.{List, [], _∷_, _++_}
 use Prim.Native.Nat.{ℕ, _+_, _*_, _^_, _≤_, _<_}
 use native.Mathlib.Omega.{arith}
 use native.Mathlib.Numerals.{add-one}
-use lib.ListN.{length, getD, take, set, length-append, length-set}
+use lib.ListN.{length, getD, take, drop, set, length-append, length-set}
 use lib.Seq.{take-suc, take-length, length-take-le}
 use lib.Ieee.{Float, nan}
 use Rattle.order.specs.Table.{joined}
@@ -86,32 +86,43 @@ wrote-line l l₁ l₂ l₃ l₄ at p₁ p₂ p₃ p₄ roles pieces branches i 
     wrote-two l l₁ l₄ _ _ at p₁ p₄ g v in
     subst (λ (s : List ℕ). Wrote l at s l₄ p₄) (cc (e, f)) w
 
--- ---- the loop of `piece_lines`, for lines of at most 83 bytes
-pub record Listed (line : ℕ → List ℕ) (count : ℕ) (l₀ l : List ℕ) (at i p : ℕ) : Type 0 where
+-- ---- a loop that writes line after line, each of at most `most` bytes
+pub record Listed (line : ℕ → List ℕ) (most count : ℕ) (l₀ l : List ℕ) (at i p : ℕ) : Type 0 where
   pub below : i ≤ count
-  pub room : p ≤ at + 83 * i
+  pub room : p ≤ at + most * i
   pub size : length l ≡ length l₀
   pub is : Wrote l₀ at (joined line i) l p
 
-pub listed-none : (line : ℕ → List ℕ) (count : ℕ) (l : List ℕ) (at : ℕ) → Listed line count l l at 0 at
+pub listed-none : (line : ℕ → List ℕ) (most count : ℕ) (l : List ℕ) (at : ℕ) → Listed line most count l l at 0 at
 unfolding joined putAt
-listed-none line count l at = record { below = omega arith; room = omega arith; size = refl; is = (omega arith, refl) }
+listed-none line most count l at = record { below = omega arith; room = omega arith; size = refl; is = (omega arith, refl) }
 
-pub listed-more : (line : ℕ → List ℕ) (count : ℕ) (l₀ l l′ : List ℕ) (at i p p′ : ℕ) → Listed line count l₀ l at i p → i < count
-    → length l′ ≡ length l → p′ ≤ p + 83 → Wrote l p (line i) l′ p′ → Listed line count l₀ l′ at (i + 1) p′
+pub listed-more : (line : ℕ → List ℕ) (most count : ℕ) (l₀ l l′ : List ℕ) (at i p p′ : ℕ) → Listed line most count l₀ l at i p → i < count
+    → length l′ ≡ length l → p′ ≤ p + most → Wrote l p (line i) l′ p′ → Listed line most count l₀ l′ at (i + 1) p′
 unfolding joined
-listed-more line count l₀ l l′ at i p p′ m h s r w = record {
+listed-more line most count l₀ l l′ at i p p′ m h s r w = record {
   below = omega arith;
   room = omega (arith, m .room);
   size = s ∙ m .size;
   is = subst (λ (k : List ℕ). Wrote l₀ at k l′ p′) (ap (joined line) (sym (add-one i))) (wrote-two l₀ l l′ (joined line i) (line i) at p p′ (m .is) w);
 }
 
-pub listed-all : (line : ℕ → List ℕ) (count : ℕ) (l₀ l : List ℕ) (at i p : ℕ) → Listed line count l₀ l at i p → count ≤ i → Wrote l₀ at (joined line count) l p
-listed-all line count l₀ l at i p m h = let e : i ≡ count = omega (arith, m .below) in subst (λ (k : ℕ). Wrote l₀ at (joined line k) l p) e (m .is)
+pub listed-all : (line : ℕ → List ℕ) (most count : ℕ) (l₀ l : List ℕ) (at i p : ℕ) → Listed line most count l₀ l at i p → count ≤ i → Wrote l₀ at (joined line count) l p
+listed-all line most count l₀ l at i p m h = let e : i ≡ count = omega (arith, m .below) in subst (λ (k : ℕ). Wrote l₀ at (joined line k) l p) e (m .is)
 
 -- ---- a whole text, in two parts
 pub wrote-text : (l l′ l″ a b : List ℕ) (r r′ : ℕ) → Wrote l 0 a l′ r → Wrote l′ r b l″ r′ → r′ ≤ length l → (r′ ≡ length (a ++ b)) × (l″ ≡ over (a ++ b) l)
 wrote-text l l′ l″ a b r r′ h k g =
     let w : Wrote l 0 (a ++ b) l″ r′ = wrote-two l l′ l″ a b 0 r r′ h k in
     wrote-over l l″ (a ++ b) r′ w (omega (arith, w .0))
+
+-- A list keeps its length where what is written over it is no longer.
+pub written-fits : {A : Type 0} (new old list : List A) → list ≡ over new old → length list ≡ length old → length new ≤ length old
+unfolding over
+written-fits new old list e h =
+    let k : length list ≡ length new + length (drop (length new) old) = ap length e ∙ length-append new (drop (length new) old) in omega (arith, k, h)
+
+-- What is printed of one text is printed of an equal one.
+pub printed : (s t : List ℕ) (out behind : List ℕ) (r : ℕ)
+    → s ≡ t → r ≡ length s → behind ≡ over s out → (r ≡ length t) × (behind ≡ over t out)
+printed s t out behind r e h k = (h ∙ ap length e, k ∙ ap (λ (x : List ℕ). over x out) e)

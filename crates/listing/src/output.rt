@@ -11,7 +11,7 @@ use fields::spell::number_field;
 use geometry::number_at;
 
 // The bytes s; the place after them.
-fn word(s: &[u8], at: usize, out: &mut [u8]) -> usize
+pub fn word(s: &[u8], at: usize, out: &mut [u8]) -> usize
     requires { ⌜ at + length (now s) ≤ length (now out) ⌝ }
     ensures { λ r. ⌜ r ≡ at + length (now (s .entry)) ⌝ }
     ensures { λ _. ⌜ now (out .exit) ≡ putAt (now (out .entry)) at (now (s .entry)) ⌝ }

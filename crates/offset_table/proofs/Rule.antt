@@ -1,7 +1,7 @@
 -- The table's rule: strictly rising by a² + b², a, b, each pair within 20, every one there, by one test each over the whole table. Assumes nothing.
 --     table-offsets                        its pairs within a search, in their order, are 01's offsets
 --     table-whole                          all of them are 01's offsets for search 20
---     table-rises, table-within, table-all what this says at each entry
+--     table-complete                       what this says of its entries, in 01's words
 use mathlib.Core.Path.{_≡_, refl, sym, ap, subst, _∙_}
 use mathlib.Core.Logic.{_⊎_, inl, inr, ⊎-elim}
 use mathlib.Core.Bool.{Bool, true, false, _&&_, _||_}
@@ -19,7 +19,8 @@ use Rattle.order.proofs.Merging.{le-or-lt}
 use Rattle.offsets.specs.declared.offset.Offset.{Offset}
 use Rattle.offsets.specs.Offset.{offsetNumber, offsetOf, gridNumber, offsetGrid, offsets}
 use Rattle.offsets.proofs.Grids.{minus-high, minus-low}
-use Rattle.offsets.proofs.OffsetLaw.{Within, Precedes, pair, stands, number-in, grid-has, numbers-rise, offsets-rise, offsets-within, offsets-all}
+use Rattle.offsets.specs.Complete.{Complete}
+use Rattle.offsets.proofs.OffsetLaw.{pair, stands, number-in, grid-has, numbers-rise, offsets-complete}
 use Rattle.offset_table.specs.Table.{codes, tablePairs, inside, skipped}
 use Rattle.offset_table.specs.Tests.{rising, formed, has, hasRow, hasRows}
 
@@ -336,13 +337,5 @@ table-whole =
     (λ c i. sort-in (λ x. x) c (offsetGrid 20) (to-grid 20 within c i (all-near c i)))
     (λ c i. from-grid 20 within c (in-sort (λ x. x) c (offsetGrid 20) i) .0))
 
-pub table-rises : (i j : ℕ) (d : Offset) → i < j → j < length tablePairs → Precedes (getD tablePairs i d) (getD tablePairs j d)
-table-rises i j d h =
-    subst (λ (l : List Offset). j < length l → Precedes (getD l i d) (getD l j d)) (sym table-whole) (offsets-rise 20 within i j d h)
-
-pub table-within : (j : ℕ) (d : Offset) → j < length tablePairs → Within 20 (getD tablePairs j d)
-table-within j d = subst (λ (l : List Offset). j < length l → Within 20 (getD l j d)) (sym table-whole) (offsets-within 20 within j d)
-
-pub table-all : (o d : Offset) → Within 20 o → (j : ℕ) × (j < length tablePairs) × (getD tablePairs j d ≡ o)
-table-all o d w =
-    subst (λ (l : List Offset). (j : ℕ) × (j < length l) × (getD l j d ≡ o)) (sym table-whole) (offsets-all 20 within o d w)
+pub table-complete : Complete 20 tablePairs
+table-complete = subst (Complete 20) (sym table-whole) (offsets-complete 20 within)

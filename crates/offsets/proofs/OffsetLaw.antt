@@ -1,6 +1,7 @@
 -- 01: offsets (a, b), both from −search to search, run by a² + b², a, b. Each of them stands in the list, and none twice. Assumes nothing.
 --     offsets-within, offsets-all     an offset stands in the list exactly if both its numbers are within the search
 --     offsets-rise, offsets-once      the list is strictly rising in this order, so none stands there twice
+--     offsets-complete                all four in one
 use mathlib.Core.Path.{_≡_, refl, sym, ap, subst, _∙_}
 use mathlib.Core.Logic.{_⊎_, inl, inr, ⊎-elim}
 use mathlib.Core.List.{List, map, map-map}
@@ -17,21 +18,10 @@ use Rattle.order.proofs.Merging.{le-or-lt, length-sort}
 use Rattle.order.proofs.Laws.{sorted, length-up, below-sort, rank-found, place-law, getD-map}
 use Rattle.order.proofs.Strides.{place-element, place-offset}
 use Rattle.offsets.specs.declared.offset.Offset.{Offset}
+use Rattle.offsets.specs.Complete.{Within, distance, Precedes, Complete}
 use Rattle.offsets.specs.Offset.{square, offsetNumber, offsetOf, gridNumber, offsetGrid, offsets}
 use Rattle.offsets.proofs.Grids.{square-low, square-high, row-below, minus-high, minus-low}
 use Rattle.order.proofs.Sorting.{sort-map}
-
--- both numbers of an offset are from −search to search
-abbrev pub Within : ℕ → Offset → Type 0
-Within search o = (natAbs (o .a) ≤ search) × (natAbs (o .b) ≤ search)
-
--- a² + b²
-abbrev pub distance : Offset → ℕ
-distance o = natAbs (o .a) * natAbs (o .a) + natAbs (o .b) * natAbs (o .b)
-
--- o runs before q: by a² + b², a, b
-abbrev pub Precedes : Offset → Offset → Type 0
-Precedes o q = (distance o < distance q) ⊎ ((distance o ≡ distance q) × ((o .a <ℤ q .a) ⊎ ((o .a ≡ q .a) × (o .b <ℤ q .b))))
 
 -- ---- u stands for u - 20
 abbrev pub offset : ℤ → ℤ → Offset
@@ -271,6 +261,14 @@ module _ (search : ℕ) (S : search ≤ 20) where
       go (inr l) m = absurd (never (getD (offsets search) j d) (getD (offsets search) i d) (sym e) (offsets-rise j i d l h))
       go (inl l) (inr m) = absurd (never (getD (offsets search) i d) (getD (offsets search) j d) e (offsets-rise i j d m k))
       go (inl l) (inl m) = omega arith
+
+  pub offsets-complete : Complete search (offsets search)
+  offsets-complete = record {
+    within = λ j d l. offsets-within j d l;
+    all = λ o d w. offsets-all o d w;
+    rise = λ i j d h l. offsets-rise i j d h l;
+    once = λ i j d h k e. offsets-once i j d h k e;
+  }
 
   -- ---- the numbers of the grid
   side-in : (u : ℕ) → u < 41 → natAbs (minus u 20) ≤ search → (first ≤ u) × (u - first < side)

@@ -1,2 +1,3 @@
 pub mod Offset
+pub mod Complete
 pub mod Stages

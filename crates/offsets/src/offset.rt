@@ -6,6 +6,7 @@ ghost use lib.ListN.{length, drop};
 ghost use Rattle.order.specs.Order.{upFrom};
 ghost use Rattle.order.specs.Table.{table};
 ghost use Rattle.offsets.specs.Offset.{square, offsetNumber, gridNumber, offsets};
+ghost use Rattle.offsets.specs.Complete.{Complete};
 ghost use Rattle.offsets.specs.Stages.OffsetList.{offsetAt, offsetsIn};
 use order::at;
 use order::key_at;
@@ -59,10 +60,10 @@ fn number_first(list: &mut [u32], c: usize)
     number(&mut list[0..c]);
 }
 
-// The offsets in their order: `offset_at` reads them.
+// The generator: for each search from 0 to 20 every pair within it, once, in order. It returns how many there are; `offset_at` reads them.
 pub fn offset_order(search: usize, keys: &mut [u64], sorted: &mut [u32], spare: &mut [u32]) -> usize
     requires { ⌜ (search ≤ 20) × (1681 ≤ length (now keys)) × (1681 ≤ length (now sorted)) × (1681 ≤ length (now spare)) ⌝ }
-    ensures { λ r. ⌜ (r ≡ suc (2 * search) * suc (2 * search)) × (offsetsIn r (now (keys .exit)) (now (sorted .exit)) ≡ offsets search) ⌝ }
+    ensures { λ r. ⌜ (r ≡ suc (2 * search) * suc (2 * search)) × (offsetsIn r (now (keys .exit)) (now (sorted .exit)) ≡ offsets search) × Complete search (offsetsIn r (now (keys .exit)) (now (sorted .exit))) ⌝ }
 {
     let side = 2 * search + 1;
     let count = side * side;

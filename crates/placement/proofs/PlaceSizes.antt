@@ -18,7 +18,7 @@ use Rattle.units.specs.Size.{Size, larger}
 use Rattle.offsets.specs.declared.offset.Offset.{Offset}
 use Rattle.placement.specs.declared.search.Found.the-variants.{At}
 use Rattle.placement.specs.Place.{Frame, frameFor, boxOn, buffered, free, place, firstFree, orNext, placeFor}
-use Rattle.offsets.proofs.OffsetLaw.{Within}
+use Rattle.offsets.specs.Complete.{Within}
 
 -- both sides are at most 2 ^ (k - 1074)
 pub record Sides (k : ℕ) (z : Size) : Type 0 where

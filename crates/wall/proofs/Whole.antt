@@ -43,7 +43,8 @@ use Rattle.turns.proofs.Queue.{order-turns}
 use Rattle.order.proofs.Sorting.{map-agree}
 use Rattle.placement.proofs.Placing.{all-of}
 use Rattle.placement.proofs.PlaceLaw.{place-of}
-use Rattle.offsets.proofs.OffsetLaw.{offsets-within, offsets-all, offsets-rise, offsets-once}
+use Rattle.offsets.specs.Complete.{Complete}
+use Rattle.offsets.proofs.OffsetLaw.{offsets-complete}
 use Rattle.turns.proofs.OrderLaw.{bus-occupied, occupied-bus, tops, order-law}
 use Rattle.placement.proofs.NoOverlap.{order-covers, Finite, box-at, no-overlap}
 use Rattle.placement.proofs.Rank.{Plus}
@@ -61,7 +62,7 @@ use Rattle.findings.specs.declared.answer.Audit.the-variants.{Audited}
 use Rattle.findings.specs.Drawn as Audit
 use Rattle.findings.specs.Answer.{auditOf, boxesOf}
 use Rattle.findings.proofs.Accepted.{accepted-apart}
-use Rattle.wall.specs.Wall.{Joins, kind, allKinds, roleOf, Kinds, HasRow, rowNumber, Rows, seed, Units, order, Offsets, searched, frameIn, earlier, isFree, Boxes, positionIn, rowEndIn, pieceIn, piecesIn, coincide, joining, pointsBy, pointsOf, runOf, lineRun, otherRun, Runs, auditParts, audited, Wall}
+use Rattle.wall.specs.Wall.{Joins, kind, allKinds, roleOf, Kinds, HasRow, rowNumber, Rows, seed, Units, order, searched, frameIn, earlier, isFree, Boxes, positionIn, rowEndIn, pieceIn, piecesIn, coincide, joining, pointsBy, pointsOf, runOf, lineRun, otherRun, Runs, auditParts, audited, Wall}
 use Rattle.wall.proofs.Joins.{AllGood, joins, unbroken, absent}
 use Rattle.wall.proofs.Every.{Every, every-at, every-table, every-append, every-joined, every-within, pick-every}
 use Rattle.wall.proofs.NoMinus.{NoMinus, block, buffer-plus, unit-nm, scale-nm, finite-add}
@@ -390,16 +391,8 @@ module _ (o : Options) (N : Network) (L : Lists) (W : Work) (X : Crossings) (p :
         by = λ P i j h k v w S U. order-law (N .station) (N .kv) P few i j h k v w S U;
       }
 
-  offsets-of : Offsets (searchOf (o .search)) (searched o)
-  offsets-of =
-      let n = searchOf (o .search) in
-      let h : searchOf (o .search) ≤ 20 = search-fits (o .search) (ranges o (in-range o N L W X p drawn) .search) in
-      record {
-        within = λ j d l. offsets-within n h j d l;
-        all = λ q d w. offsets-all n h q d w;
-        rise = λ i j d l k. offsets-rise n h i j d l k;
-        once = λ i j d l k e. offsets-once n h i j d l k e;
-      }
+  offsets-of : Complete (searchOf (o .search)) (searched o)
+  offsets-of = offsets-complete (searchOf (o .search)) (search-fits (o .search) (ranges o (in-range o N L W X p drawn) .search))
 
   boxes-of : Boxes o N exit p
   boxes-of =

@@ -7,8 +7,7 @@ use mathlib.Core.Bool.{Bool, true, false, cond, _&&_, _||_}
 use mathlib.Core.List.{List, [], _∷_, _++_, map}
 use mathlib.Core.Option.{Option, none, some}
 use lib.Dec.{T, eqb, leb, ltb}
-use lib.IntN.{ℤ, pos, negsuc, natAbs}
-use lib.Signed.{_<ℤ_}
+use lib.IntN.{ℤ, pos, negsuc}
 use lib.ListN.{length, getD, take}
 use lib.Ieee.{Float, binary64, nan, eq, lt, le, toBits}
 use Rattle.float.specs.Small.{maxOf}
@@ -32,6 +31,7 @@ use Rattle.units.specs.Size.{Size, sizes}
 use Rattle.units.specs.Unit.{coordinates, spacing, typical, unitFor}
 use Rattle.units.specs.Scale.{scales}
 use Rattle.offsets.specs.declared.offset.Offset.{Offset}
+use Rattle.offsets.specs.Complete.{Complete}
 use Rattle.offsets.specs.Offset.{offsets}
 use Rattle.placement.specs.Place.{Frame, boxOn, buffered, free, place, tries, FirstOf}
 use Rattle.turns.specs.Turns.{placementOrder}
@@ -196,25 +196,6 @@ pub record Turns (N : Network) : Type 0 where
   pub by : Patterns N → (i j : ℕ) → i < length (order N) → j < length (order N) → (v w : ℕ) → Top N (turn N i) v → Top N (turn N j) w
       → (i < j → PlacedBefore N (turn N i) v (turn N j) w) × (PlacedBefore N (turn N i) v (turn N j) w → i < j)
 
--- both numbers of an offset are from −search to search
-abbrev pub Within : ℕ → Offset → Type 0
-Within search q = (natAbs (q .a) ≤ search) × (natAbs (q .b) ≤ search)
-
--- a² + b²
-abbrev pub distance : Offset → ℕ
-distance q = natAbs (q .a) * natAbs (q .a) + natAbs (q .b) * natAbs (q .b)
-
--- q runs before r: by a² + b², a, b
-abbrev pub Precedes : Offset → Offset → Type 0
-Precedes q r = (distance q < distance r) ⊎ ((distance q ≡ distance r) × ((q .a <ℤ r .a) ⊎ ((q .a ≡ r .a) × (q .b <ℤ r .b))))
-
--- A list of offsets has each within the search, once, and runs in this order.
-pub record Offsets (search : ℕ) (l : List Offset) : Type 0 where
-  pub within : (j : ℕ) (d : Offset) → j < length l → Within search (getD l j d)
-  pub all : (q d : Offset) → Within search q → (j : ℕ) × (j < length l) × (getD l j d ≡ q)
-  pub rise : (i j : ℕ) (d : Offset) → i < j → j < length l → Precedes (getD l i d) (getD l j d)
-  pub once : (i j : ℕ) (d : Offset) → i < length l → j < length l → getD l i d ≡ getD l j d → i ≡ j
-
 -- the offsets of a drawing's search
 abbrev pub searched : Options → List Offset
 searched o = offsets (searchOf (o .search))
@@ -242,8 +223,8 @@ pub record Boxes (o : Options) (N : Network) (L : Lists) (p : Plot) : Type 0 whe
   pub stands : (s : ℕ) → Occupied N s → boxAt (L .boxes) s ≡ boxOn (places s) (frameIn N p L s .half)
   -- Stations are placed one after another, in this order.
   pub turns : Turns N
-  -- Offsets are those within the search, in their order.
-  pub offsets : Offsets (searchOf (o .search)) (searched o)
+  -- Offsets are those within the search, each once, in their order.
+  pub offsets : Complete (searchOf (o .search)) (searched o)
   -- The i-th station's place is the first free one of the search, or its seed if none is free.
   pub first : (i : ℕ) → i < length (order N)
       → FirstOf (isFree N L p i) (tries (seed N (turn N i)) (frameIn N p L (turn N i) .half) (searched o)) (seed N (turn N i)) (places (turn N i))

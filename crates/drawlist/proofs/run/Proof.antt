@@ -1,6 +1,6 @@
 -- `drawlist::run` meets its contract. Assumes nothing.
 use native.Mathlib.Omega.{arith}
-use Rattle.drawlist.proofs.Listed.{written-fits}
+use Rattle.listing.proofs.Writing.{written-fits}
 use borrow.Author.Needs.{needs}
 use Rattle.drawlist.proofs.run.Statement.{statement}
 use Rattle.drawlist.proofs.run.Tie as tie

@@ -1,5 +1,6 @@
 use native.Mathlib.Omega.{arith}
-use Rattle.drawlist.proofs.Listed.{text-drawn, text-refused, few-pieces, printed}
+use Rattle.listing.proofs.Writing.{printed}
+use Rattle.drawlist.proofs.Listed.{text-drawn, text-refused, few-pieces}
 -- `drawlist::draw::list_drawing` meets its contract. Assumes nothing.
 use borrow.Author.Needs.{needs}
 use Rattle.drawlist.proofs.draw.list_drawing.Statement.{statement}

@@ -1,4 +1,5 @@
-use Rattle.drawlist.proofs.Listed.{fronts, printed}
+use Rattle.listing.proofs.Writing.{printed}
+use Rattle.drawlist.proofs.Listed.{fronts}
 -- `drawlist::draw::list_front` meets its contract. Assumes nothing.
 use borrow.Author.Needs.{needs}
 use Rattle.drawlist.proofs.draw.list_front.Statement.{statement}

@@ -1,6 +1,7 @@
 use native.Mathlib.Omega.{arith}
 use mathlib.Core.Path.{_∙_, sym}
-use Rattle.drawlist.proofs.Listed.{output-drawn, output-malformed, few-read, printed}
+use Rattle.listing.proofs.Writing.{printed}
+use Rattle.drawlist.proofs.Listed.{output-drawn, output-malformed, few-read}
 -- `drawlist::draw::list_parsed` meets its contract. Assumes nothing.
 use borrow.Author.Needs.{needs}
 use Rattle.drawlist.proofs.draw.list_parsed.Statement.{statement}

@@ -1,8 +1,10 @@
 -- `offsets::offset::offset_order` meets its contract. Assumes nothing.
 use Prim.Native.Nat.{suc, _+_, _*_}
-use mathlib.Core.Path.{_≡_}
+use mathlib.Core.Path.{_≡_, sym, subst}
 use native.Mathlib.Omega.{arith}
+use Rattle.offsets.specs.Complete.{Complete}
 use Rattle.offsets.proofs.Grids.{side-square, grid-offsets}
+use Rattle.offsets.proofs.OffsetLaw.{offsets-complete}
 use borrow.Author.Needs.{needs}
 use Rattle.offsets.proofs.offset.offset_order.Statement.{statement}
 use Rattle.offsets.proofs.offset.offset_order.Tie as tie
@@ -45,7 +47,8 @@ returns : tie.Need-returns
 returns c =
     let s = c .before .before .before .before .before .before .before .before .before .before .before .before .before .before .before .before .before .before .before in
     let e : (2 * s .args .search + 1) * (2 * s .args .search + 1) ≡ suc (2 * s .args .search) * suc (2 * s .args .search) = omega arith in
-    (e, grid-offsets _ _ _ _ _ _ _ e (c .before .before .before .before .before .before .before .before .before .before .before .before .before .before .grid-keys .ensures) (c .before .before .before .before .before .before .before .before .before .before .number-first .ensures) (c .before .before .before .before .sort-part .ensures .0))
+    let g = grid-offsets _ _ _ _ _ _ _ e (c .before .before .before .before .before .before .before .before .before .before .before .before .before .before .grid-keys .ensures) (c .before .before .before .before .before .before .before .before .before .before .number-first .ensures) (c .before .before .before .before .sort-part .ensures .0) in
+    (e, g, subst (Complete (s .args .search)) (sym g) (offsets-complete (s .args .search) (s .pre .0)))
 
 pub offset-order-spec : {M : Type 1} → statement M
 offset-order-spec =

@@ -1,0 +1,2 @@
+-- The generated pairs and the table's.
+pub mod Generated
