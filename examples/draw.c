@@ -24,7 +24,7 @@ int main(void) {
     const int64_t from[M] = {0, 1, 1, 1, 1, 2}, to[M] = {1, 2, 2, 3, 3, 3};
     const uint8_t service[M] = {1, 1, 1, 1, 1, 0};
     const uint32_t mesh[1] = {0};
-    tansygate_options options = TANSYGATE_DEFAULTS;
+    tansygate_settings options = TANSYGATE_DEFAULTS;
     options.route_iterations = 0;
 
     double positions[2 * N], bars[4 * N], boxes[4 * K], scales[K], pieces[4 * PIECES];
@@ -36,7 +36,7 @@ int main(void) {
     uint32_t crossing_numbers[3];
     double crossing_places[1], crossing_ways[2];
 
-    tansygate_plotted plot = tansygate_layout(
+    tansygate_plotted plot = tansygate_plot(
         LEN(positions), LEN(bars), LEN(boxes), LEN(scales), LEN(roles), LEN(pieces), LEN(branches),
         LEN(stations), LEN(buses), LEN(ends), LEN(sorted), LEN(spare), LEN(keys), LEN(places), LEN(blocks),
         LEN(frames), LEN(path), LEN(crossing_numbers), LEN(crossing_places), LEN(crossing_ways),

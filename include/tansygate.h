@@ -66,10 +66,15 @@ typedef struct {
     double tier_scale_2;              /* 1/64 to 1 */
     int32_t search;                   /* 0 to 20: offsets either side of a seed */
     uint32_t route_iterations;        /* 0 to 100: rounds of channel spacing; 0 draws lines straight */
-} tansygate_options;
+    /* the grid inside a box, in blocks (a block is the unit times the station's scale), each 0.5 to 8 */
+    double bar_gap;                   /* from one bar to the next */
+    double pad;                       /* from each side of a box to its bars and rows */
+    double min_bar;                   /* the shortest bar; where min_bar / 2 is above pad + 0.5 a bar may leave its box */
+    double buffer;                    /* kept free around each box */
+} tansygate_settings;
 
 /* The default options. */
-#define TANSYGATE_DEFAULTS {0.45, 3.0, 12, 30, 2.0 / 3.0, 4.0 / 9.0, 10, 10}
+#define TANSYGATE_DEFAULTS {0.45, 3.0, 12, 30, 2.0 / 3.0, 4.0 / 9.0, 10, 10, 2.0, 1.0, 2.0, 1.0}
 
 /* Zeros where number isn't 0. */
 typedef struct {
@@ -79,8 +84,9 @@ typedef struct {
     double left, top, right, bottom;  /* bounds of the drawing */
 } tansygate_plotted;
 
-/* Draws a network into the lent lists. */
-tansygate_plotted tansygate_layout(
+/* Draws a network into the lent lists. (Named tansygate_layout, with tansygate_options, before the options had the
+   grid's four numbers: a program written for those doesn't compile or link here.) */
+tansygate_plotted tansygate_plot(
     /* results */
     double *positions, size_t positions_len,                /* 2n: x and y of each bar's middle */
     double *bars, size_t bars_len,                          /* 4n: x0, y0, x1, y1 of each bus's bar */
@@ -105,7 +111,7 @@ tansygate_plotted tansygate_layout(
     uint32_t *crossing_numbers, size_t crossing_numbers_len, /* any; 3 a crossing */
     double *crossing_places, size_t crossing_places_len,    /* any; 1 a crossing */
     double *crossing_ways, size_t crossing_ways_len,        /* any; 2 a crossing */
-    tansygate_options options,
+    tansygate_settings options,
     /* the network */
     const uint32_t *sub, size_t sub_len,                    /* n: each bus's station */
     const uint64_t *kv, size_t kv_len,                      /* n: each bus's voltage, as the bits of a double */
@@ -127,7 +133,7 @@ typedef struct {
     size_t relative;                  /* so many lengths stand in relative */
 } tansygate_audited;
 
-/* Audits a drawing of a network as tansygate_layout left it, or any other. */
+/* Audits a drawing of a network as tansygate_plot left it, or any other. */
 tansygate_audited tansygate_audit(
     /* results */
     double *displacement, size_t displacement_len,          /* k: each occupied station's distance from seed to box middle */

@@ -5,6 +5,8 @@ mod tx_schematic;
 
 #[path = "../ours/library.rs"]
 mod library;
+#[path = "../oracle/gaps.rs"]
+mod gaps;
 #[path = "../oracle/mesh.rs"]
 mod mesh;
 #[path = "../oracle/network.rs"]

@@ -1,18 +1,21 @@
 //! Layout and audit calls of every kind, from a seed, for networks of up to a given number of buses.
 use crate::audit::{Drawing, Room};
 use crate::extremes;
+use crate::gaps::{self, Gaps};
 use crate::layout::{layout, Lent};
 use crate::mesh;
 use crate::network::{Mesh, Network, Options};
 use crate::random::{Random, EDGES};
 use crate::witness;
 
-/// What calls are generated: ordinary ones with slips, the same without iterations, or ones of extreme scale (oracle/extremes.rs).
+/// What calls are generated: ordinary ones with slips, the same without iterations, ones of extreme scale (oracle/extremes.rs),
+/// or ones of either sort with other gaps than the four old numbers.
 #[derive(Clone, Copy, PartialEq)]
 pub enum Kind {
     Plain,
     Straight,
     Extreme,
+    Gaps,
 }
 
 impl Kind {
@@ -22,6 +25,7 @@ impl Kind {
             "plain" => Some(Self::Plain),
             "straight" => Some(Self::Straight),
             "extreme" => Some(Self::Extreme),
+            "gaps" => Some(Self::Gaps),
             _ => None,
         }
     }
@@ -186,16 +190,36 @@ fn lent(r: &mut Random, call: &Call, most: usize) -> Lent {
     lent
 }
 
+/// Gaps of any size in their range, at its ends, beside them, or now and then outside it.
+fn gaps(r: &mut Random, most: usize) -> Gaps {
+    let outside = r.one_in(rare(40, most));
+    let mut at = |i: usize| match r.below(8) {
+        0 => 0.5,
+        1 => 8.0,
+        2 => r.pick(&[0.5f64.next_up(), 8.0f64.next_down(), 1.0f64.next_up(), 2.0f64.next_down()]),
+        3 => gaps::OLD.all()[i],
+        4 => r.within(1, 16) as f64 / 2.0,
+        _ => 0.5 + 7.5 * (r.within(0, 1 << 52) as f64 / (1u64 << 52) as f64),
+    };
+    let mut four = [at(0), at(1), at(2), at(3)];
+    if outside {
+        four[r.below(4)] = r.pick(&[0.5f64.next_down(), 8.0f64.next_up(), 0.0, -1.0, f64::NAN, f64::INFINITY, 1e300]);
+    }
+    let [gap, padding, shortest, buffer] = four;
+    Gaps { gap, padding, shortest, buffer }
+}
+
 /// A network, its options and its mesh of one kind; where straight, iterations in range become 0.
 fn ordered(r: &mut Random, most: usize, kind: Kind) -> (Network, Options, Mesh) {
-    if kind == Kind::Extreme {
-        let (net, options) = (extremes::network(r, most), extremes::options(r));
+    let gaps = if kind == Kind::Gaps { gaps(r, most) } else { gaps::OLD };
+    if kind == Kind::Extreme || kind == Kind::Gaps && r.one_in(3) {
+        let (net, options) = (extremes::network(r, most), Options { gaps, ..extremes::options(r) });
         let points = middles(&net, &options).unwrap_or_default();
         let mesh = mesh::twisted(r, &extremes::shrunk(&points));
         return (net, options, mesh);
     }
     let net = network(r, most);
-    let mut options = options(r, most);
+    let mut options = Options { gaps, ..options(r, most) };
     if kind == Kind::Straight && (0..=100).contains(&options.iterations) {
         options.iterations = 0;
     }

@@ -1,5 +1,6 @@
 //! Calls of extreme scale, from a seed: coordinates from the least subnormal to 10^12, options at the ends of their ranges, drawings times a power of two.
 use crate::audit::Drawing;
+use crate::gaps;
 use crate::network::{Network, Options};
 use crate::random::Random;
 
@@ -93,6 +94,7 @@ pub fn options(r: &mut Random) -> Options {
         scales: r.pick(&[[least, least], [least, 1.0], [1.0, least], [2.0 / 3.0, 4.0 / 9.0], [1.0, 1.0]]),
         search: r.pick(&[0, 0, 0, 1, 2, 3, 10, 20]),
         iterations: r.within(1, 100),
+        gaps: gaps::OLD,
     }
 }
 

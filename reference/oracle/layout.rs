@@ -1,4 +1,5 @@
 //! Layout: the original's `tx_schematic_layout` behind 01's refusals 1 to 12.
+use crate::gaps;
 use crate::network::{refuse, Mesh, Network, Options};
 use crate::tx_schematic::{tx_schematic_layout, TxLayout};
 use crate::witness;
@@ -84,6 +85,8 @@ pub fn layout(net: &Network, options: &Options, mesh: &Mesh, lent: &Lent) -> Res
     net.near()?;
     refuse(7, lent.short(net))?;
     let input = net.original();
+    assert!(cfg!(gaps) || options.gaps == gaps::OLD, "the original has the four old numbers; compile with --cfg gaps");
+    gaps::set(options.gaps);
     // Boxes do not depend on routing.
     let mut drawing = tx_schematic_layout(&input, &Options { iterations: 0, ..options.clone() }.original());
     net.sized(&drawing.boxes, &[])?;

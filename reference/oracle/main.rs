@@ -1,5 +1,6 @@
 //! The oracle: the original Rust's answers, as 01 wants them. Its subcommands are listed below.
-#[path = "../../target/reference/tx_schematic.rs"]
+#[cfg_attr(not(gaps), path = "../../target/reference/tx_schematic.rs")]
+#[cfg_attr(gaps, path = "../../target/reference/gapped.rs")]
 mod tx_schematic;
 
 mod audit;
@@ -7,6 +8,7 @@ mod calls;
 mod compare;
 mod drawlist;
 mod extremes;
+mod gaps;
 mod generate;
 mod hypot;
 mod layout;

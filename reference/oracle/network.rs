@@ -1,4 +1,5 @@
 //! What a call gets: network, options, mesh, lengths of the lent lists; and the refusals that layout and audit share.
+use crate::gaps::{self, Gaps};
 use crate::tx_schematic::{TxLayoutInput, TxLayoutOptions, TxSeeding};
 
 #[derive(Clone, Default)]
@@ -19,6 +20,7 @@ pub struct Options {
     pub scales: [f64; 2],
     pub search: i64,
     pub iterations: i64,
+    pub gaps: Gaps,
 }
 
 #[derive(Clone, Default)]
@@ -42,6 +44,7 @@ impl Options {
             scales: d.tier_scales,
             search: i64::from(d.search),
             iterations: d.route_iterations as i64,
+            gaps: gaps::OLD,
         }
     }
 
@@ -53,6 +56,7 @@ impl Options {
             && self.scales.into_iter().all(scale)
             && (0..=20).contains(&self.search)
             && (0..=100).contains(&self.iterations)
+            && self.gaps.in_range()
     }
 
     pub fn original(&self) -> TxLayoutOptions {

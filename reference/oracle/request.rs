@@ -1,7 +1,7 @@
 //! Layout and audit calls as text, many in one stream, each closed by a line `====`; their answers likewise.
 //!
 //! A line is a name and its words; floats are 16 capital hexadecimal digits, whole numbers decimal; an absent line is an empty list:
-//!   options fill radius count0 count1 scale0 scale1 search iterations     (the defaults where absent)
+//!   options fill radius count0 count1 scale0 scale1 search iterations [gap padding shortest buffer]     (the defaults where absent)
 //!   sub, kv, xy, from, to, live, corners, twins
 //!   lent positions bars boxes scales roles pieces branches crossings short   (ample where absent; short: 1 a work list is too short)
 //! and for the audit, beside the network:
@@ -11,6 +11,7 @@ use std::collections::HashMap;
 
 use crate::audit::{audit, Drawing, Room};
 use crate::calls::{AuditCall, Call};
+use crate::gaps::{self, Gaps};
 use crate::layout::{layout, Lent};
 use crate::network::{Mesh, Network, Options};
 use crate::words::{bits, float, hex, line, whole};
@@ -60,6 +61,7 @@ impl<'a> Request<'a> {
         }
         let number = |i: usize| f64::from_bits(bits(words[i].as_bytes()).expect("options"));
         let count = |i: usize| words[i].parse().expect("options");
+        let four = |i: usize| Gaps { gap: number(i), padding: number(i + 1), shortest: number(i + 2), buffer: number(i + 3) };
         Options {
             fill: number(0),
             radius: number(1),
@@ -67,6 +69,7 @@ impl<'a> Request<'a> {
             scales: [number(4), number(5)],
             search: words[6].parse().expect("options"),
             iterations: words[7].parse().expect("options"),
+            gaps: if words.len() > 8 { four(8) } else { gaps::OLD },
         }
     }
 
@@ -162,6 +165,9 @@ impl Call {
         words.extend(o.counts.map(|c| c.to_string()));
         words.extend(o.scales.map(|x| hex(x.to_bits())));
         words.extend([o.search.to_string(), o.iterations.to_string()]);
+        if o.gaps != gaps::OLD {
+            words.extend(o.gaps.all().map(|x| hex(x.to_bits())));
+        }
         let lent = [l.positions, l.bars, l.boxes, l.scales, l.roles, l.pieces, l.branches, l.crossings, l.work_short.into()];
         line("options", words)
             + &network(&self.net)

@@ -3,6 +3,7 @@ use crate::audit::{audit, Drawing, Figures, Room};
 use crate::drawlist::drawlist;
 use crate::hypot::hypot;
 use crate::layout::{layout, Lent};
+use crate::gaps::{self, Gaps};
 use crate::network::{Mesh, Network, Options};
 use crate::tx_schematic::{inside, tx_layout_quality, TxLayout};
 
@@ -110,6 +111,17 @@ fn refusals(c: &mut Check) {
     c.that("15 before 5", with(&Network { kv: vec![0], ..many(1) }, &searching(21)) == 15);
     c.that("search 20", with(&many(1), &searching(20)) == 0);
     c.that("search 21", with(&many(1), &searching(21)) == 5);
+    let gapped = |four: [f64; 4]| {
+        let [gap, padding, shortest, buffer] = four;
+        with(&many(1), &Options { gaps: Gaps { gap, padding, shortest, buffer }, ..half() })
+    };
+    for i in 0..4 {
+        for wrong in [0.5f64.next_down(), 8.0f64.next_up(), f64::NAN] {
+            let mut four = gaps::OLD.all();
+            four[i] = wrong;
+            c.that("a gap outside 0.5 to 8", gapped(four) == 5);
+        }
+    }
     c.that("fill NaN", with(&many(1), &Options { fill: f64::NAN, ..half() }) == 5);
     let far = |x: f64| with(&stations(&[(x, 0.0), (0.0, 0.0)]), &half());
     c.that("10^12", far(1e12) == 0);

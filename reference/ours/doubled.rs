@@ -9,6 +9,8 @@ mod audit;
 mod extremes;
 #[path = "../oracle/calls.rs"]
 mod calls;
+#[path = "../oracle/gaps.rs"]
+mod gaps;
 #[path = "../oracle/hypot.rs"]
 mod hypot;
 #[path = "../oracle/layout.rs"]

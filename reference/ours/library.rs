@@ -23,5 +23,9 @@ pub fn options_of(o: &network::Options) -> Options {
         tier_scale_2: o.scales[1],
         search: o.search as i32,
         route_iterations: o.iterations as u32,
+        bar_gap: o.gaps.gap,
+        pad: o.gaps.padding,
+        min_bar: o.gaps.shortest,
+        buffer: o.gaps.buffer,
     }
 }

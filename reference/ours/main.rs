@@ -1,5 +1,6 @@
 //! Runs our calls and the oracle's on generated inputs and compares answers, lists, and what stands past and in work lists.
-#[path = "../../target/reference/tx_schematic.rs"]
+#[cfg_attr(not(gaps), path = "../../target/reference/tx_schematic.rs")]
+#[cfg_attr(gaps, path = "../../target/reference/gapped.rs")]
 mod tx_schematic;
 
 #[path = "../oracle/audit.rs"]
@@ -8,6 +9,8 @@ mod audit;
 mod calls;
 #[path = "../oracle/extremes.rs"]
 mod extremes;
+#[path = "../oracle/gaps.rs"]
+mod gaps;
 #[path = "../oracle/hypot.rs"]
 mod hypot;
 #[path = "../oracle/layout.rs"]
@@ -50,7 +53,8 @@ const PATIENCE: Duration = Duration::from_secs(60);
 
 const USAGE: &str = "usage: compare layout SEED COUNT BUSES [KIND]
        compare audit SEED COUNT BUSES [KIND]
-  KIND   plain; straight: every call with 0 iterations; extreme: coordinates, options, meshes and drawings of extreme scale";
+  KIND   plain; straight: every call with 0 iterations; extreme: coordinates, options, meshes and drawings of extreme scale;
+         gaps: other gaps than the four old numbers, a third of the calls extreme ones (compiled with --cfg gaps)";
 
 /// One kind of call: how a case arises, what the oracle answers, and what is wrong with ours.
 trait Compared: Clone + Send + 'static {

@@ -11,6 +11,10 @@ pub struct Options {
     pub tier_scale_2: f64,
     pub search: i32,
     pub route_iterations: u32,
+    pub bar_gap: f64,
+    pub pad: f64,
+    pub min_bar: f64,
+    pub buffer: f64,
 }
 
 #[repr(C)]
@@ -47,7 +51,7 @@ macro_rules! call {
     };
 }
 
-call!(layout = tansygate_layout(
+call!(layout = tansygate_plot(
     positions: f64, bars: f64, boxes: f64, scales: f64, roles: u8, pieces: f64, branches: u32,
     stations: u32, buses: u32, ends: u32, sorted: u32, spare: u32, keys: u64,
     places: f64, blocks: f64, frames: f64, path: f64,

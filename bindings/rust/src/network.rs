@@ -119,6 +119,14 @@ pub struct TxLayoutOptions {
     pub search: i32,
     /// Rounds of channel spacing in routing: 0 to 100; 0 draws lines straight between their boxes.
     pub route_iterations: usize,
+    /// From one bar to the next, in blocks: 0.5 to 8. (A block is the drawing's unit times the substation's scale.)
+    pub bar_gap: f64,
+    /// From each side of a box to its bars and rows, in blocks: 0.5 to 8.
+    pub pad: f64,
+    /// The shortest bar, in blocks: 0.5 to 8. Where half of it is above `pad` + 0.5, a bar may leave its box.
+    pub min_bar: f64,
+    /// Kept free around each box, in blocks: 0.5 to 8.
+    pub buffer: f64,
 }
 
 impl Default for TxLayoutOptions {
@@ -130,6 +138,10 @@ impl Default for TxLayoutOptions {
             tier_scales: [2.0 / 3.0, 4.0 / 9.0],
             search: 10,
             route_iterations: 10,
+            bar_gap: 2.0,
+            pad: 1.0,
+            min_bar: 2.0,
+            buffer: 1.0,
         }
     }
 }
@@ -146,6 +158,10 @@ impl TxLayoutOptions {
             tier_scale_2: self.tier_scales[1],
             search: self.search,
             route_iterations: most(self.route_iterations),
+            bar_gap: self.bar_gap,
+            pad: self.pad,
+            min_bar: self.min_bar,
+            buffer: self.buffer,
         }
     }
 }

@@ -85,6 +85,15 @@ fn options() {
     for route_iterations in [101, u32::MAX as usize, 1 << 32, usize::MAX] {
         assert_eq!(answer(TxLayoutOptions { route_iterations, ..o() }), 5, "iterations {route_iterations}");
     }
+    for gap in [0.0, 0.5f64.next_down(), -1.0, 8.0f64.next_up(), f64::NAN, f64::INFINITY] {
+        assert_eq!(answer(TxLayoutOptions { bar_gap: gap, ..o() }), 5, "bar gap {gap}");
+        assert_eq!(answer(TxLayoutOptions { pad: gap, ..o() }), 5, "padding {gap}");
+        assert_eq!(answer(TxLayoutOptions { min_bar: gap, ..o() }), 5, "shortest bar {gap}");
+        assert_eq!(answer(TxLayoutOptions { buffer: gap, ..o() }), 5, "buffer {gap}");
+    }
+    for gap in [0.5, 8.0] {
+        assert_eq!(answer(TxLayoutOptions { bar_gap: gap, pad: gap, min_bar: gap, buffer: gap, ..o() }), 0, "{gap}");
+    }
     let last = TxLayoutOptions {
         fill: 16.0,
         tier_radius: 1000.0,

@@ -83,6 +83,7 @@ fn drawn(w: &mut Words) -> Option<u32> {
         tier_scales: [w.float(), w.float()],
         search: i32::try_from(w.whole()).ok().filter(|&s| s < 128).unwrap_or(-1),
         route_iterations: w.size(),
+        ..TxLayoutOptions::default()
     };
     let [sub, kv, from, to, live, xy, corners, twins] = w.sizes();
     let _lent: [usize; 9] = w.sizes();

@@ -74,6 +74,40 @@ fn two_buses_in_one_substation() {
 }
 
 #[test]
+fn gaps_of_the_grid() {
+    let input = TxLayoutInput { bus_substation: vec![0, 0], kv: vec![100.0; 2], xy: vec![0.0; 4], ..stacked(1) };
+    let wide = TxLayoutOptions { bar_gap: 3.0, pad: 0.5, min_bar: 3.0, ..half() };
+    // 4 blocks of 1/8 each way.
+    let d = drawn(&input, &wide);
+    assert_eq!((d.unit, d.boxes.as_slice()), (0.125, [-0.25, -0.25, 0.25, 0.25].as_slice()));
+    assert_eq!(d.busbars[..4], [-0.1875, -0.1875, -0.1875, 0.1875]);
+    assert_eq!(d.busbars[4..], [0.1875, -0.1875, 0.1875, 0.1875]);
+}
+
+#[test]
+fn a_bar_can_leave_its_box() {
+    // A lone line, shortest bar 8, padding 0.5: 9 blocks high, and the bar starts 3 blocks above the box.
+    let input = TxLayoutInput { from: vec![0], to: vec![1], xy: vec![0.0, 0.0, 1024.0, 0.0], ..stacked(2) };
+    let d = drawn(&input, &TxLayoutOptions { min_bar: 8.0, pad: 0.5, ..half() });
+    let blocks = |y: f64| (y - d.boxes[1]) / d.unit;
+    assert_eq!(
+        (blocks(d.boxes[3]).round(), blocks(d.busbars[1]).round(), blocks(d.busbars[3]).round()),
+        (9.0, -3.0, 5.0)
+    );
+}
+
+#[test]
+fn a_wider_buffer() {
+    // Two substations on one point, 2 by 4 blocks of 1/8: half a side is 1/4, so offsets are in steps of it.
+    let apart = |buffer: f64| {
+        let d = drawn(&stacked(2), &TxLayoutOptions { buffer, search: 20, ..half() });
+        d.mesh_points(&stacked(2))[1]
+    };
+    assert_eq!(apart(1.0), [-0.5, 0.0]);
+    assert_eq!(apart(8.0), [-1.25, 0.0]);
+}
+
+#[test]
 fn roles() {
     let input = TxLayoutInput {
         bus_substation: vec![0, 0, 1],

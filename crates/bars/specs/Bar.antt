@@ -1,4 +1,4 @@
--- 6. Bars and positions. With f = unit × scale, a bar's x is left + (1 + 2 × column) × f and a row's y is top + (1 + row + 0.5) × f. Definitions only.
+-- 6. Bars and positions. With f = unit × scale, a bar's x is left + (padding + gap × column) × f and a row's y is top + (padding + row + 0.5) × f. Definitions only.
 use Prim.Native.Nat.{ℕ, zero, suc, min, max}
 use mathlib.Core.List.{List}
 use lib.Dec.{eqb}
@@ -13,16 +13,15 @@ use Rattle.geometry.specs.Plane.{point}
 use Rattle.network.specs.declared.words.Kind.{Kind}
 use Rattle.network.specs.declared.words.Kind.the-variants.{Undrawn, Open, Internal, Line}
 use Rattle.network.specs.Words.{kindAt, stationOf}
-use Rattle.network.specs.Options.{barGap, pad, minBar}
+use Rattle.network.specs.declared.options.Gaps.{Gaps}
 use Rattle.placement.specs.Place.{boxIn}
 use Rattle.bars.specs.declared.Bar.{Bar}
 
--- the padding is 1 and the gap between bars 2
-unfoldable pub barX : Box → Float → ℕ → Float
-barX box f column = box .left ⊕ (pad ⊕ num column ⊗ barGap) ⊗ f
+unfoldable pub barX : Gaps → Box → Float → ℕ → Float
+barX G box f column = box .left ⊕ (G .pad ⊕ G .«bar_gap» ⊗ num column) ⊗ f
 
-unfoldable pub rowY : Box → Float → ℕ → Float
-rowY box f row = box .top ⊕ (pad ⊕ num row ⊕ f½) ⊗ f
+unfoldable pub rowY : Gaps → Box → Float → ℕ → Float
+rowY G box f row = box .top ⊕ (G .pad ⊕ num row ⊕ f½) ⊗ f
 
 -- the rows of a bus: none, or the first and the last
 pub data Span : Type 0 where
@@ -54,22 +53,22 @@ spanTo ks fromRows toRows i zero = bare
 spanTo ks fromRows toRows i (suc e) =
     includeBranch i (getD fromRows e 0) (getD toRows e 0) (kindAt ks e) (spanTo ks fromRows toRows i e)
 
--- from its first row's y − 0.5 × f to its last row's y + 0.5 × f, without rows from top + f to top + 3 × f (padding 1, shortest bar 2)
-unfoldable pub reach : Box → Float → Float → Span → Bar
-reach box f x bare = record { x = x; y0 = box .top ⊕ pad ⊗ f; y1 = box .top ⊕ (pad ⊕ minBar) ⊗ f }
-reach box f x (rows a b) = record { x = x; y0 = rowY box f a ⊖ f½ ⊗ f; y1 = rowY box f b ⊕ f½ ⊗ f }
+-- from its first row's y − 0.5 × f to its last row's y + 0.5 × f, without rows from top + padding × f to top + (padding + shortest bar) × f
+unfoldable pub reach : Gaps → Box → Float → Float → Span → Bar
+reach G box f x bare = record { x = x; y0 = box .top ⊕ G .pad ⊗ f; y1 = box .top ⊕ (G .pad ⊕ G .«min_bar») ⊗ f }
+reach G box f x (rows a b) = record { x = x; y0 = rowY G box f a ⊖ f½ ⊗ f; y1 = rowY G box f b ⊕ f½ ⊗ f }
 
--- If shorter than 2 × f it gets that length about its middle.
+-- If shorter than shortest bar × f it gets that length about its middle.
 abbrev pub barMiddle : Bar → Float
 barMiddle b = (b .y0 ⊕ b .y1) ⊘ f2
 
-unfoldable pub lengthened : Float → Bar → Bar
-lengthened f b =
-    let l : Bar = record { x = b .x; y0 = barMiddle b ⊖ minBar ⊗ f ⊘ f2; y1 = barMiddle b ⊕ minBar ⊗ f ⊘ f2 } in
-    pick (lt (b .y1 ⊖ b .y0) (minBar ⊗ f)) l b
+unfoldable pub lengthened : Gaps → Float → Bar → Bar
+lengthened G f b =
+    let l : Bar = record { x = b .x; y0 = barMiddle b ⊖ G .«min_bar» ⊗ f ⊘ f2; y1 = barMiddle b ⊕ G .«min_bar» ⊗ f ⊘ f2 } in
+    pick (lt (b .y1 ⊖ b .y0) (G .«min_bar» ⊗ f)) l b
 
-unfoldable pub barFor : Box → Float → ℕ → Span → Bar
-barFor box f column s = lengthened f (reach box f (barX box f column) s)
+unfoldable pub barFor : Gaps → Box → Float → ℕ → Span → Bar
+barFor G box f column s = lengthened G f (reach G box f (barX G box f column) s)
 
 -- the rows of all buses
 unfoldable pub spans : List ℕ → List Kind → List ℕ → List ℕ → List Span
@@ -80,9 +79,9 @@ abbrev pub blockAt : List Float → ℕ → Float
 blockAt fs s = getD fs s f0
 
 -- the bars of all buses, by their columns and rows, and the stations' blocks and boxes
-unfoldable pub bars : List ℕ → List ℕ → List Span → List Float → List Box → List Bar
-bars sub columns spans fs bs =
-    table (λ i. barFor (boxIn bs (stationOf sub i)) (blockAt fs (stationOf sub i)) (getD columns i 0) (getD spans i bare)) (length sub)
+unfoldable pub bars : Gaps → List ℕ → List ℕ → List Span → List Float → List Box → List Bar
+bars G sub columns spans fs bs =
+    table (λ i. barFor G (boxIn bs (stationOf sub i)) (blockAt fs (stationOf sub i)) (getD columns i 0) (getD spans i bare)) (length sub)
 
 abbrev pub barAt : List Bar → ℕ → Bar
 barAt bs i = getD bs i (record { x = f0; y0 = f0; y1 = f0 })
@@ -92,5 +91,5 @@ unfoldable pub position : Bar → Point
 position b = point (b .x) (barMiddle b)
 
 -- A row end has its bar's x and its row's y.
-unfoldable pub rowEnd : List ℕ → List Float → List Box → List Bar → ℕ → ℕ → Point
-rowEnd sub fs bs bars i row = point (barAt bars i .x) (rowY (boxIn bs (stationOf sub i)) (blockAt fs (stationOf sub i)) row)
+unfoldable pub rowEnd : Gaps → List ℕ → List Float → List Box → List Bar → ℕ → ℕ → Point
+rowEnd G sub fs bs bars i row = point (barAt bars i .x) (rowY G (boxIn bs (stationOf sub i)) (blockAt fs (stationOf sub i)) row)

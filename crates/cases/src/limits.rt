@@ -1,6 +1,7 @@
-// The scope's limits, executed: how many buses, how wide a search and how large a number pass.
+// The limits, executed: how many buses, how wide a search, how large a number and how wide a gap pass.
 use drawing::refuse::refusal_of_input;
 use drawing::room::Room;
+use network::options::Gaps;
 use network::options::Options;
 
 // Lists that are long enough for every network within the limits.
@@ -62,9 +63,10 @@ fn refusal_of_count(n: usize) -> u32 {
     0
 }
 
-// The refusal of one bus, by how wide the search is and its x.
-fn refusal_of_one(search: i32, x: f64) -> u32 {
+// The refusal of one bus, by how wide the search is, its x, the bar gap and the buffer.
+fn refusal_of_one(search: i32, x: f64, gap: f64, buffer: f64) -> u32 {
     let d = Options::default();
+    let g = d.gaps;
     let o = Options {
         fill: d.fill,
         tier_radius: d.tier_radius,
@@ -74,6 +76,12 @@ fn refusal_of_one(search: i32, x: f64) -> u32 {
         tier_scale_2: d.tier_scale_2,
         search,
         route_iterations: d.route_iterations,
+        gaps: Gaps {
+            bar_gap: gap,
+            pad: g.pad,
+            min_bar: g.min_bar,
+            buffer,
+        },
     };
     let sub = [0u32; 1];
     let kv = [1u64; 1];
@@ -81,15 +89,19 @@ fn refusal_of_one(search: i32, x: f64) -> u32 {
     refusal_of_buses(o, &sub, &kv, &xy)
 }
 
-// Whether limit number i is where the scope has it.
+// Whether limit number i is where it should be.
 pub(crate) fn agrees(i: usize) -> bool {
     match i {
         0 => refusal_of_count(4096) == 0,
         1 => refusal_of_count(4097) == 1,
-        2 => refusal_of_one(20, 0.0) == 0,
-        3 => refusal_of_one(21, 0.0) == 5,
-        4 => refusal_of_one(20, 1e12) == 0,
-        5 => refusal_of_one(20, 1000000000000.0001) == 6,
+        2 => refusal_of_one(20, 0.0, 2.0, 1.0) == 0,
+        3 => refusal_of_one(21, 0.0, 2.0, 1.0) == 5,
+        4 => refusal_of_one(20, 1e12, 2.0, 1.0) == 0,
+        5 => refusal_of_one(20, 1000000000000.0001, 2.0, 1.0) == 6,
+        6 => refusal_of_one(20, 0.0, 0.5, 8.0) == 0,
+        7 => refusal_of_one(20, 0.0, 8.0, 0.5) == 0,
+        8 => refusal_of_one(20, 0.0, 0.49999999999999994, 1.0) == 5,
+        9 => refusal_of_one(20, 0.0, 2.0, 8.000000000000002) == 5,
         _ => false,
     }
 }

@@ -2,7 +2,7 @@
 //
 // Standard input has one test a line: a name of three letters, then operands and expected results as 16 hexadecimal digits
 // each, every one after a space. Expected IEEE values come from exact whole-number arithmetic (reference/ieee_values.py), those of
-// other names from the original (reference/oracle, `vectors 1 100`). The scope's limits come after them.
+// other names from the original (reference/oracle, `vectors 1 100`). The limits come after them.
 mod ieee;
 mod limits;
 mod lists;
@@ -71,11 +71,13 @@ fn run(text: &[u8]) -> Tally {
     tally
 }
 
-// With the scope's six limits.
+// With the ten limits.
 fn with_limits(all: Tally) -> Tally {
     let few = all.with(limits::agrees(0)).with(limits::agrees(1));
     let more = few.with(limits::agrees(2)).with(limits::agrees(3));
-    more.with(limits::agrees(4)).with(limits::agrees(5))
+    let most = more.with(limits::agrees(4)).with(limits::agrees(5));
+    let gaps = most.with(limits::agrees(6)).with(limits::agrees(7));
+    gaps.with(limits::agrees(8)).with(limits::agrees(9))
 }
 
 fn main() {

@@ -37,7 +37,7 @@ use Rattle.routes.specs.Routes.{meshUsed, meshFits, crossingsOf, routeRefusal}
 use Rattle.routes.specs.Stages.Routed.{routedIn, Routes}
 use Rattle.drawing.specs.Network.{Network}
 use Rattle.drawing.specs.Drawing as Drawing
-use Rattle.drawing.specs.Drawing.{planned, drawing, straightScene, ledScene, routedScene, routedOf, sceneOf}
+use Rattle.drawing.specs.Drawing.{measuresOf, planned, drawing, straightScene, ledScene, routedScene, routedOf, sceneOf}
 use Rattle.drawing.specs.Answer.{routedBy}
 use Rattle.chart.specs.Stages.Held.{Holds, Laid}
 use Rattle.chart.specs.Stages.Charted.{routedLate, Charted}
@@ -58,22 +58,22 @@ module _ (o : Options) (N : Network) (k : ℕ) (unit : Float) (fin : Bool) (stat
   its = o .«route_iterations»
 
   abbrev gridBy : List ℕ → Grid
-  gridBy es = grid (N .station) (N .from) (N .to) (N .service) unit es blocks places frames
+  gridBy es = grid (N .station) (N .from) (N .to) (N .service) (measuresOf o unit) es blocks places frames
 
   -- the scene of the lists with these rows is the plan's
   scene-is : (es : List ℕ)
       → fromRowsIn (length (N .from)) es ≡ fromRowsIn (length (N .from)) ends
       → toRowsIn (length (N .from)) es ≡ toRowsIn (length (N .from)) ends
-      → sceneBy (N .station) unit buses blocks frames k below es places (N .from) (N .to) (N .service) ≡ planned o N .scene
+      → sceneBy (N .station) (measuresOf o unit) buses blocks frames k below es places (N .from) (N .to) (N .service) ≡ planned o N .scene
   scene-is es f t =
-      (let b = bars-held (N .station) unit buses blocks frames k below in cc (f, t, b)) ∙ G .holds .scene
+      (let b = bars-held (N .station) (measuresOf o unit) buses blocks frames k below in cc (f, t, b)) ∙ G .holds .scene
 
   occ-is : occupied (countsIn k stations) ≡ occupied (planned o N .counts)
   occ-is = ap occupied (G .counts ∙ G .holds .counts)
 
   lines-are : linesIn (gridBy ends) ≡ table (Drawing.lineOf (planned o N .scene)) (length (kinds (N .station) (N .from) (N .to) (N .service)))
   lines-are =
-      lines-held (N .station) unit buses blocks frames k below ends places (N .from) (N .to) (N .service)
+      lines-held (N .station) (measuresOf o unit) buses blocks frames k below ends places (N .from) (N .to) (N .service)
       ∙ ap (λ (S : Scene). table (Drawing.lineOf S) (length (kinds (N .station) (N .from) (N .to) (N .service)))) (scene-is ends refl refl)
 
   -- what lines are routed through
@@ -116,16 +116,16 @@ module _ (o : Options) (N : Network) (k : ℕ) (unit : Float) (fin : Bool) (stat
     finite-is z = R .finiteIs z ∙ ap (λ (S : Route.Scene). allOf isFinite (crossingsOf S its)) routed-is
 
     runs-are : l ≡ 0 → (cell : Float) → cell ≡ cellSize (boxesIn k frames) (occupied (countsIn k stations'))
-        → runsIn (held (N .station) unit buses ends' blocks places frames (lead (ltb 0 its) cell (gapOf unit) k stations' ways)) (N .from) (N .to) (N .service)
+        → runsIn (held (N .station) (measuresOf o unit) buses ends' blocks places frames (lead (ltb 0 its) cell (gapOf unit) k stations' ways)) (N .from) (N .to) (N .service)
         ≡ drawing o N .runs
     unfolding drawing sceneOf
     runs-are z cell c =
-        runs-held (N .station) unit buses blocks frames k below ends' places (N .from) (N .to) (N .service) (ltb 0 its) cell (gapOf unit) stations' ways
+        runs-held (N .station) (measuresOf o unit) buses blocks frames k below ends' places (N .from) (N .to) (N .service) (ltb 0 its) cell (gapOf unit) stations' ways
         (occupied (countsIn k stations'))
         (Drawing.waysOf (routedOf o N (planned o N)) (crossingsOf (routedOf o N (planned o N)) its))
         refl
         c
-        (exited-rows (N .station) (N .from) (N .to) (N .service) unit blocks places frames ends ends' (R .fromRows) (R .toRows) (G .exits))
+        (exited-rows (N .station) (N .from) (N .to) (N .service) (measuresOf o unit) blocks places frames ends ends' (R .fromRows) (R .toRows) (G .exits))
         (λ e h. R .along z e h ∙ way-is e h)
         ∙ ap Run.runs
         (led-cong _ _ (ltb 0 its) _ _ _ _ _ _ (scene-is ends' (R .fromRows) (R .toRows)) (ap occupied counts-are) (ap gapOf (G .holds .unitIs)) refl)

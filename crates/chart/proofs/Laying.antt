@@ -26,7 +26,7 @@ use Rattle.results.proofs.Finites.{finite-points}
 use Rattle.crossings.specs.Stages.Views.{grid}
 use Rattle.exits.specs.Stages.Exits.{Exited}
 use Rattle.drawing.specs.Network.{Network}
-use Rattle.drawing.specs.Drawing.{planned, straightScene}
+use Rattle.drawing.specs.Drawing.{measuresOf, planned, straightScene}
 use Rattle.chart.specs.Stages.Held.{Holds, Laid}
 use Rattle.chart.proofs.Scenes.{settled-held}
 
@@ -52,8 +52,8 @@ holds-placed o N k unit buses ends blocks places places₂ frames few same H =
       scene =
           ap
           (λ (ps : List Point).
-          straightScene (N .station) (kinds (N .station) (N .from) (N .to) (N .service)) (fromRowsIn (length (N .from)) ends) (toRowsIn (length (N .from)) ends)
-          (map (λ (r : Frame). r .f) (framesIn unit k blocks)) (boxesIn k frames) ps (barsIn (N .station) unit buses blocks frames))
+          straightScene (N .station) (kinds (N .station) (N .from) (N .to) (N .service)) (fromRowsIn (length (N .from)) ends) (toRowsIn (length (N .from)) ends) (o .gaps)
+          (map (λ (r : Frame). r .f) (framesIn (measuresOf o unit) k blocks)) (boxesIn k frames) ps (barsIn (N .station) (measuresOf o unit) buses blocks frames))
           (points-same k (length (N .station)) places places₂ few same)
           ∙ H .scene;
     }
@@ -67,12 +67,12 @@ pub laid-joined : (o : Options) (N : Network) (k : ℕ) (unit : Float) (finite :
     → k ≤ length (N .station)
     → Interiors o (N .station) (N .kv) (N .from) (N .to) (N .service) (N .xy) k unit finite stations₁ buses₁ ends places₁ blocks
     → search ≡ searchOf (o .search)
-    → Settled (N .station) (N .kv) k unit search blocks (pointsIn k places₁) stations places frames
+    → Settled (N .station) (N .kv) k (measuresOf o unit) search blocks (pointsIn k places₁) stations places frames
     → columnsIn (length (N .station)) buses ≡ columnsIn (length (N .station)) buses₁
     → spansIn (length (N .station)) buses
     ≡ Bars.spans (N .station) (kinds (N .station) (N .from) (N .to) (N .service)) (fromRowsIn (length (N .from)) ends) (toRowsIn (length (N .from)) ends)
     → ((s : ℕ) → s < length (N .station) → pointAt places₂ s ≡ pointAt places s)
-    → Exited (grid (N .station) (N .from) (N .to) (N .service) unit ends blocks places₂ frames)
+    → Exited (grid (N .station) (N .from) (N .to) (N .service) (measuresOf o unit) ends blocks places₂ frames)
     → Laid o N k unit finite stations buses ends blocks places₂ frames
 unfolding planned
 laid-joined o N k unit finite search stations₁ stations buses₁ buses ends places₁ blocks places places₂ frames e few I s T c p same E =

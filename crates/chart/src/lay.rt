@@ -13,6 +13,7 @@ use network::options::search_of;
 use plan::Inside;
 use plan::interiors;
 use plan::settle;
+use units::Measures;
 
 // The search of these options, 0 where it is below 0.
 fn search_in(o: Options) -> usize
@@ -71,11 +72,16 @@ pub(crate) fn lay(
     );
     spans(sub, from, to, service, ends, buses);
     let search = search_in(o);
+    let gaps = o.gaps;
+    let measures = Measures {
+        unit: inside.unit,
+        gaps,
+    };
     settle(
         sub,
         kv,
         k,
-        inside.unit,
+        measures,
         search,
         stations,
         sorted,
@@ -90,7 +96,7 @@ pub(crate) fn lay(
         from,
         to,
         service,
-        inside.unit,
+        measures,
         ends,
         blocks,
         frames,

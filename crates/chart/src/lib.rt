@@ -17,6 +17,7 @@ use pieces::both;
 use placement::sized::ill_sized;
 use plan::Inside;
 use routes::route_lines;
+use units::Measures;
 
 // The unit, whether all seeds and crossing places are finite, and the late refusal so far, 8, 9 or 10, 0 for none.
 pub struct Course {
@@ -69,6 +70,8 @@ fn route(
             late: 8,
         };
     }
+    let gaps = o.gaps;
+    let measures = Measures { unit, gaps };
     let found = route_lines(
         o.route_iterations,
         room,
@@ -78,7 +81,7 @@ fn route(
         service,
         corners,
         twins,
-        unit,
+        measures,
         k,
         stations,
         ends,

@@ -13,30 +13,31 @@ use Rattle.float.proofs.DoubleRange.{widen-to, add-stepped, mul-stepped}
 use Rattle.float.proofs.DoublePairs.{lt-of-doubles, widen-doubles, add-doubles, sub-doubles, mul-doubles-2, div-doubles, num-stepped}
 use Rattle.order.specs.Order.{pick}
 use Rattle.geometry.specs.declared.Box.{Box}
-use Rattle.network.specs.Options.{barGap, pad, minBar}
+use Rattle.network.specs.declared.options.Gaps.{Gaps}
 use Rattle.bars.specs.declared.Bar.{Bar}
 use Rattle.bars.specs.Bar.{Span, bare, rows, barX, rowY, reach, barMiddle, lengthened, barFor}
 use Rattle.placement.specs.Doubles.{DoublesBox}
-use Rattle.doubling.proofs.Sizes.{power, one, two, two-positive}
+use Rattle.doubling.specs.Doubling.{EachGap}
+use Rattle.doubling.proofs.Sizes.{Gap, power, two, two-positive}
 
--- ---- coefficients of up to 2 ^ 14 blocks, in halves
+-- ---- coefficients of up to 2 ^ 16 blocks
 half : Stepped 1073 (2 ^ 1073) f½
 unfolding fits isFinite grains ofBits
 half = record { number = record { held = tt; finite = tt }; count = 1; grid = refl; size = le-refl (2 ^ 1073) }
 
-column-stepped : (n : ℕ) → n ≤ 2 ^ 12 → Stepped 1073 (2 ^ 1090) (pad ⊕ num n ⊗ barGap)
-column-stepped n h =
-    let b : Stepped 1074 (2 ^ 1089) (num n ⊗ barGap) = mul-stepped 1074 (2 ^ 1089) (small n h) two refl (lit≤ tt) (power 1089 (lit< tt)) in
-    widen-to 1073 (2 ^ 1090) (lit≤ tt) (lit≤ tt) (add-stepped (widen-to 1074 (2 ^ 1089) (le-refl 1074) (lit≤ tt) one) b (power 1090 (lit< tt)))
+column-stepped : (G : Gaps) → EachGap Gap G → (n : ℕ) → n ≤ 2 ^ 12 → Stepped 1021 (2 ^ 1090) (G .pad ⊕ G .«bar_gap» ⊗ num n)
+column-stepped G E n h =
+    let b : Stepped 1021 (2 ^ 1089) (G .«bar_gap» ⊗ num n) = mul-stepped 1021 (2 ^ 1089) (E .bar-gap) (small n h) refl (lit≤ tt) (power 1089 (lit< tt)) in
+    add-stepped (widen-to 1021 (2 ^ 1089) (le-refl 1021) (lit≤ tt) (E .pad)) b (power 1090 (lit< tt))
   where
     small : (n : ℕ) → n ≤ 2 ^ 12 → Stepped 1074 (2 ^ 12 * 2 ^ 1074) (num n)
     small n h = widen-to 1074 (2 ^ 12 * 2 ^ 1074) (le-refl 1074) (mul-le-mul-right (2 ^ 1074) h) (num-stepped n (le-trans h (lit≤ tt)))
 
-row-stepped : (n : ℕ) → n ≤ 2 ^ 13 → Stepped 1073 (2 ^ 1090) (pad ⊕ num n ⊕ f½)
-row-stepped n h =
-    let a : Stepped 1074 (2 ^ 1088) (num n) = widen-to 1074 (2 ^ 1088) (le-refl 1074) (le-trans (mul-le-mul-right (2 ^ 1074) h) (lit≤ tt)) (num-stepped n (le-trans h (lit≤ tt))) in
-    let b : Stepped 1074 (2 ^ 1089) (pad ⊕ num n) = add-stepped (widen-to 1074 (2 ^ 1088) (le-refl 1074) (lit≤ tt) one) a (power 1089 (lit< tt)) in
-    add-stepped (widen-to 1073 (2 ^ 1089) (lit≤ tt) (le-refl (2 ^ 1089)) b) (widen-to 1073 (2 ^ 1089) (le-refl 1073) (lit≤ tt) half) (power 1090 (lit< tt))
+row-stepped : (G : Gaps) → EachGap Gap G → (n : ℕ) → n ≤ 2 ^ 13 → Stepped 1021 (2 ^ 1090) (G .pad ⊕ num n ⊕ f½)
+row-stepped G E n h =
+    let a : Stepped 1021 (2 ^ 1088) (num n) = widen-to 1021 (2 ^ 1088) (lit≤ tt) (le-trans (mul-le-mul-right (2 ^ 1074) h) (lit≤ tt)) (num-stepped n (le-trans h (lit≤ tt))) in
+    let b : Stepped 1021 (2 ^ 1089) (G .pad ⊕ num n) = add-stepped (widen-to 1021 (2 ^ 1088) (le-refl 1021) (lit≤ tt) (E .pad)) a (power 1089 (lit< tt)) in
+    add-stepped b (widen-to 1021 (2 ^ 1089) (lit≤ tt) (lit≤ tt) half) (power 1090 (lit< tt))
 
 pub record DoublesBar (lo top : ℕ) (b b' : Bar) : Type 0 where
   pub x : Doubles lo top (b .x) (b' .x)
@@ -48,81 +49,81 @@ abbrev pub Rows : Span → Type 0
 Rows bare = Unit
 Rows (rows a b) = (a ≤ 2 ^ 13) × (b ≤ 2 ^ 13)
 
--- ---- blocks of multiples of 2 ^ 171 grains and up to 2 ^ 1145, boxes of up to 2 ^ 1153: what the stage before gives, widened
+-- ---- blocks of multiples of 2 ^ 222 grains and up to 2 ^ 1200, boxes of multiples of 2 ^ 116 and up to 2 ^ 1208: what the stage before gives, widened
 abbrev pub Block : Float → Float → Type 0
-Block f f' = Doubles 171 (2 ^ 1145) f f'
+Block f f' = Doubles 222 (2 ^ 1200) f f'
 
 -- a coefficient times a block
-part : {f f' c : Float} → Block f f' → Stepped 1073 (2 ^ 1090) c → Doubles 170 (2 ^ 1161) (c ⊗ f) (c ⊗ f')
-part f c = mul-doubles-2 170 (2 ^ 1161) c f refl (lit≤ tt) (lit≤ tt) (power 1161 (lit< tt))
+part : {f f' c : Float} → Block f f' → Stepped 1021 (2 ^ 1090) c → Doubles 116 (2 ^ 1216) (c ⊗ f) (c ⊗ f')
+part f c = widen-doubles 116 (2 ^ 1216) (lit≤ tt) (le-refl (2 ^ 1216)) (mul-doubles-2 169 (2 ^ 1216) c f refl (lit≤ tt) (lit≤ tt) (power 1216 (lit< tt)))
 
-module _ (box box' : Box) (f f' : Float) (B : DoublesBox 171 (2 ^ 1153) box box') (F : Block f f') where
-  wide : {x x' : Float} → Doubles 171 (2 ^ 1153) x x' → Doubles 170 (2 ^ 1161) x x'
-  wide h = widen-doubles 170 (2 ^ 1161) (lit≤ tt) (lit≤ tt) h
+module _ (G : Gaps) (E : EachGap Gap G) (box box' : Box) (f f' : Float) (B : DoublesBox 116 (2 ^ 1208) box box') (F : Block f f') where
+  wide : {x x' : Float} → Doubles 116 (2 ^ 1208) x x' → Doubles 116 (2 ^ 1216) x x'
+  wide h = widen-doubles 116 (2 ^ 1216) (le-refl 116) (lit≤ tt) h
 
-  bar-x : (n : ℕ) → n ≤ 2 ^ 12 → Doubles 170 (2 ^ 1162) (barX box f n) (barX box' f' n)
+  bar-x : (n : ℕ) → n ≤ 2 ^ 12 → Doubles 116 (2 ^ 1217) (barX G box f n) (barX G box' f' n)
   unfolding barX
-  bar-x n h = add-doubles (wide (B .left)) (part F (column-stepped n h)) (power 1162 (lit< tt))
+  bar-x n h = add-doubles (wide (B .left)) (part F (column-stepped G E n h)) (power 1217 (lit< tt))
 
-  pub row-y : (n : ℕ) → n ≤ 2 ^ 13 → Doubles 170 (2 ^ 1162) (rowY box f n) (rowY box' f' n)
+  pub row-y : (n : ℕ) → n ≤ 2 ^ 13 → Doubles 116 (2 ^ 1217) (rowY G box f n) (rowY G box' f' n)
   unfolding rowY
-  row-y n h = add-doubles (wide (B .top-side)) (part F (row-stepped n h)) (power 1162 (lit< tt))
+  row-y n h = add-doubles (wide (B .top-side)) (part F (row-stepped G E n h)) (power 1217 (lit< tt))
 
-  one-part : Stepped 1073 (2 ^ 1090) pad
-  one-part = widen-to 1073 (2 ^ 1090) (lit≤ tt) (lit≤ tt) one
+  pad-part : Stepped 1021 (2 ^ 1090) (G .pad)
+  pad-part = widen-to 1021 (2 ^ 1090) (le-refl 1021) (lit≤ tt) (E .pad)
 
-  half-part : Stepped 1073 (2 ^ 1090) f½
-  half-part = widen-to 1073 (2 ^ 1090) (le-refl 1073) (lit≤ tt) half
+  half-part : Stepped 1021 (2 ^ 1090) f½
+  half-part = widen-to 1021 (2 ^ 1090) (lit≤ tt) (lit≤ tt) half
 
-  three-part : Stepped 1073 (2 ^ 1090) (pad ⊕ minBar)
-  three-part = widen-to 1073 (2 ^ 1090) (lit≤ tt) (lit≤ tt) (add-stepped (widen-to 1074 (2 ^ 1080) (le-refl 1074) (lit≤ tt) one) (widen-to 1074 (2 ^ 1080) (le-refl 1074) (lit≤ tt) two) (power 1081 (lit< tt)))
+  bare-part : Stepped 1021 (2 ^ 1090) (G .pad ⊕ G .«min_bar»)
+  bare-part = widen-to 1021 (2 ^ 1090) (le-refl 1021) (lit≤ tt) (add-stepped (E .pad) (E .min-bar) (power 1078 (lit< tt)))
 
-  to-63 : {x x' : Float} → Doubles 170 (2 ^ 1162) x x' → Doubles 170 (2 ^ 1163) x x'
-  to-63 h = widen-doubles 170 (2 ^ 1163) (le-refl 170) (lit≤ tt) h
+  to-18 : {x x' : Float} → Doubles 116 (2 ^ 1217) x x' → Doubles 116 (2 ^ 1218) x x'
+  to-18 h = widen-doubles 116 (2 ^ 1218) (le-refl 116) (lit≤ tt) h
 
-  to-62 : {x x' : Float} → Doubles 170 (2 ^ 1161) x x' → Doubles 170 (2 ^ 1162) x x'
-  to-62 h = widen-doubles 170 (2 ^ 1162) (le-refl 170) (lit≤ tt) h
+  to-17 : {x x' : Float} → Doubles 116 (2 ^ 1216) x x' → Doubles 116 (2 ^ 1217) x x'
+  to-17 h = widen-doubles 116 (2 ^ 1217) (le-refl 116) (lit≤ tt) h
 
-  reach-doubles : (x x' : Float) (s : Span) → Rows s → Doubles 170 (2 ^ 1162) x x' → DoublesBar 170 (2 ^ 1163) (reach box f x s) (reach box' f' x' s)
+  reach-doubles : (x x' : Float) (s : Span) → Rows s → Doubles 116 (2 ^ 1217) x x' → DoublesBar 116 (2 ^ 1218) (reach G box f x s) (reach G box' f' x' s)
   unfolding reach
   reach-doubles x x' bare h k = record {
-    x = to-63 k;
-    y0 = to-63 (add-doubles (wide (B .top-side)) (part F one-part) (power 1162 (lit< tt)));
-    y1 = to-63 (add-doubles (wide (B .top-side)) (part F three-part) (power 1162 (lit< tt)));
+    x = to-18 k;
+    y0 = to-18 (add-doubles (wide (B .top-side)) (part F pad-part) (power 1217 (lit< tt)));
+    y1 = to-18 (add-doubles (wide (B .top-side)) (part F bare-part) (power 1217 (lit< tt)));
   }
   reach-doubles x x' (rows a b) h k = record {
-    x = to-63 k;
-    y0 = sub-doubles (row-y a (h .0)) (to-62 (part F half-part)) (power 1163 (lit< tt));
-    y1 = add-doubles (row-y b (h .1)) (to-62 (part F half-part)) (power 1163 (lit< tt));
+    x = to-18 k;
+    y0 = sub-doubles (row-y a (h .0)) (to-17 (part F half-part)) (power 1218 (lit< tt));
+    y1 = add-doubles (row-y b (h .1)) (to-17 (part F half-part)) (power 1218 (lit< tt));
   }
 
--- the middle: 170 - 53
-pub middle-doubles : (b b' : Bar) → DoublesBar 170 (2 ^ 1163) b b' → Doubles 117 (2 ^ 1164) (barMiddle b) (barMiddle b')
-middle-doubles b b' h = div-doubles 117 (2 ^ 1164) (add-doubles (h .y0) (h .y1) (power 1164 (lit< tt))) two two-positive (lit≤ tt) (lit≤ tt) (lit≤ tt) (power 1164 (lit< tt))
+-- the middle: 116 - 53
+pub middle-doubles : (b b' : Bar) → DoublesBar 116 (2 ^ 1218) b b' → Doubles 63 (2 ^ 1219) (barMiddle b) (barMiddle b')
+middle-doubles b b' h = div-doubles 63 (2 ^ 1219) (add-doubles (h .y0) (h .y1) (power 1219 (lit< tt))) two two-positive (lit≤ tt) (lit≤ tt) (lit≤ tt) (power 1219 (lit< tt))
 
 pick-bar : {lo top : ℕ} {p p' q q' : Bar} (b : Bool) → DoublesBar lo top p p' → DoublesBar lo top q q' → DoublesBar lo top (pick b p q) (pick b p' q')
 pick-bar true f g = f
 pick-bar false f g = g
 
-module _ (f f' : Float) (F : Block f f') where
-  -- 2 × f, and 2 × f / 2
-  shortest : Doubles 171 (2 ^ 1146) (minBar ⊗ f) (minBar ⊗ f')
-  shortest = mul-doubles-2 171 (2 ^ 1146) two F refl (lit≤ tt) (lit≤ tt) (power 1146 (lit< tt))
+module _ (G : Gaps) (E : EachGap Gap G) (f f' : Float) (F : Block f f') where
+  -- shortest bar × f, and half of it
+  shortest : Doubles 169 (2 ^ 1203) (G .«min_bar» ⊗ f) (G .«min_bar» ⊗ f')
+  shortest = mul-doubles-2 169 (2 ^ 1203) (E .min-bar) F refl (lit≤ tt) (lit≤ tt) (power 1203 (lit< tt))
 
-  shortest-half : Doubles 117 (2 ^ 1164) (minBar ⊗ f ⊘ f2) (minBar ⊗ f' ⊘ f2)
-  shortest-half = widen-doubles 117 (2 ^ 1164) (lit≤ tt) (lit≤ tt) (div-doubles 118 (2 ^ 1146) shortest two two-positive (lit≤ tt) (lit≤ tt) (lit≤ tt) (power 1146 (lit< tt)))
+  shortest-half : Doubles 63 (2 ^ 1219) (G .«min_bar» ⊗ f ⊘ f2) (G .«min_bar» ⊗ f' ⊘ f2)
+  shortest-half = widen-doubles 63 (2 ^ 1219) (lit≤ tt) (lit≤ tt) (div-doubles 116 (2 ^ 1203) shortest two two-positive (lit≤ tt) (lit≤ tt) (lit≤ tt) (power 1203 (lit< tt)))
 
-  pub lengthened-doubles : (b b' : Bar) → DoublesBar 170 (2 ^ 1163) b b' → DoublesBar 117 (2 ^ 1165) (lengthened f b) (lengthened f' b')
+  pub lengthened-doubles : (b b' : Bar) → DoublesBar 116 (2 ^ 1218) b b' → DoublesBar 63 (2 ^ 1220) (lengthened G f b) (lengthened G f' b')
   unfolding lengthened
   lengthened-doubles b b' h =
-      let long : Bar = record { x = b .x; y0 = barMiddle b ⊖ minBar ⊗ f ⊘ f2; y1 = barMiddle b ⊕ minBar ⊗ f ⊘ f2 } in
-      let long' : Bar = record { x = b' .x; y0 = barMiddle b' ⊖ minBar ⊗ f' ⊘ f2; y1 = barMiddle b' ⊕ minBar ⊗ f' ⊘ f2 } in
-      let x : Doubles 117 (2 ^ 1165) (b .x) (b' .x) = widen-doubles 117 (2 ^ 1165) (lit≤ tt) (lit≤ tt) (h .x) in
-      let made : DoublesBar 117 (2 ^ 1165) long long' = record { x = x; y0 = sub-doubles (middle-doubles b b' h) shortest-half (power 1165 (lit< tt)); y1 = add-doubles (middle-doubles b b' h) shortest-half (power 1165 (lit< tt)) } in
-      let kept : DoublesBar 117 (2 ^ 1165) b b' = record { x = x; y0 = widen-doubles 117 (2 ^ 1165) (lit≤ tt) (lit≤ tt) (h .y0); y1 = widen-doubles 117 (2 ^ 1165) (lit≤ tt) (lit≤ tt) (h .y1) } in
-      let test : lt (b' .y1 ⊖ b' .y0) (minBar ⊗ f') ≡ lt (b .y1 ⊖ b .y0) (minBar ⊗ f) = lt-of-doubles (sub-doubles (h .y1) (h .y0) (power 1164 (lit< tt))) shortest in
-      subst (λ (t : Bool). DoublesBar 117 (2 ^ 1165) (pick (lt (b .y1 ⊖ b .y0) (minBar ⊗ f)) long b) (pick t long' b')) (sym test) (pick-bar (lt (b .y1 ⊖ b .y0) (minBar ⊗ f)) made kept)
+      let long : Bar = record { x = b .x; y0 = barMiddle b ⊖ G .«min_bar» ⊗ f ⊘ f2; y1 = barMiddle b ⊕ G .«min_bar» ⊗ f ⊘ f2 } in
+      let long' : Bar = record { x = b' .x; y0 = barMiddle b' ⊖ G .«min_bar» ⊗ f' ⊘ f2; y1 = barMiddle b' ⊕ G .«min_bar» ⊗ f' ⊘ f2 } in
+      let x : Doubles 63 (2 ^ 1220) (b .x) (b' .x) = widen-doubles 63 (2 ^ 1220) (lit≤ tt) (lit≤ tt) (h .x) in
+      let made : DoublesBar 63 (2 ^ 1220) long long' = record { x = x; y0 = sub-doubles (middle-doubles b b' h) shortest-half (power 1220 (lit< tt)); y1 = add-doubles (middle-doubles b b' h) shortest-half (power 1220 (lit< tt)) } in
+      let kept : DoublesBar 63 (2 ^ 1220) b b' = record { x = x; y0 = widen-doubles 63 (2 ^ 1220) (lit≤ tt) (lit≤ tt) (h .y0); y1 = widen-doubles 63 (2 ^ 1220) (lit≤ tt) (lit≤ tt) (h .y1) } in
+      let test : lt (b' .y1 ⊖ b' .y0) (G .«min_bar» ⊗ f') ≡ lt (b .y1 ⊖ b .y0) (G .«min_bar» ⊗ f) = lt-of-doubles (sub-doubles (h .y1) (h .y0) (power 1219 (lit< tt))) shortest in
+      subst (λ (t : Bool). DoublesBar 63 (2 ^ 1220) (pick (lt (b .y1 ⊖ b .y0) (G .«min_bar» ⊗ f)) long b) (pick t long' b')) (sym test) (pick-bar (lt (b .y1 ⊖ b .y0) (G .«min_bar» ⊗ f)) made kept)
 
-pub bar-doubles : (box box' : Box) (f f' : Float) → DoublesBox 171 (2 ^ 1153) box box' → Block f f' → (column : ℕ) (s : Span) → column ≤ 2 ^ 12 → Rows s → DoublesBar 117 (2 ^ 1165) (barFor box f column s) (barFor box' f' column s)
+pub bar-doubles : (G : Gaps) → EachGap Gap G → (box box' : Box) (f f' : Float) → DoublesBox 116 (2 ^ 1208) box box' → Block f f' → (column : ℕ) (s : Span) → column ≤ 2 ^ 12 → Rows s → DoublesBar 63 (2 ^ 1220) (barFor G box f column s) (barFor G box' f' column s)
 unfolding barFor
-bar-doubles box box' f f' B F column s h k = lengthened-doubles f f' F (reach box f (barX box f column) s) (reach box' f' (barX box' f' column) s) (reach-doubles box box' f f' B F (barX box f column) (barX box' f' column) s k (bar-x box box' f f' B F column h))
+bar-doubles G E box box' f f' B F column s h k = lengthened-doubles G E f f' F (reach G box f (barX G box f column) s) (reach G box' f' (barX G box' f' column) s) (reach-doubles G E box box' f f' B F (barX G box f column) (barX G box' f' column) s k (bar-x G E box box' f f' B F column h))

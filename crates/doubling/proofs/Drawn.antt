@@ -221,6 +221,8 @@ module _ (O : Options) (N : Network) (it : O .«route_iterations» ≡ 0) (A : P
     from-rows = rows-from O (N .station) (N .kv) ks (N .xy) search F xy' D;
     to-rows = rows-to O (N .station) (N .kv) ks (N .xy) search F xy' D;
     few = few O (N .station) (N .kv) ks (N .xy) search F xy' D;
+    same-gaps = refl;
+    gaps = F .gaps;
     blocks = block-of O (N .station) (N .kv) ks (N .xy) search F xy' D;
     boxes = λ s. box-wide (box-of O (N .station) (N .kv) ks (N .xy) search F xy' D s);
     places = λ s. point-wide (place-of O (N .station) (N .kv) ks (N .xy) search F xy' D s);
@@ -231,9 +233,9 @@ module _ (O : Options) (N : Network) (it : O .«route_iterations» ≡ 0) (A : P
     ways' = ways-none (withMap N xy') (planned O (withMap N xy'));
   }
 
-  run-of : (e : ℕ) → Paired (DoublesPoint 64 (2 ^ 1166)) (getD (drawing O N .runs) e []) (getD (drawing O (withMap N xy') .runs) e [])
+  run-of : (e : ℕ) → Paired (DoublesPoint 10 (2 ^ 1221)) (getD (drawing O N .runs) e []) (getD (drawing O (withMap N xy') .runs) e [])
   unfolding drawing runs sceneOf ledScene planned straightScene
-  run-of = doubles-table (Paired (DoublesPoint 64 (2 ^ 1166))) (runOf (sceneOf O N (planned O N))) (runOf (sceneOf O (withMap N xy') (planned O (withMap N xy')))) (length ks) [] (run-doubles (sceneOf O N (planned O N)) (sceneOf O (withMap N xy') (planned O (withMap N xy'))) scenes) tt
+  run-of = doubles-table (Paired (DoublesPoint 10 (2 ^ 1221))) (runOf (sceneOf O N (planned O N))) (runOf (sceneOf O (withMap N xy') (planned O (withMap N xy')))) (length ks) [] (run-doubles (sceneOf O N (planned O N)) (sceneOf O (withMap N xy') (planned O (withMap N xy'))) scenes) tt
 
   runs-length : length (drawing O (withMap N xy') .runs) ≡ length (drawing O N .runs)
   unfolding drawing runs sceneOf ledScene planned straightScene
@@ -251,19 +253,19 @@ module _ (O : Options) (N : Network) (it : O .«route_iterations» ≡ 0) (A : P
   unfolding drawing planned boxes
   boxes-length = length-table _ (length (busCounts (N .station))) ∙ sym (length-table _ (length (busCounts (N .station))))
 
-  boxes-paired : Paired (DoublesBox 171 (2 ^ 1125 + 80 * 2 ^ 1145 + 2 ^ 1145)) (drawing O N .boxes) (drawing O (withMap N xy') .boxes)
+  boxes-paired : Paired (DoublesBox 116 (2 ^ 1180 + 80 * 2 ^ 1200 + 2 ^ 1200)) (drawing O N .boxes) (drawing O (withMap N xy') .boxes)
   unfolding drawing planned
-  boxes-paired = paired-of (DoublesBox 171 (2 ^ 1125 + 80 * 2 ^ 1145 + 2 ^ 1145)) noBox (drawing O N .boxes) (drawing O (withMap N xy') .boxes) boxes-length (box-of O (N .station) (N .kv) ks (N .xy) search F xy' D)
+  boxes-paired = paired-of (DoublesBox 116 (2 ^ 1180 + 80 * 2 ^ 1200 + 2 ^ 1200)) noBox (drawing O N .boxes) (drawing O (withMap N xy') .boxes) boxes-length (box-of O (N .station) (N .kv) ks (N .xy) search F xy' D)
 
   bars-length : length (drawing O (withMap N xy') .bars) ≡ length (drawing O N .bars)
   unfolding drawing planned bars
   bars-length = length-table _ (length (N .station)) ∙ sym (length-table _ (length (N .station)))
 
-  bars-paired : Paired (DoublesBar 117 (2 ^ 1165)) (drawing O N .bars) (drawing O (withMap N xy') .bars)
+  bars-paired : Paired (DoublesBar 63 (2 ^ 1220)) (drawing O N .bars) (drawing O (withMap N xy') .bars)
   unfolding drawing planned
-  bars-paired = paired-of (DoublesBar 117 (2 ^ 1165)) (record { x = f0; y0 = f0; y1 = f0 }) (drawing O N .bars) (drawing O (withMap N xy') .bars) bars-length (bar-of O (N .station) (N .kv) ks (N .xy) search F xy' D)
+  bars-paired = paired-of (DoublesBar 63 (2 ^ 1220)) (record { x = f0; y0 = f0; y1 = f0 }) (drawing O N .bars) (drawing O (withMap N xy') .bars) bars-length (bar-of O (N .station) (N .kv) ks (N .xy) search F xy' D)
 
-  unit-doubles : Doubles 282 (2 ^ 1131) (drawing O N .unit) (drawing O (withMap N xy') .unit)
+  unit-doubles : Doubles 280 (2 ^ 1184) (drawing O N .unit) (drawing O (withMap N xy') .unit)
   unfolding drawing planned
   unit-doubles = unit-of O (N .station) (N .kv) ks (N .xy) search F xy' D
 
@@ -273,16 +275,16 @@ module _ (O : Options) (N : Network) (it : O .«route_iterations» ≡ 0) (A : P
 
   runs-finite : (allOf (allOf finitePoint) (drawing O N .runs) ≡ true) × (allOf (allOf finitePoint) (drawing O (withMap N xy') .runs) ≡ true)
   runs-finite =
-      all-paired (Paired (DoublesPoint 64 (2 ^ 1166))) (allOf finitePoint) (λ l l' p. all-paired (DoublesPoint 64 (2 ^ 1166)) finitePoint point-finite l l' p) (drawing O N .runs) (drawing O (withMap N xy') .runs)
-      (paired-of (Paired (DoublesPoint 64 (2 ^ 1166))) [] (drawing O N .runs) (drawing O (withMap N xy') .runs) runs-length run-of)
+      all-paired (Paired (DoublesPoint 10 (2 ^ 1221))) (allOf finitePoint) (λ l l' p. all-paired (DoublesPoint 10 (2 ^ 1221)) finitePoint point-finite l l' p) (drawing O N .runs) (drawing O (withMap N xy') .runs)
+      (paired-of (Paired (DoublesPoint 10 (2 ^ 1221))) [] (drawing O N .runs) (drawing O (withMap N xy') .runs) runs-length run-of)
 
   finite-both : (allFinite (drawing O N) ≡ true) × (allFinite (drawing O (withMap N xy')) ≡ true)
   unfolding allFinite
   finite-both =
       let s = all-paired (DoublesPoint 458 (2 ^ 1125)) finitePoint point-finite (drawing O N .seeds) (drawing O (withMap N xy') .seeds) seeds-paired in
       let u = doubles-finite unit-doubles in
-      let b = all-paired (DoublesBox 171 (2 ^ 1125 + 80 * 2 ^ 1145 + 2 ^ 1145)) finiteBox box-finite (drawing O N .boxes) (drawing O (withMap N xy') .boxes) boxes-paired in
-      let r = all-paired (DoublesBar 117 (2 ^ 1165)) finiteBar bar-finite (drawing O N .bars) (drawing O (withMap N xy') .bars) bars-paired in
+      let b = all-paired (DoublesBox 116 (2 ^ 1180 + 80 * 2 ^ 1200 + 2 ^ 1200)) finiteBox box-finite (drawing O N .boxes) (drawing O (withMap N xy') .boxes) boxes-paired in
+      let r = all-paired (DoublesBar 63 (2 ^ 1220)) finiteBar bar-finite (drawing O N .bars) (drawing O (withMap N xy') .bars) bars-paired in
       let w = runs-finite in (
         all-six _ _ _ _ _ _ (s .0) (u .0) (b .0) (r .0) (empty-finite (drawing O N .crossings) (none-crossed N)) (w .0),
         all-six _ _ _ _ _ _ (s .1) (u .1) (b .1) (r .1) (empty-finite (drawing O (withMap N xy') .crossings) (none-crossed (withMap N xy'))) (w .1),
@@ -330,9 +332,9 @@ module _ (O : Options) (N : Network) (it : O .«route_iterations» ≡ 0) (A : P
     unit = unit-doubles .is;
     bounds = bounds-twice;
     piece-count = paired-length DoublesPiece (drawing O N .pieces) (drawing O (withMap N xy') .pieces) pieces-paired;
-    positions = flat-paired (DoublesBar 117 (2 ^ 1165)) (λ b. pointNumbers (position b)) (λ b b' h. point-numbers (position b) (position b') (position-doubles b b' h)) (drawing O N .bars) (drawing O (withMap N xy') .bars) bars-paired;
-    bars = flat-paired (DoublesBar 117 (2 ^ 1165)) barNumbers bar-numbers (drawing O N .bars) (drawing O (withMap N xy') .bars) bars-paired;
-    boxes = flat-paired (DoublesBox 171 (2 ^ 1125 + 80 * 2 ^ 1145 + 2 ^ 1145)) boxNumbers box-numbers (drawing O N .boxes) (drawing O (withMap N xy') .boxes) boxes-paired;
+    positions = flat-paired (DoublesBar 63 (2 ^ 1220)) (λ b. pointNumbers (position b)) (λ b b' h. point-numbers (position b) (position b') (position-doubles b b' h)) (drawing O N .bars) (drawing O (withMap N xy') .bars) bars-paired;
+    bars = flat-paired (DoublesBar 63 (2 ^ 1220)) barNumbers bar-numbers (drawing O N .bars) (drawing O (withMap N xy') .bars) bars-paired;
+    boxes = flat-paired (DoublesBox 116 (2 ^ 1180 + 80 * 2 ^ 1200 + 2 ^ 1200)) boxNumbers box-numbers (drawing O N .boxes) (drawing O (withMap N xy') .boxes) boxes-paired;
     scales = scales-same;
     roles = roles-same;
     pieces = flat-paired DoublesPiece pieceNumbers piece-numbers (drawing O N .pieces) (drawing O (withMap N xy') .pieces) pieces-paired;

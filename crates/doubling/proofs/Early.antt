@@ -7,7 +7,7 @@ use Prim.Native.Nat.{ℕ, zero, suc, _+_, _*_, _^_, _≤_, _<_, min}
 use native.Mathlib.Nat.{le-trans, le-of-eq, lt-of-not-le, eq-or-lt-of-le, le-of-suc-le-suc, le-refl}
 use native.Mathlib.Omega.{arith}
 use native.Mathlib.Decide.{decLe}
-use lib.IntN.{ℤ}
+use lib.IntN.{ℤ, negsuc}
 use lib.Dec.{T, ltb, leb, lt→ltb}
 use lib.ListN.{length, getD, take, length-append, length-take, List·getD-append, List·getD-eq-default}
 use lib.Seq.{getD-take, getD-append-seam}
@@ -25,8 +25,9 @@ use Rattle.order.specs.Table.{howMany, which}
 use Rattle.order.proofs.Tables.{howMany-zero, howMany-no, which-suc, which-yes, length-table}
 use Rattle.geometry.specs.declared.Point.{Point}
 use Rattle.geometry.specs.Plane.{pointAt}
+use Rattle.network.specs.declared.options.Gaps.{Gaps}
 use Rattle.network.specs.declared.options.Options.{Options}
-use Rattle.network.specs.Options.{between, searchFits, inRange}
+use Rattle.network.specs.Options.{between, searchFits, gapFits, gapsFit, inRange}
 use Rattle.network.specs.Words.{stationCount, busCounts, isOccupied, occupied, kindOf, kinds}
 use Rattle.network.specs.Seed.{seeds, placeAt}
 use Rattle.network.specs.Refusal.{tooMany, above, farOut, tooFar, refuse, shapeRefusal}
@@ -34,9 +35,9 @@ use Rattle.units.specs.Unit.{coordinates}
 use Rattle.drawing.specs.declared.room.Room.{Room}
 use Rattle.drawing.specs.Network.{Network}
 use Rattle.drawing.specs.Answer.{meshLength, shortResults, shortWork, orLater, early}
-use Rattle.doubling.specs.Doubling.{sixtyFourth, HasPoint, Allowed, Asked, ScaledBus, ScaledMap, withMap}
+use Rattle.doubling.specs.Doubling.{sixtyFourth, HasPoint, Allowed, EachGap, Asked, ScaledBus, ScaledMap, withMap}
 use Rattle.doubling.proofs.Frames.{coordinates-at}
-use Rattle.doubling.proofs.Passed.{sixteen, thousand, Ranged, Passed, lt-no}
+use Rattle.doubling.proofs.Passed.{sixteen, thousand, least-gap, most-gap, Ranged, Passed, lt-no}
 use Rattle.doubling.proofs.Powers.{both-true, above-down}
 use Rattle.doubling.proofs.Buses.{seeds-ext, same-bus, bus-kept}
 
@@ -116,7 +117,7 @@ few sub kv from to e =
     (ltb-false 4096 (length sub) (h .0), ltb-false 8192 (length from) (h .1))
 
 -- ---- options in range
-parts : (a b c d e f g h z : Bool) → a && (b && (c && d && (e && f && (g && h && z)))) ≡ true → (b ≡ true) × (c ≡ true) × (d ≡ true) × (e ≡ true) × (f ≡ true) × (g ≡ true) × (h ≡ true)
+parts : (a b c d e f g h z : Bool) → a && (b && (c && d && (e && f && (g && h && z)))) ≡ true → (b ≡ true) × (c ≡ true) × (d ≡ true) × (e ≡ true) × (f ≡ true) × (g ≡ true) × (h ≡ true) × (z ≡ true)
 parts a b c d e f g h z w =
     let r₁ = both-true a (b && (c && d && (e && f && (g && h && z)))) w .1 in
     let r₂ = both-true b (c && d && (e && f && (g && h && z))) r₁ in
@@ -124,48 +125,89 @@ parts a b c d e f g h z w =
     let r₄ = both-true (e && f) (g && h && z) (r₃ .1) in
     let cd = both-true c d (r₃ .0) in
     let ef = both-true e f (r₄ .0) in
-    let gh = both-true g h (both-true (g && h) z (r₄ .1) .0) in
-    (r₂ .0, cd .0, cd .1, ef .0, ef .1, gh .0, gh .1)
+    let r₅ = both-true (g && h) z (r₄ .1) in
+    let gh = both-true g h (r₅ .0) in
+    (r₂ .0, cd .0, cd .1, ef .0, ef .1, gh .0, gh .1, r₅ .1)
+
+-- a gap that is in its range
+abbrev Fitting : Float → Type 0
+Fitting x = (le least-gap x ≡ true) × (le x most-gap ≡ true)
+
+fitting : (G : Gaps) → gapsFit G ≡ true → EachGap Fitting G
+unfolding gapsFit gapFits between
+fitting G h =
+    let at : (x : Float) → le least-gap x && le x most-gap ≡ true → Fitting x = λ x e. both-true (le least-gap x) (le x most-gap) e in
+    let p = both-true (gapFits (G .«bar_gap»)) (gapFits (G .pad) && (gapFits (G .«min_bar») && gapFits (G .buffer))) h in
+    let q = both-true (gapFits (G .pad)) (gapFits (G .«min_bar») && gapFits (G .buffer)) (p .1) in
+    let r = both-true (gapFits (G .«min_bar»)) (gapFits (G .buffer)) (q .1) in
+    record { bar-gap = at (G .«bar_gap») (p .0); pad = at (G .pad) (q .0); min-bar = at (G .«min_bar») (r .0); buffer = at (G .buffer) (r .1) }
 
 options : (O : Options) → inRange O ≡ true
     → (le (O .fill) sixteen ≡ true) × (le f0 (O .«tier_radius») ≡ true) × (le (O .«tier_radius») thousand ≡ true)
     × (le sixtyFourth (O .«tier_scale_1») ≡ true) × (le (O .«tier_scale_1») f1 ≡ true) × (le sixtyFourth (O .«tier_scale_2») ≡ true) × (le (O .«tier_scale_2») f1 ≡ true)
+    × EachGap Fitting (O .gaps)
 unfolding inRange between
 options O r =
-    parts (lt f0 (O .fill)) (le (O .fill) sixteen) (le f0 (O .«tier_radius»)) (le (O .«tier_radius») thousand) (le sixtyFourth (O .«tier_scale_1»)) (le (O .«tier_scale_1») f1) (le sixtyFourth (O .«tier_scale_2»)) (le (O .«tier_scale_2») f1)
-    (searchFits (O .search) && leb (O .«route_iterations») 100) r
+    let w = parts (lt f0 (O .fill)) (le (O .fill) sixteen) (le f0 (O .«tier_radius»)) (le (O .«tier_radius») thousand) (le sixtyFourth (O .«tier_scale_1»)) (le (O .«tier_scale_1») f1) (le sixtyFourth (O .«tier_scale_2»)) (le (O .«tier_scale_2») f1)
+    (searchFits (O .search) && (gapsFit (O .gaps) && leb (O .«route_iterations») 100)) r in
+    let v = both-true (searchFits (O .search)) (gapsFit (O .gaps) && leb (O .«route_iterations») 100) (w .7) in
+    (w .0, w .1, w .2, w .3, w .4, w .5, w .6, fitting (O .gaps) (both-true (gapsFit (O .gaps)) (leb (O .«route_iterations») 100) (v .1) .0))
 
--- a number of 1/64 at least is its own size
+-- a number of a power of two at least is its own size
 above-minus : (m : ℕ) (d : ℕ) → 0 < d → T (ltb 0 (m + d))
 above-minus m d h = lt→ltb 0 (m + d) (omega arith)
 
-plus-size : (x : Float) → T (le sixtyFourth x) → absOf x ≡ x
-unfolding le absOf ofBits
-plus-size nan h = absurd h
-plus-size (inf true) h = absurd h
-plus-size (inf false) h = refl
-plus-size (fin false m e) h = refl
-plus-size (fin true m e) h = absurd (not-both (fin true m e) sixtyFourth (minus m e) h)
+plus-size : (k : ℕ) (x : Float) → T (le (fin false 1 (negsuc k)) x) → absOf x ≡ x
+unfolding le absOf
+plus-size k nan h = absurd h
+plus-size k (inf true) h = absurd h
+plus-size k (inf false) h = refl
+plus-size k (fin false m e) h = refl
+plus-size k (fin true m e) h = absurd (not-both (fin true m e) (fin false 1 (negsuc k)) (minus m e) h)
   where
-    minus : (m : ℕ) (e : _) → T (lt (fin true m e) sixtyFourth)
-    minus m e = unfold lt ofBits in above-minus _ _ (one (down e) (down-pos e))
+    minus : (m : ℕ) (e : _) → T (lt (fin true m e) (fin false 1 (negsuc k)))
+    minus m e = unfold lt in above-minus _ _ (one (down e) (down-pos e))
       where
         one : (d : ℕ) → 0 < d → 0 < 1 * d
         one d h = omega arith
+
+-- 1/64 and 0.5 as powers of two
+low-is : sixtyFourth ≡ fin false 1 (negsuc 5)
+unfolding ofBits
+low-is = refl
+
+least-is : least-gap ≡ fin false 1 (negsuc 0)
+unfolding ofBits
+least-is = refl
 
 low-most : AtMost 1090 sixtyFourth
 unfolding mostTest isFinite ofBits
 low-most = most-lit 1090 sixtyFourth tt
 
-ranged : (x high : Float) → T (fits binary64 x) → AtMost 1090 high → le sixtyFourth x ≡ true → le x high ≡ true → Ranged x high
-ranged x high f h e g =
-    let l : T (le sixtyFourth x) = subst T (sym e) tt in
+least-most : AtMost 1090 least-gap
+unfolding mostTest isFinite ofBits
+least-most = most-lit 1090 least-gap tt
+
+from-to : (k : ℕ) (low x high : Float) → low ≡ fin false 1 (negsuc k) → T (fits binary64 x) → AtMost 1090 low → AtMost 1090 high → le low x ≡ true → le x high ≡ true → Ranged low x high
+from-to k low x high is f b h e g =
+    let l : T (le low x) = subst T (sym e) tt in
     let m : T (le x high) = subst T (sym g) tt in
+    let s : absOf x ≡ x = plus-size k x (subst (λ (y : Float). T (le y x)) is l) in
     record {
-      number = record { held = f; finite = between-most 1090 x sixtyFourth high l m low-most h .finite };
-      fine = λ z. ap (λ (y : Float). lt y sixtyFourth) (plus-size x l) ∙ lt-no x sixtyFourth l;
-      most = ap (λ (y : Float). lt high y) (plus-size x l) ∙ lt-no high x m;
+      number = record { held = f; finite = between-most 1090 x low high l m b h .finite };
+      fine = λ z. ap (λ (y : Float). lt y low) s ∙ lt-no x low l;
+      most = ap (λ (y : Float). lt high y) s ∙ lt-no high x m;
     }
+
+ranged : (x high : Float) → T (fits binary64 x) → AtMost 1090 high → le sixtyFourth x ≡ true → le x high ≡ true → Ranged sixtyFourth x high
+ranged x high f h e g = from-to 5 sixtyFourth x high low-is f low-most h e g
+
+most-most : AtMost 1090 most-gap
+unfolding mostTest isFinite ofBits
+most-most = most-lit 1090 most-gap tt
+
+ranged-gap : (x : Float) → T (fits binary64 x) → Fitting x → Ranged least-gap x most-gap
+ranged-gap x f h = from-to 0 least-gap x most-gap least-is f least-most most-most (h .0) (h .1)
 
 thousand-most : AtMost 1090 thousand
 unfolding mostTest isFinite ofBits
@@ -187,7 +229,7 @@ zero-under : lt thousand f0 ≡ false
 unfolding lt ofBits
 zero-under = refl
 
-ranged-radius : (x : Float) → T (fits binary64 x) → (eq x f0 ≡ true) ⊎ (le sixtyFourth x ≡ true) → le f0 x ≡ true → le x thousand ≡ true → Ranged x thousand
+ranged-radius : (x : Float) → T (fits binary64 x) → (eq x f0 ≡ true) ⊎ (le sixtyFourth x ≡ true) → le f0 x ≡ true → le x thousand ≡ true → Ranged sixtyFourth x thousand
 ranged-radius x f (inr e) l g = ranged x thousand f thousand-most e g
 ranged-radius x f (inl e) l g = record {
   number = record { held = f; finite = between-most 1090 x f0 thousand (subst T (sym l) tt) (subst T (sym g) tt) zero-most thousand-most .finite };
@@ -315,6 +357,12 @@ module _ (k : ℕ) (O : Options) (N : Network) (A : Asked k O N) where
         radius = ranged-radius (O .«tier_radius») (A .held .radius) (A .radius) (r .1) (r .2);
         scale-1 = ranged (O .«tier_scale_1») f1 (A .held .scale-1) one-most (r .3) (r .4);
         scale-2 = ranged (O .«tier_scale_2») f1 (A .held .scale-2) one-most (r .5) (r .6);
+        gaps = record {
+          bar-gap = ranged-gap (O .gaps .«bar_gap») (A .held .gaps .bar-gap) (r .7 .bar-gap);
+          pad = ranged-gap (O .gaps .pad) (A .held .gaps .pad) (r .7 .pad);
+          min-bar = ranged-gap (O .gaps .«min_bar») (A .held .gaps .min-bar) (r .7 .min-bar);
+          buffer = ranged-gap (O .gaps .buffer) (A .held .gaps .buffer) (r .7 .buffer);
+        };
         i = i .0;
         j = j .0;
         first = i .1;

@@ -40,6 +40,7 @@ straight = record {
   «tier_scale_2» = defaults .«tier_scale_2»;
   search = defaults .search;
   «route_iterations» = 0;
+  gaps = defaults .gaps;
 }
 
 abbrev pair : List Float → Network
@@ -80,7 +81,7 @@ allowed (suc (suc i)) l h = absurd (never i l)
 pub asked : Asked 1 straight (pair points)
 unfolding defaults fits le eq lt add div ofInt ofBits isFinite seeds seedOf sumTo mean busPoint pointOf busCounts busesIn stationCount pastTo tableFrom upFrom count keep
 asked = record {
-  held = record { fill = tt; radius = tt; scale-1 = tt; scale-2 = tt; map = held };
+  held = record { fill = tt; radius = tt; scale-1 = tt; scale-2 = tt; gaps = record { bar-gap = tt; pad = tt; min-bar = tt; buffer = tt }; map = held };
   iterations = refl;
   fill = refl;
   radius = inr refl;
@@ -96,7 +97,7 @@ asked = record {
 -- the unit of stations without branches, at these points: the bits of a float
 unfoldable pub unitOf : List ℕ → List Float → ℕ
 unfolding defaults unitFor spacing spacingOf typical sizes sizeFor sides rowsIn medianOf orElse nearest coordinates seeds seedOf sumTo mean busPoint pointOf occupied busCounts busesIn stationCount pastTo tableFrom upFrom count keep eq le lt add sub mul div ofInt ofBits toBits hypotOf keyOf minOf maxOf isFinite
-unitOf sub xy = toBits binary64 (unitFor (straight .fill) (spacing (seeds sub xy) (busCounts sub)) (typical (sizes sub [] (busCounts sub)) (busCounts sub)))
+unitOf sub xy = toBits binary64 (unitFor (straight .fill) (spacing (seeds sub xy) (busCounts sub)) (typical (sizes (straight .gaps) sub [] (busCounts sub)) (busCounts sub)))
 
 -- 2 ^ -1072, four times the least positive f64
 abbrev close : List Float

@@ -15,6 +15,7 @@ use Rattle.order.specs.Table.{tableFrom}
 use Rattle.geometry.specs.declared.Point.{Point}
 use Rattle.geometry.specs.Plane.{point, pointAt}
 use Rattle.proximity.specs.Near.{neighbours}
+use Rattle.network.specs.declared.options.Gaps.{Gaps}
 use Rattle.network.specs.declared.options.Options.{Options}
 use Rattle.network.specs.Words.{isOccupied, occupied}
 use Rattle.network.specs.Seed.{placeAt}
@@ -25,7 +26,7 @@ use Rattle.units.proofs.Near.{occupied-below}
 use Rattle.placement.specs.Place.{frameFor}
 use Rattle.units.specs.Doubles.{DoublesPoint}
 use Rattle.placement.specs.Doubles.{DoublesFrame}
-use Rattle.doubling.proofs.Sizes.{two, two-positive}
+use Rattle.doubling.proofs.Sizes.{Gap, two, two-positive}
 use Rattle.units.proofs.SpacingDoubles.{neighbours-of-doubles}
 
 -- ---- the seeds of some stations, as numbers side by side
@@ -94,25 +95,31 @@ scales-same lo top e r h d l O qs qs' counts gap gap' P f = table-same (at qs' g
     same s k = go s (zero-plus s (length counts) k) (isOccupied counts s) refl
 
 -- ---- frames
--- A unit of multiples of 2 ^ i grains and up to t, scales from 1/64 to 1, sides of whole blocks up to w: blocks of multiples of 2 ^ (i - 58), half sides of 2 ^ (i - 111).
-pub frame-doubles : {t w : ℕ} (lo : ℕ) (unit unit' scale : Float) (z : Size) → Doubles (lo + 111) t unit unit' → Stepped 1016 (2 ^ 1074) scale → Stepped 1074 (w * 2 ^ 1074) (z .w) → Stepped 1074 (w * 2 ^ 1074) (z .h)
-    → lo ≤ 1900 → 1 ≤ w → Limit t → Limit (t * w) → DoublesFrame lo (t * w) (frameFor unit scale z) (frameFor unit' scale z)
+-- A unit of multiples of 2 ^ i grains and up to t, scales from 1/64 to 1, sides up to w blocks: blocks of multiples of 2 ^ (i - 58), half sides of 2 ^ (i - 164).
+pub frame-doubles : {t w : ℕ} (lo : ℕ) (G : Gaps) (unit unit' scale : Float) (z : Size) → Doubles (lo + 164) t unit unit' → Stepped 1016 (2 ^ 1074) scale → Stepped 1021 (w * 2 ^ 1074) (z .w) → Stepped 1021 (w * 2 ^ 1074) (z .h)
+    → Gap (G .buffer) → lo ≤ 1900 → 1 ≤ w → Limit t → Limit (t * w)
+    → DoublesFrame lo (t * w) (frameFor (record { unit = unit; gaps = G }) scale z) (frameFor (record { unit = unit'; gaps = G }) scale z)
 unfolding frameFor
-frame-doubles {t} {w} lo unit unit' scale z u s a b r o l m =
-    let f : Doubles (lo + 53) t (unit ⊗ scale) (unit' ⊗ scale) = mul-doubles (lo + 53) t u s (same lo) (least lo) (le-refl (t * 2 ^ 1074)) l in
+frame-doubles {t} {w} lo G unit unit' scale z u s a b g r o l m =
+    let f : Doubles (lo + 106) t (unit ⊗ scale) (unit' ⊗ scale) = mul-doubles (lo + 106) t u s (same lo) (least-2 lo) (le-refl (t * 2 ^ 1074)) l in
     record {
       half = record { w = side f a; h = side f b };
-      f = widen-doubles lo (t * w) (finer lo) (more w o) f;
+      f = widen-doubles (lo + 106) (t * w) (le-refl (lo + 106)) (more w o) f;
+      same = refl;
+      gap = g;
     }
   where
-    same : (lo : ℕ) → lo + 53 + 1074 ≡ lo + 111 + 1016
+    same : (lo : ℕ) → lo + 106 + 1074 ≡ lo + 164 + 1016
     same lo = omega arith
 
     least : (lo : ℕ) → 52 ≤ lo + 53
     least lo = omega arith
 
-    finer : (lo : ℕ) → lo ≤ lo + 53
-    finer lo = omega arith
+    least-2 : (lo : ℕ) → 52 ≤ lo + 106
+    least-2 lo = omega arith
+
+    sized : (lo : ℕ) → lo + 53 + 1074 ≡ lo + 106 + 1021
+    sized lo = omega arith
 
     more : (w : ℕ) → 1 ≤ w → t ≤ t * w
     more w o = let h : 1 * t ≤ w * t = mul-le-mul-right t o in omega arith
@@ -132,7 +139,7 @@ frame-doubles {t} {w} lo unit unit' scale z u s a b r o l m =
         at : (p q x : ℕ) → q ≡ 2 * p → p * (2 * x) ≤ q * x
         at p q x e = let h : q * x ≡ 2 * p * x = ap (λ (k : ℕ). k * x) e in omega arith
 
-    side : {x : Float} → Doubles (lo + 53) t (unit ⊗ scale) (unit' ⊗ scale) → Stepped 1074 (w * 2 ^ 1074) x → Doubles lo (t * w) (x ⊗ (unit ⊗ scale) ⊘ f2) (x ⊗ (unit' ⊗ scale) ⊘ f2)
+    side : {x : Float} → Doubles (lo + 106) t (unit ⊗ scale) (unit' ⊗ scale) → Stepped 1021 (w * 2 ^ 1074) x → Doubles lo (t * w) (x ⊗ (unit ⊗ scale) ⊘ f2) (x ⊗ (unit' ⊗ scale) ⊘ f2)
     side {x} f a =
-        let p : Doubles (lo + 53) (t * w) (x ⊗ (unit ⊗ scale)) (x ⊗ (unit' ⊗ scale)) = mul-doubles-2 (lo + 53) (t * w) a f refl (least lo) (product w (2 ^ 1074)) m in
+        let p : Doubles (lo + 53) (t * w) (x ⊗ (unit ⊗ scale)) (x ⊗ (unit' ⊗ scale)) = mul-doubles-2 (lo + 53) (t * w) a f (sized lo) (least lo) (product w (2 ^ 1074)) m in
         div-doubles lo (t * w) p two two-positive (reach lo r) low (le-refl (t * w * 2 ^ 1074)) m

@@ -30,8 +30,8 @@ use Rattle.network.specs.Words.{busCounts, occupied}
 use Rattle.network.specs.Seed.{seeds}
 use Rattle.units.specs.Unit.{coordinates}
 use Rattle.units.specs.Doubles.{DoublesPoint}
-use Rattle.doubling.specs.Doubling.{sixtyFourth, Allowed}
-use Rattle.doubling.proofs.Sizes.{power, sizeless}
+use Rattle.doubling.specs.Doubling.{sixtyFourth, Allowed, EachGap}
+use Rattle.doubling.proofs.Sizes.{Gap, power, sizeless}
 use Rattle.doubling.proofs.Seeds.{bus-doubles, seeds-doubles}
 use Rattle.doubling.proofs.Frames.{coordinates-doubles}
 use Rattle.doubling.proofs.Distinct.{median-some}
@@ -45,10 +45,17 @@ sixteen = ofBits binary64 0x4030_0000_0000_0000
 abbrev pub thousand : Float
 thousand = ofBits binary64 0x408F_4000_0000_0000
 
--- a size from 1/64 to a limit, or 0
-pub record Ranged (x high : Float) : Type 0 where
+-- 0.5 and 8
+abbrev pub least-gap : Float
+least-gap = ofBits binary64 0x3FE0_0000_0000_0000
+
+abbrev pub most-gap : Float
+most-gap = ofBits binary64 0x4020_0000_0000_0000
+
+-- a size from one limit to another, or 0
+pub record Ranged (low x high : Float) : Type 0 where
   pub number : Finite x
-  pub fine : eq x f0 ≡ false → lt (absOf x) sixtyFourth ≡ false
+  pub fine : eq x f0 ≡ false → lt (absOf x) low ≡ false
   pub most : lt high (absOf x) ≡ false
 
 pub record Passed (k : ℕ) (O : Options) (sub : List ℕ) (ks : List Kind) (xy : List Float) : Type 0 where
@@ -56,10 +63,11 @@ pub record Passed (k : ℕ) (O : Options) (sub : List ℕ) (ks : List Kind) (xy 
   pub branches : length ks ≤ 2 ^ 13
   pub held : (i : ℕ) → T (fits binary64 (getD xy i nan))
   pub allowed : (i : ℕ) → isFinite (getD xy (2 * i) nan) ≡ true → isFinite (getD xy (2 * i + 1) nan) ≡ true → Allowed k (getD xy (2 * i) nan) × Allowed k (getD xy (2 * i + 1) nan)
-  pub fill : Ranged (O .fill) sixteen
-  pub radius : Ranged (O .«tier_radius») thousand
-  pub scale-1 : Ranged (O .«tier_scale_1») f1
-  pub scale-2 : Ranged (O .«tier_scale_2») f1
+  pub fill : Ranged sixtyFourth (O .fill) sixteen
+  pub radius : Ranged sixtyFourth (O .«tier_radius») thousand
+  pub scale-1 : Ranged sixtyFourth (O .«tier_scale_1») f1
+  pub scale-2 : Ranged sixtyFourth (O .«tier_scale_2») f1
+  pub gaps : EachGap (λ x. Ranged least-gap x most-gap) (O .gaps)
   -- two occupied stations, the i-th and the j-th, on different seeds
   pub i : ℕ
   pub j : ℕ
@@ -161,8 +169,27 @@ low-grains : grains sixtyFourth ≡ 2 ^ 1068
 unfolding grains ofBits
 low-grains = refl
 
-ranged-stepped : (x high : Float) (top : ℕ) → Finite high → absOf high ≡ high → grains high ≤ top → Ranged x high → Stepped 1016 top x
+ranged-stepped : (x high : Float) (top : ℕ) → Finite high → absOf high ≡ high → grains high ≤ top → Ranged sixtyFourth x high → Stepped 1016 top x
 ranged-stepped x high top h p q r = between-stepped x sixtyFourth high (r .number) low-number h low-plus p 1016 top (r .fine) (r .most) (le-of-eq (sym low-grains)) q
+
+gap-numbers : Finite least-gap × Finite most-gap
+unfolding fits isFinite ofBits
+gap-numbers = (record { held = tt; finite = tt }, record { held = tt; finite = tt })
+
+gap-plus : (absOf least-gap ≡ least-gap) × (absOf most-gap ≡ most-gap)
+unfolding absOf ofBits
+gap-plus = (refl, refl)
+
+least-grains : grains least-gap ≡ 2 ^ 1073
+unfolding grains ofBits
+least-grains = refl
+
+most-grains : grains most-gap ≤ 8 * 2 ^ 1074
+unfolding grains ofBits
+most-grains = lit≤ tt
+
+gap-stepped : (x : Float) → Ranged least-gap x most-gap → Gap x
+gap-stepped x r = between-stepped x least-gap most-gap (r .number) (gap-numbers .0) (gap-numbers .1) (gap-plus .0) (gap-plus .1) 1021 (8 * 2 ^ 1074) (r .fine) (r .most) (le-of-eq (sym least-grains)) most-grains
 
 one-number : Finite f1
 unfolding fits isFinite ofBits
@@ -223,6 +250,7 @@ in-ranges O sub ks xy A = record {
   radius = ranged-stepped (O .«tier_radius») thousand (1024 * 2 ^ 1074) thousand-number thousand-plus thousand-grains (A .radius);
   scale-1 = ranged-stepped (O .«tier_scale_1») f1 (2 ^ 1074) one-number one-plus one-grains (A .scale-1);
   scale-2 = ranged-stepped (O .«tier_scale_2») f1 (2 ^ 1074) one-number one-plus one-grains (A .scale-2);
+  gaps = record { bar-gap = gap-stepped (O .gaps .«bar_gap») (A .gaps .bar-gap); pad = gap-stepped (O .gaps .pad) (A .gaps .pad); min-bar = gap-stepped (O .gaps .«min_bar») (A .gaps .min-bar); buffer = gap-stepped (O .gaps .buffer) (A .gaps .buffer) };
   some = median-some ps (length ss) (A .i) (A .j) (A .first) (A .second) other (distance-finite p q (P .x .stepped) (P .y .stepped) (Q .x .stepped) (Q .y .stepped)) (distance-positive p q (P .x .stepped) (P .y .stepped) (Q .x .stepped) (Q .y .stepped) (A .different));
 }
   where

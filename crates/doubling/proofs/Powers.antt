@@ -148,6 +148,7 @@ module _ (k : ℕ) (O : Options) (sub : List ℕ) (ks : List Kind) (xy : List Fl
     fill = P .fill;
     radius = P .radius;
     scale-1 = P .scale-1;
+    gaps = P .gaps;
     scale-2 = P .scale-2;
     i = P .i;
     j = P .j;
@@ -194,6 +195,7 @@ module _ (k : ℕ) (O : Options) (sub : List ℕ) (ks : List Kind) (xy : List Fl
     fill = P .fill;
     radius = P .radius;
     scale-1 = P .scale-1;
+    gaps = P .gaps;
     scale-2 = P .scale-2;
     i = P .i;
     j = P .j;

@@ -15,6 +15,7 @@ use Rattle.order.specs.Order.{pick}
 use Rattle.order.specs.Table.{joined}
 use Rattle.geometry.specs.declared.Point.{Point}
 use Rattle.geometry.specs.declared.Box.{Box}
+use Rattle.network.specs.declared.options.Gaps.{Gaps}
 use Rattle.network.specs.declared.words.Kind.{Kind}
 use Rattle.network.specs.declared.words.Kind.the-variants.{Undrawn, Open, Internal, Line}
 use Rattle.network.specs.Words.{kindAt, stationOf}
@@ -29,13 +30,14 @@ use Rattle.runs.specs.Run.{Scene, Piece, slot, ledPath, linePoints, runFor, run
 use Rattle.results.specs.Bounds.{around, aroundAll, nowhere, boundsOf}
 use Rattle.units.specs.Doubles.{DoublesPoint, Paired}
 use Rattle.placement.specs.Doubles.{DoublesBox}
+use Rattle.doubling.specs.Doubling.{EachGap}
 use Rattle.doubling.specs.Twice.{TwiceBox}
-use Rattle.doubling.proofs.Sizes.{power, two, two-positive}
+use Rattle.doubling.proofs.Sizes.{Gap, power, two, two-positive}
 use Rattle.doubling.proofs.Bars.{DoublesBar, Block, row-y}
 
--- points of runs: multiples of 2 ^ 64 grains, up to 2 ^ 1166
+-- points of runs: multiples of 2 ^ 10 grains, up to 2 ^ 1221
 abbrev pub Spot : Point → Point → Type 0
-Spot p p' = DoublesPoint 64 (2 ^ 1166) p p'
+Spot p p' = DoublesPoint 10 (2 ^ 1221) p p'
 
 -- the scenes of two drawings
 pub record Scenes (S S' : Scene) : Type 0 where
@@ -44,48 +46,52 @@ pub record Scenes (S S' : Scene) : Type 0 where
   pub from-rows : S' .fromRows ≡ S .fromRows
   pub to-rows : S' .toRows ≡ S .toRows
   pub few : (e : ℕ) → (getD (S .fromRows) e 0 ≤ 2 ^ 13) × (getD (S .toRows) e 0 ≤ 2 ^ 13)
+  pub same-gaps : S' .gaps ≡ S .gaps
+  pub gaps : EachGap Gap (S .gaps)
   pub blocks : (s : ℕ) → Block (blockAt (S .blocks) s) (blockAt (S' .blocks) s)
-  pub boxes : (s : ℕ) → DoublesBox 171 (2 ^ 1153) (boxIn (S .boxes) s) (boxIn (S' .boxes) s)
-  pub places : (s : ℕ) → DoublesPoint 171 (2 ^ 1153) (placeAt (S .places) s) (placeAt (S' .places) s)
-  pub bars : (i : ℕ) → DoublesBar 117 (2 ^ 1165) (barAt (S .bars) i) (barAt (S' .bars) i)
+  pub boxes : (s : ℕ) → DoublesBox 116 (2 ^ 1208) (boxIn (S .boxes) s) (boxIn (S' .boxes) s)
+  pub places : (s : ℕ) → DoublesPoint 116 (2 ^ 1208) (placeAt (S .places) s) (placeAt (S' .places) s)
+  pub bars : (i : ℕ) → DoublesBar 63 (2 ^ 1220) (barAt (S .bars) i) (barAt (S' .bars) i)
   pub led : S .led ≡ false
   pub led' : S' .led ≡ false
   pub ways : (e : ℕ) → getD (S .ways) e [] ≡ []
   pub ways' : (e : ℕ) → getD (S' .ways) e [] ≡ []
 
--- 64 is 117 - 53
-pub position-doubles : (b b' : Bar) → DoublesBar 117 (2 ^ 1165) b b' → Spot (position b) (position b')
+-- 10 is 63 - 53
+pub position-doubles : (b b' : Bar) → DoublesBar 63 (2 ^ 1220) b b' → Spot (position b) (position b')
 unfolding position
 position-doubles b b' h = record {
-  x = widen-doubles 64 (2 ^ 1166) (lit≤ tt) (lit≤ tt) (h .x);
-  y = div-doubles 64 (2 ^ 1166) (add-doubles (h .y0) (h .y1) (power 1166 (lit< tt))) two two-positive (lit≤ tt) (lit≤ tt) (lit≤ tt) (power 1166 (lit< tt));
+  x = widen-doubles 10 (2 ^ 1221) (lit≤ tt) (lit≤ tt) (h .x);
+  y = div-doubles 10 (2 ^ 1221) (add-doubles (h .y0) (h .y1) (power 1221 (lit< tt))) two two-positive (lit≤ tt) (lit≤ tt) (lit≤ tt) (power 1221 (lit< tt));
 }
 
 pick-doubles : {lo top : ℕ} {x x' y y' : Float} (b : Bool) → Doubles lo top x x' → Doubles lo top y y' → Doubles lo top (pick b x y) (pick b x' y')
 pick-doubles true f g = f
 pick-doubles false f g = g
 
-exit-x : (b b' : Box) (p p' q q' : Point) → DoublesBox 171 (2 ^ 1153) b b' → DoublesPoint 171 (2 ^ 1153) p p' → DoublesPoint 171 (2 ^ 1153) q q' → Doubles 64 (2 ^ 1166) (exitX b p q) (exitX b' p' q')
+exit-x : (b b' : Box) (p p' q q' : Point) → DoublesBox 116 (2 ^ 1208) b b' → DoublesPoint 116 (2 ^ 1208) p p' → DoublesPoint 116 (2 ^ 1208) q q' → Doubles 10 (2 ^ 1221) (exitX b p q) (exitX b' p' q')
 unfolding exitX
 exit-x b b' p p' q q' h f g =
-    subst (λ (t : Bool). Doubles 64 (2 ^ 1166) (pick (le (p .x) (q .x)) (b .right) (b .left)) (pick t (b' .right) (b' .left))) (sym (le-of-doubles (f .x) (g .x)))
-    (widen-doubles 64 (2 ^ 1166) (lit≤ tt) (lit≤ tt) (pick-doubles (le (p .x) (q .x)) (h .right) (h .left)))
+    subst (λ (t : Bool). Doubles 10 (2 ^ 1221) (pick (le (p .x) (q .x)) (b .right) (b .left)) (pick t (b' .right) (b' .left))) (sym (le-of-doubles (f .x) (g .x)))
+    (widen-doubles 10 (2 ^ 1221) (lit≤ tt) (lit≤ tt) (pick-doubles (le (p .x) (q .x)) (h .right) (h .left)))
 
 module _ (S S' : Scene) (H : Scenes S S') where
-  slot-at : (i row : ℕ) → row ≤ 2 ^ 13 → Spot (rowEnd (S .sub) (S .blocks) (S .boxes) (S .bars) i row) (rowEnd (S .sub) (S' .blocks) (S' .boxes) (S' .bars) i row)
+  slot-at : (i row : ℕ) → row ≤ 2 ^ 13 → Spot (rowEnd (S .gaps) (S .sub) (S .blocks) (S .boxes) (S .bars) i row) (rowEnd (S .gaps) (S .sub) (S' .blocks) (S' .boxes) (S' .bars) i row)
   unfolding rowEnd
   slot-at i row h =
       let s = stationOf (S .sub) i in
       record {
-        x = widen-doubles 64 (2 ^ 1166) (lit≤ tt) (lit≤ tt) (H .bars i .x);
-        y = widen-doubles 64 (2 ^ 1166) (lit≤ tt) (lit≤ tt) (row-y (boxIn (S .boxes) s) (boxIn (S' .boxes) s) (blockAt (S .blocks) s) (blockAt (S' .blocks) s) (H .boxes s) (H .blocks s) row h);
+        x = widen-doubles 10 (2 ^ 1221) (lit≤ tt) (lit≤ tt) (H .bars i .x);
+        y = widen-doubles 10 (2 ^ 1221) (lit≤ tt) (lit≤ tt) (row-y (S .gaps) (H .gaps) (boxIn (S .boxes) s) (boxIn (S' .boxes) s) (blockAt (S .blocks) s) (blockAt (S' .blocks) s) (H .boxes s) (H .blocks s) row h);
       }
 
   slot-doubles : (i row : ℕ) → row ≤ 2 ^ 13 → Spot (slot S i row) (slot S' i row)
   unfolding slot
-  slot-doubles i row h = subst (λ (l : List ℕ). Spot (rowEnd (S .sub) (S .blocks) (S .boxes) (S .bars) i row) (rowEnd l (S' .blocks) (S' .boxes) (S' .bars) i row)) (sym (H .sub)) (slot-at i row h)
+  slot-doubles i row h =
+      subst (λ (g : Gaps). Spot (rowEnd (S .gaps) (S .sub) (S .blocks) (S .boxes) (S .bars) i row) (rowEnd g (S' .sub) (S' .blocks) (S' .boxes) (S' .bars) i row)) (sym (H .same-gaps))
+      (subst (λ (l : List ℕ). Spot (rowEnd (S .gaps) (S .sub) (S .blocks) (S .boxes) (S .bars) i row) (rowEnd (S .gaps) l (S' .blocks) (S' .boxes) (S' .bars) i row)) (sym (H .sub)) (slot-at i row h))
 
-  exit-doubles : (s t : ℕ) (y y' : Float) → Doubles 64 (2 ^ 1166) y y' → Spot (exit (S .boxes) (S .places) s t y) (exit (S' .boxes) (S' .places) s t y')
+  exit-doubles : (s t : ℕ) (y y' : Float) → Doubles 10 (2 ^ 1221) y y' → Spot (exit (S .boxes) (S .places) s t y) (exit (S' .boxes) (S' .places) s t y')
   unfolding exit
   exit-doubles s t y y' h = record { x = exit-x (boxIn (S .boxes) s) (boxIn (S' .boxes) s) (placeAt (S .places) s) (placeAt (S' .places) s) (placeAt (S .places) t) (placeAt (S' .places) t) (H .boxes s) (H .places s) (H .places t); y = h }
 
@@ -96,26 +102,26 @@ module _ (S S' : Scene) (H : Scenes S S') where
       let path = exit (T .boxes) (T .places) s t (p .y) ∷ exit (T .boxes) (T .places) t s (q .y) ∷ [] in
       ap (λ (b : Bool). p ∷ (cond b (detour (T .boxes) (T .occupied) (cellSize (T .boxes) (T .occupied)) (T .gap) s t path) path ++ (q ∷ []))) e
 
-  line-doubles : (s t : ℕ) (p p' q q' : Point) → Spot p p' → Spot q q' → Paired (DoublesPoint 64 (2 ^ 1166)) (linePoints S s t [] p q) (linePoints S' s t [] p' q')
+  line-doubles : (s t : ℕ) (p p' q q' : Point) → Spot p p' → Spot q q' → Paired (DoublesPoint 10 (2 ^ 1221)) (linePoints S s t [] p q) (linePoints S' s t [] p' q')
   line-doubles s t p p' q q' f g =
-      subst (λ (l : List Point). Paired (DoublesPoint 64 (2 ^ 1166)) l (linePoints S' s t [] p' q')) (sym (straight S s t p q (H .led)))
-      (subst (λ (l : List Point). Paired (DoublesPoint 64 (2 ^ 1166)) (p ∷ exit (S .boxes) (S .places) s t (p .y) ∷ exit (S .boxes) (S .places) t s (q .y) ∷ q ∷ []) l) (sym (straight S' s t p' q' (H .led')))
+      subst (λ (l : List Point). Paired (DoublesPoint 10 (2 ^ 1221)) l (linePoints S' s t [] p' q')) (sym (straight S s t p q (H .led)))
+      (subst (λ (l : List Point). Paired (DoublesPoint 10 (2 ^ 1221)) (p ∷ exit (S .boxes) (S .places) s t (p .y) ∷ exit (S .boxes) (S .places) t s (q .y) ∷ q ∷ []) l) (sym (straight S' s t p' q' (H .led')))
       (f, (exit-doubles s t (p .y) (p' .y) (f .y), (exit-doubles t s (q .y) (q' .y) (g .y), (g, tt)))))
 
-  run-for : (ra rb : ℕ) (k : Kind) → ra ≤ 2 ^ 13 → rb ≤ 2 ^ 13 → Paired (DoublesPoint 64 (2 ^ 1166)) (runFor S ra rb [] k) (runFor S' ra rb [] k)
+  run-for : (ra rb : ℕ) (k : Kind) → ra ≤ 2 ^ 13 → rb ≤ 2 ^ 13 → Paired (DoublesPoint 10 (2 ^ 1221)) (runFor S ra rb [] k) (runFor S' ra rb [] k)
   unfolding runFor
   run-for ra rb Undrawn h k = tt
   run-for ra rb (Open a b) h k = (position-doubles (barAt (S .bars) a) (barAt (S' .bars) a) (H .bars a), (position-doubles (barAt (S .bars) b) (barAt (S' .bars) b) (H .bars b), tt))
   run-for ra rb (Internal a b) h k = (slot-doubles a ra h, (slot-doubles b rb k, tt))
   run-for ra rb (Line a b) h k =
-      subst (λ (l : List ℕ). Paired (DoublesPoint 64 (2 ^ 1166)) (linePoints S (stationOf (S .sub) a) (stationOf (S .sub) b) [] (slot S a ra) (slot S b rb)) (linePoints S' (stationOf l a) (stationOf l b) [] (slot S' a ra) (slot S' b rb))) (sym (H .sub))
+      subst (λ (l : List ℕ). Paired (DoublesPoint 10 (2 ^ 1221)) (linePoints S (stationOf (S .sub) a) (stationOf (S .sub) b) [] (slot S a ra) (slot S b rb)) (linePoints S' (stationOf l a) (stationOf l b) [] (slot S' a ra) (slot S' b rb))) (sym (H .sub))
       (line-doubles (stationOf (S .sub) a) (stationOf (S .sub) b) (slot S a ra) (slot S' a ra) (slot S b rb) (slot S' b rb) (slot-doubles a ra h) (slot-doubles b rb k))
 
-  pub run-doubles : (e : ℕ) → Paired (DoublesPoint 64 (2 ^ 1166)) (runOf S e) (runOf S' e)
+  pub run-doubles : (e : ℕ) → Paired (DoublesPoint 10 (2 ^ 1221)) (runOf S e) (runOf S' e)
   unfolding runOf
   run-doubles e =
-      subst (λ (w : List Point). Paired (DoublesPoint 64 (2 ^ 1166)) (runFor S (getD (S .fromRows) e 0) (getD (S .toRows) e 0) w (kindAt (S .kinds) e)) (runOf S' e)) (sym (H .ways e))
-      (subst (λ (l : List Point). Paired (DoublesPoint 64 (2 ^ 1166)) (runFor S (getD (S .fromRows) e 0) (getD (S .toRows) e 0) [] (kindAt (S .kinds) e)) l) (sym other)
+      subst (λ (w : List Point). Paired (DoublesPoint 10 (2 ^ 1221)) (runFor S (getD (S .fromRows) e 0) (getD (S .toRows) e 0) w (kindAt (S .kinds) e)) (runOf S' e)) (sym (H .ways e))
+      (subst (λ (l : List Point). Paired (DoublesPoint 10 (2 ^ 1221)) (runFor S (getD (S .fromRows) e 0) (getD (S .toRows) e 0) [] (kindAt (S .kinds) e)) l) (sym other)
       (run-for (getD (S .fromRows) e 0) (getD (S .toRows) e 0) (kindAt (S .kinds) e) (H .few e .0) (H .few e .1)))
     where
       other : runFor S' (getD (S' .fromRows) e 0) (getD (S' .toRows) e 0) (getD (S' .ways) e []) (kindAt (S' .kinds) e) ≡ runFor S' (getD (S .fromRows) e 0) (getD (S .toRows) e 0) [] (kindAt (S .kinds) e)
@@ -134,13 +140,13 @@ pub record DoublesPiece (p p' : Piece) : Type 0 where
 apart-of-doubles : (p p' q q' : Point) → Spot p p' → Spot q q' → apart p' q' ≡ apart p q
 unfolding apart
 apart-of-doubles p p' q q' f g =
-    lt-of-doubles (zero-doubles 64 (2 ^ 1168)) (add-doubles (abs-doubles (sub-doubles (f .x) (g .x) (power 1167 (lit< tt)))) (abs-doubles (sub-doubles (f .y) (g .y) (power 1167 (lit< tt)))) (power 1168 (lit< tt)))
+    lt-of-doubles (zero-doubles 10 (2 ^ 1223)) (add-doubles (abs-doubles (sub-doubles (f .x) (g .x) (power 1222 (lit< tt)))) (abs-doubles (sub-doubles (f .y) (g .y) (power 1222 (lit< tt)))) (power 1223 (lit< tt)))
 
 pick-pieces : (b : Bool) (l l' m m' : List Piece) → Paired DoublesPiece l l' → Paired DoublesPiece m m' → Paired DoublesPiece (pick b l m) (pick b l' m')
 pick-pieces true l l' m m' h k = h
 pick-pieces false l l' m m' h k = k
 
-pieces-doubles : (e : ℕ) (l l' : List Point) → Paired (DoublesPoint 64 (2 ^ 1166)) l l' → Paired DoublesPiece (pieces e l) (pieces e l')
+pieces-doubles : (e : ℕ) (l l' : List Point) → Paired (DoublesPoint 10 (2 ^ 1221)) l l' → Paired DoublesPiece (pieces e l) (pieces e l')
 unfolding pieces
 pieces-doubles e [] [] h = tt
 pieces-doubles e [] (p' ∷ ps') h = absurd h
@@ -168,7 +174,7 @@ unfolding joined
 joined-pieces f f' h zero = tt
 joined-pieces f f' h (suc n) = append-pieces (joined f n) (joined f' n) (f n) (f' n) (joined-pieces f f' h n) (h n)
 
-pub all-pieces : (ks : List Kind) (rs rs' : List (List Point)) → ((e : ℕ) → Paired (DoublesPoint 64 (2 ^ 1166)) (getD rs e []) (getD rs' e [])) → Paired DoublesPiece (allPieces ks rs) (allPieces ks rs')
+pub all-pieces : (ks : List Kind) (rs rs' : List (List Point)) → ((e : ℕ) → Paired (DoublesPoint 10 (2 ^ 1221)) (getD rs e []) (getD rs' e [])) → Paired DoublesPiece (allPieces ks rs) (allPieces ks rs')
 unfolding allPieces
 all-pieces ks rs rs' h =
     append-pieces (joined (first rs) (length ks)) (joined (first rs') (length ks)) (joined (second rs) (length ks)) (joined (second rs') (length ks))

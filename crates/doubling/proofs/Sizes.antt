@@ -27,14 +27,15 @@ use Rattle.order.specs.Table.{table}
 use Rattle.order.proofs.Tables.{getD-table, length-table, howMany-le}
 use Rattle.order.specs.Median.{finiteOf, insertFloat, sortFloats, middle, medianOf, orElse}
 use Rattle.geometry.specs.declared.Point.{Point}
+use Rattle.network.specs.declared.options.Gaps.{Gaps}
 use Rattle.network.specs.declared.options.Options.{Options}
 use Rattle.network.specs.declared.words.Kind.{Kind}
-use Rattle.network.specs.Options.{barGap, pad, minBar}
 use Rattle.network.specs.Words.{busesIn, busCounts, isOccupied, occupied}
 use Rattle.stations.specs.Row.{rowsIn}
 use Rattle.units.specs.Size.{Size, widthFor, heightFor, sizeFor, sizes, sizeAt, sides}
 use Rattle.units.specs.Unit.{typical}
 use Rattle.units.specs.Scale.{tier, scaleAt, scalesOf, scales}
+use Rattle.doubling.specs.Doubling.{EachGap}
 
 -- ---- constants
 pub one : Stepped 1074 (2 ^ 1074) f1
@@ -55,30 +56,35 @@ power k h = record { q = 1; k = k; is = at (2 ^ k); digits = lit< tt; room = pow
     at : (p : ℕ) → p ≡ 1 * p
     at p = omega arith
 
--- ---- sizes: at most 2 ^ 14 blocks
+-- ---- a gap from 0.5 to 8: 1021 is 1074 - 1 - 52
+abbrev pub Gap : Float → Type 0
+Gap x = Stepped 1021 (8 * 2 ^ 1074) x
+
+twice-stepped : (x : Float) → Gap x → Stepped 1021 (2 ^ 15 * 2 ^ 1074) (f2 ⊗ x)
+twice-stepped x g = mul-stepped 1021 (2 ^ 15 * 2 ^ 1074) two g refl (lit≤ tt) (power 1089 (lit< tt))
+
+-- ---- sizes: at most 2 ^ 16 blocks
 -- the width of up to 2 ^ 12 buses, the height of up to 2 ^ 13 rows
-width-stepped : (n : ℕ) → n ≤ 2 ^ 12 → Stepped 1074 (2 ^ 14 * 2 ^ 1074) (widthFor n)
+width-stepped : (G : Gaps) → EachGap Gap G → (n : ℕ) → n ≤ 2 ^ 12 → Stepped 1021 (2 ^ 16 * 2 ^ 1074) (widthFor G n)
 unfolding widthFor
-width-stepped n h =
+width-stepped G E n h =
     let a : Stepped 1074 (2 ^ 12 * 2 ^ 1074) (num (n - 1)) = widen-to 1074 (2 ^ 12 * 2 ^ 1074) (le-refl 1074) (mul-le-mul-right (2 ^ 1074) (less n h)) (num-stepped (n - 1) (le-trans (less n h) (lit≤ tt))) in
-    let b : Stepped 1074 (2 ^ 13 * 2 ^ 1074) (num (n - 1) ⊗ barGap) = mul-stepped 1074 (2 ^ 13 * 2 ^ 1074) a two refl (lit≤ tt) (power 1087 (lit< tt)) in
-    let c : Stepped 1074 (2 ^ 13 * 2 ^ 1074) (f2 ⊗ pad) = mul-stepped 1074 (2 ^ 13 * 2 ^ 1074) two one refl (lit≤ tt) (power 1087 (lit< tt)) in
-    add-stepped b c (power 1088 (lit< tt))
+    let b : Stepped 1021 (2 ^ 15 * 2 ^ 1074) (G .«bar_gap» ⊗ num (n - 1)) = mul-stepped 1021 (2 ^ 15 * 2 ^ 1074) (E .bar-gap) a refl (lit≤ tt) (power 1089 (lit< tt)) in
+    add-stepped b (twice-stepped (G .pad) (E .pad)) (power 1090 (lit< tt))
   where
     less : (n : ℕ) → n ≤ 2 ^ 12 → n - 1 ≤ 2 ^ 12
     less n h = omega arith
 
-height-stepped : (n : ℕ) → n ≤ 2 ^ 13 → Stepped 1074 (2 ^ 14 * 2 ^ 1074) (heightFor n)
+height-stepped : (G : Gaps) → EachGap Gap G → (n : ℕ) → n ≤ 2 ^ 13 → Stepped 1021 (2 ^ 16 * 2 ^ 1074) (heightFor G n)
 unfolding heightFor
-height-stepped n h =
-    let a : Stepped 1074 (2 ^ 13 * 2 ^ 1074) (num n) = widen-to 1074 (2 ^ 13 * 2 ^ 1074) (le-refl 1074) (mul-le-mul-right (2 ^ 1074) h) (num-stepped n (le-trans h (lit≤ tt))) in
-    let b : Stepped 1074 (2 ^ 13 * 2 ^ 1074) minBar = widen-to 1074 (2 ^ 13 * 2 ^ 1074) (le-refl 1074) (lit≤ tt) two in
-    let c : Stepped 1074 (2 ^ 13 * 2 ^ 1074) (f2 ⊗ pad) = mul-stepped 1074 (2 ^ 13 * 2 ^ 1074) two one refl (lit≤ tt) (power 1087 (lit< tt)) in
-    add-stepped (max-stepped a b) c (power 1088 (lit< tt))
+height-stepped G E n h =
+    let a : Stepped 1021 (2 ^ 15 * 2 ^ 1074) (num n) = widen-to 1021 (2 ^ 15 * 2 ^ 1074) (lit≤ tt) (le-trans (mul-le-mul-right (2 ^ 1074) h) (lit≤ tt)) (num-stepped n (le-trans h (lit≤ tt))) in
+    let b : Stepped 1021 (2 ^ 15 * 2 ^ 1074) (G .«min_bar») = widen-to 1021 (2 ^ 15 * 2 ^ 1074) (le-refl 1021) (lit≤ tt) (E .min-bar) in
+    add-stepped (max-stepped a b) (twice-stepped (G .pad) (E .pad)) (power 1090 (lit< tt))
 
 pub record Blocks (z : Size) : Type 0 where
-  pub w : Stepped 1074 (2 ^ 14 * 2 ^ 1074) (z .w)
-  pub h : Stepped 1074 (2 ^ 14 * 2 ^ 1074) (z .h)
+  pub w : Stepped 1021 (2 ^ 16 * 2 ^ 1074) (z .w)
+  pub h : Stepped 1021 (2 ^ 16 * 2 ^ 1074) (z .h)
 
 table-in : {A : Type 0} (P : A → Type 0) (f : ℕ → A) (n : ℕ) (d : A) → ((s : ℕ) → P (f s)) → P d → (s : ℕ) → P (getD (table f n) s d)
 table-in P f n d h k s = go (decLe n s)
@@ -95,12 +101,12 @@ rows-le : (sub : List ℕ) (ks : List Kind) (s : ℕ) → length ks ≤ 2 ^ 13 �
 unfolding rowsIn
 rows-le sub ks s h = le-trans (howMany-le _ (length ks)) h
 
-pub sizes-stepped : (sub : List ℕ) (ks : List Kind) → length sub ≤ 2 ^ 12 → length ks ≤ 2 ^ 13 → (s : ℕ) → Blocks (sizeAt (sizes sub ks (busCounts sub)) s)
+pub sizes-stepped : (G : Gaps) → EachGap Gap G → (sub : List ℕ) (ks : List Kind) → length sub ≤ 2 ^ 12 → length ks ≤ 2 ^ 13 → (s : ℕ) → Blocks (sizeAt (sizes G sub ks (busCounts sub)) s)
 unfolding sizes sizeFor
-sizes-stepped sub ks h k =
-    table-in Blocks (λ s. sizeFor (getD (busCounts sub) s 0) (rowsIn sub ks s)) (length (busCounts sub)) (record { w = f0; h = f0 })
-    (λ s. record { w = width-stepped (getD (busCounts sub) s 0) (counts-le sub s h); h = height-stepped (rowsIn sub ks s) (rows-le sub ks s k) })
-    (record { w = zero-doubles 1074 (2 ^ 14 * 2 ^ 1074) .stepped; h = zero-doubles 1074 (2 ^ 14 * 2 ^ 1074) .stepped })
+sizes-stepped G E sub ks h k =
+    table-in Blocks (λ s. sizeFor G (getD (busCounts sub) s 0) (rowsIn sub ks s)) (length (busCounts sub)) (record { w = f0; h = f0 })
+    (λ s. record { w = width-stepped G E (getD (busCounts sub) s 0) (counts-le sub s h); h = height-stepped G E (rowsIn sub ks s) (rows-le sub ks s k) })
+    (record { w = zero-doubles 1021 (2 ^ 16 * 2 ^ 1074) .stepped; h = zero-doubles 1021 (2 ^ 16 * 2 ^ 1074) .stepped })
 
 -- ---- the typical side
 abbrev In : (Float → Type 0) → List Float → Type 0
@@ -141,13 +147,13 @@ module _ (P : Float → Type 0) where
   unfolding medianOf
   median-in l d h k = middle-in (sortFloats (finiteOf l)) d (sort-in (finiteOf l) (finite-in l h)) k
 
-sides-in : (zs : List Size) → ((s : ℕ) → Blocks (sizeAt zs s)) → (ss : List ℕ) → In (Stepped 1074 (2 ^ 14 * 2 ^ 1074)) (sides zs ss)
+sides-in : (zs : List Size) → ((s : ℕ) → Blocks (sizeAt zs s)) → (ss : List ℕ) → In (Stepped 1021 (2 ^ 16 * 2 ^ 1074)) (sides zs ss)
 unfolding sides
 sides-in zs h [] = tt
 sides-in zs h (s ∷ ss) = (max-stepped (h s .w) (h s .h), sides-in zs h ss)
 
-one-wide : Stepped 1074 (2 ^ 14 * 2 ^ 1074) f1
-one-wide = widen-to 1074 (2 ^ 14 * 2 ^ 1074) (le-refl 1074) (lit≤ tt) one
+one-wide : Stepped 1021 (2 ^ 16 * 2 ^ 1074) f1
+one-wide = widen-to 1021 (2 ^ 16 * 2 ^ 1074) (lit≤ tt) (lit≤ tt) one
 
 zero-fits : (s : Bool) → T (fits binary64 (fin s 0 (pos 0)))
 unfolding fits
@@ -172,19 +178,19 @@ unfolding grains ofBits
 one-positive = lit< tt
 
 -- at least 1 is more than 0
-max-positive : {top : ℕ} (x : Float) → Stepped 1074 top x → 0 < grains (maxOf x f1)
+max-positive : {top : ℕ} (x : Float) → Stepped 1021 top x → 0 < grains (maxOf x f1)
 max-positive x w = go (lt x f1) refl (stepped-cases w)
   where
-    go : (b : Bool) → lt x f1 ≡ b → (grains x ≡ 0) ⊎ (2 ^ 1074 ≤ grains x) → 0 < grains (maxOf x f1)
+    go : (b : Bool) → lt x f1 ≡ b → (grains x ≡ 0) ⊎ (2 ^ 1021 ≤ grains x) → 0 < grains (maxOf x f1)
     go true e h = subst (λ (y : Float). 0 < grains y) (sym (max-second x f1 e)) one-positive
     go false e (inl z) = absurd (true≢false (sym (sizeless-below x (w .number) z) ∙ e))
-    go false e (inr z) = subst (λ (y : Float). 0 < grains y) (sym (max-first x f1 e)) (lt-of-lt-of-le (pow-pos 1074) z)
+    go false e (inr z) = subst (λ (y : Float). 0 < grains y) (sym (max-first x f1 e)) (lt-of-lt-of-le (pow-pos 1021) z)
 
 module _ (zs : List Size) (h : (s : ℕ) → Blocks (sizeAt zs s)) (counts : List ℕ) where
-  middle-stepped : Stepped 1074 (2 ^ 14 * 2 ^ 1074) (orElse (medianOf (sides zs (occupied counts))) f1)
-  middle-stepped = median-in (Stepped 1074 (2 ^ 14 * 2 ^ 1074)) (sides zs (occupied counts)) f1 (sides-in zs h (occupied counts)) one-wide
+  middle-stepped : Stepped 1021 (2 ^ 16 * 2 ^ 1074) (orElse (medianOf (sides zs (occupied counts))) f1)
+  middle-stepped = median-in (Stepped 1021 (2 ^ 16 * 2 ^ 1074)) (sides zs (occupied counts)) f1 (sides-in zs h (occupied counts)) one-wide
 
-  pub typical-stepped : Stepped 1074 (2 ^ 14 * 2 ^ 1074) (typical zs counts)
+  pub typical-stepped : Stepped 1021 (2 ^ 16 * 2 ^ 1074) (typical zs counts)
   unfolding typical
   typical-stepped = max-stepped middle-stepped one-wide
 

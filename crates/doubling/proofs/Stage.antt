@@ -18,6 +18,7 @@ use Rattle.order.specs.Median.{medianOf}
 use Rattle.order.proofs.Tables.{getD-table, length-table, howMany-le}
 use Rattle.geometry.specs.declared.Point.{Point}
 use Rattle.proximity.specs.Near.{nearest}
+use Rattle.network.specs.declared.options.Gaps.{Gaps}
 use Rattle.network.specs.declared.options.Options.{Options}
 use Rattle.network.specs.declared.words.Kind.{Kind}
 use Rattle.network.specs.Words.{stationCount, busesIn, busCounts, occupied}
@@ -34,10 +35,12 @@ use Rattle.turns.specs.Stages.Listed.{Turns}
 use Rattle.turns.proofs.Queue.{order-turns}
 use Rattle.units.specs.Doubles.{DoublesPoint}
 use Rattle.placement.specs.Doubles.{DoublesBox, DoublesFrame, Reach}
+use Rattle.drawing.specs.Drawing.{measuresOf}
+use Rattle.doubling.specs.Doubling.{EachGap}
 use Rattle.doubling.specs.Twice.{DoubledMap}
 use Rattle.doubling.proofs.Seeds.{Mapped, bus-doubles, seeds-doubles, from-rows, to-rows}
 use Rattle.units.proofs.SpacingDoubles.{Some, spacing-doubles, unit-doubles}
-use Rattle.doubling.proofs.Sizes.{Blocks, power, sizes-stepped, typical-stepped, typical-positive, scales-stepped}
+use Rattle.doubling.proofs.Sizes.{Gap, Blocks, power, sizes-stepped, typical-stepped, typical-positive, scales-stepped}
 use Rattle.doubling.proofs.Frames.{coordinates-doubles, scales-same, frame-doubles}
 use Rattle.placement.proofs.PlaceDoubles.{offsets-small, places-doubles, boxes-doubles, ill-sized-of-doubles}
 
@@ -72,20 +75,20 @@ doubles-table {A} R f g n d h k s = go (decLe n s)
     go (no l) = subst (λ (a : A). R a (getD (table g n) s d)) (sym (getD-table f n s d (lt-of-not-le l))) (subst (λ (a : A). R (f s) a) (sym (getD-table g n s d (lt-of-not-le l))) (h s))
 
 -- frames by station
-frames-doubles : {t : ℕ} (lo : ℕ) (unit unit' : Float) (ss : List Float) (zs : List Size) → Doubles (lo + 111) t unit unit' → ((s : ℕ) → Stepped 1016 (2 ^ 1074) (getD ss s f1)) → ((s : ℕ) → Blocks (sizeAt zs s)) → lo ≤ 1900 → Limit t → Limit (t * 2 ^ 14)
-    → (s : ℕ) → DoublesFrame lo (t * 2 ^ 14) (frameAt (frames unit ss zs) s) (frameAt (frames unit' ss zs) s)
+frames-doubles : {t : ℕ} (lo : ℕ) (G : Gaps) (unit unit' : Float) (ss : List Float) (zs : List Size) → Doubles (lo + 164) t unit unit' → ((s : ℕ) → Stepped 1016 (2 ^ 1074) (getD ss s f1)) → ((s : ℕ) → Blocks (sizeAt zs s)) → Gap (G .buffer) → lo ≤ 1900 → Limit t → Limit (t * 2 ^ 16)
+    → (s : ℕ) → DoublesFrame lo (t * 2 ^ 16) (frameAt (frames (record { unit = unit; gaps = G }) ss zs) s) (frameAt (frames (record { unit = unit'; gaps = G }) ss zs) s)
 unfolding frames
-frames-doubles {t} lo unit unit' ss zs u a b r l m s =
-    doubles-table (DoublesFrame lo (t * 2 ^ 14)) (λ i. frameFor unit (getD ss i f1) (sizeAt zs i)) (λ i. frameFor unit' (getD ss i f1) (sizeAt zs i)) (length zs) none
-    (λ i. frame-doubles lo unit unit' (getD ss i f1) (sizeAt zs i) u (a i) (b i .w) (b i .h) r (lit≤ tt) l m)
-    (record { half = record { w = zero-doubles lo (t * 2 ^ 14); h = zero-doubles lo (t * 2 ^ 14) }; f = zero-doubles lo (t * 2 ^ 14) }) s
+frames-doubles {t} lo G unit unit' ss zs u a b g r l m s =
+    doubles-table (DoublesFrame lo (t * 2 ^ 16)) (λ i. frameFor (record { unit = unit; gaps = G }) (getD ss i f1) (sizeAt zs i)) (λ i. frameFor (record { unit = unit'; gaps = G }) (getD ss i f1) (sizeAt zs i)) (length zs) none
+    (λ i. frame-doubles lo G unit unit' (getD ss i f1) (sizeAt zs i) u (a i) (b i .w) (b i .h) g r (lit≤ tt) l m)
+    (record { half = record { w = zero-doubles lo (t * 2 ^ 16); h = zero-doubles lo (t * 2 ^ 16) }; f = zero-doubles (lo + 106) (t * 2 ^ 16); same = refl; gap = zero-doubles 1021 (8 * 2 ^ 1074) .stepped }) s
   where
     none : Frame
-    none = record { half = record { w = f0; h = f0 }; f = f0 }
+    none = record { half = record { w = f0; h = f0 }; f = f0; buffer = f0 }
 
 -- ---- small things
-finer : {t : ℕ} {p p' : Point} → DoublesPoint 458 t p p' → DoublesPoint 171 t p p'
-finer {t} h = record { x = widen-doubles 171 t (lit≤ tt) (le-refl t) (h .x); y = widen-doubles 171 t (lit≤ tt) (le-refl t) (h .y) }
+finer : {p p' : Point} → DoublesPoint 458 (2 ^ 1125) p p' → DoublesPoint 116 (2 ^ 1180) p p'
+finer h = record { x = widen-doubles 116 (2 ^ 1180) (lit≤ tt) (lit≤ tt) (h .x); y = widen-doubles 116 (2 ^ 1180) (lit≤ tt) (lit≤ tt) (h .y) }
 
 pub buses-le : (sub : List ℕ) → length sub ≤ 2 ^ 12 → (s : ℕ) → busesIn sub s ≤ 2 ^ 12
 unfolding busesIn
@@ -108,6 +111,7 @@ pub record InRanges (O : Options) (sub : List ℕ) (ks : List Kind) (xy : List F
   pub radius : Stepped 1016 (1024 * 2 ^ 1074) (O .«tier_radius»)
   pub scale-1 : Stepped 1016 (2 ^ 1074) (O .«tier_scale_1»)
   pub scale-2 : Stepped 1016 (2 ^ 1074) (O .«tier_scale_2»)
+  pub gaps : EachGap Gap (O .gaps)
   -- two occupied stations on different seeds: some station has a nearest other
   pub some : Some (medianOf (table (nearest (coordinates (seeds sub xy) (occupied (busCounts sub))) (length (occupied (busCounts sub)))) (length (occupied (busCounts sub)))))
 
@@ -143,7 +147,7 @@ module _ (O : Options) (sub kv : List ℕ) (ks : List Kind) (xy : List Float) (s
       (mul-doubles-2 348 (2 ^ 1137) (F .radius) spacing-of refl (lit≤ tt) (lit≤ tt) (power 1137 (lit< tt)))
 
   abbrev pub blocks : List Size
-  blocks = sizes sub ks counts
+  blocks = sizes (O .gaps) sub ks counts
 
   abbrev pub unit₁ : Float
   unit₁ = unitFor (O .fill) (spacing seeds₁ counts) (typical blocks counts)
@@ -152,37 +156,38 @@ module _ (O : Options) (sub kv : List ℕ) (ks : List Kind) (xy : List Float) (s
   unit₂ = unitFor (O .fill) (spacing seeds₂ counts) (typical blocks counts)
 
   sized : (s : ℕ) → Blocks (sizeAt blocks s)
-  sized = sizes-stepped sub ks (F .buses) (F .branches)
+  sized = sizes-stepped (O .gaps) (F .gaps) sub ks (F .buses) (F .branches)
 
-  -- unit: 348 - 52 - 14
-  pub unit-of : Doubles 282 (2 ^ 1131) unit₁ unit₂
+  -- unit: 348 - 52 - 16
+  pub unit-of : Doubles 280 (2 ^ 1184) unit₁ unit₂
   unit-of =
-      unit-doubles 348 (2 ^ 1131) 282 (2 ^ 1131) (F .fill) spacing-of (typical-stepped blocks sized counts) (typical-positive blocks sized counts) refl (lit≤ tt) (lit≤ tt) (power 1131 (lit< tt))
-      (lit≤ tt) (lit≤ tt) (lit≤ tt) (power 1131 (lit< tt))
+      unit-doubles 348 (2 ^ 1131) 280 (2 ^ 1184) (F .fill) spacing-of (typical-stepped blocks sized counts) (typical-positive blocks sized counts) refl (lit≤ tt) (lit≤ tt) (power 1131 (lit< tt))
+      (lit≤ tt) (lit≤ tt) (lit≤ tt) (power 1184 (lit< tt))
 
   abbrev pub scales₁ : List Float
   scales₁ = scales O seeds₁ counts (spacing seeds₁ counts)
 
   abbrev pub frames₁ : List Frame
-  frames₁ = frames unit₁ scales₁ blocks
+  frames₁ = frames (measuresOf O unit₁) scales₁ blocks
 
   abbrev pub frames₂ : List Frame
-  frames₂ = frames unit₂ (scales O seeds₂ counts (spacing seeds₂ counts)) blocks
+  frames₂ = frames (measuresOf O unit₂) (scales O seeds₂ counts (spacing seeds₂ counts)) blocks
 
-  pub frame-of : (s : ℕ) → DoublesFrame 171 (2 ^ 1145) (frameAt frames₁ s) (frameAt frames₂ s)
+  pub frame-of : (s : ℕ) → DoublesFrame 116 (2 ^ 1200) (frameAt frames₁ s) (frameAt frames₂ s)
   frame-of s =
-      subst (λ (l : List Float). DoublesFrame 171 (2 ^ 1145) (frameAt frames₁ s) (frameAt (frames unit₂ l blocks) s)) (sym scales-are)
-      (frames-doubles {t = 2 ^ 1131} 171 unit₁ unit₂ scales₁ blocks unit-of (scales-stepped O seeds₁ counts (spacing seeds₁ counts) (F .scale-1) (F .scale-2)) sized (lit≤ tt) (power 1131 (lit< tt)) (power 1145 (lit< tt)) s)
+      subst (λ (l : List Float). DoublesFrame 116 (2 ^ 1200) (frameAt frames₁ s) (frameAt (frames (measuresOf O unit₂) l blocks) s)) (sym scales-are)
+      (frames-doubles {t = 2 ^ 1184} 116 (O .gaps) unit₁ unit₂ scales₁ blocks unit-of (scales-stepped O seeds₁ counts (spacing seeds₁ counts) (F .scale-1) (F .scale-2)) sized (F .gaps .buffer) (lit≤ tt) (power 1184 (lit< tt)) (power 1200 (lit< tt)) s)
 
-  -- seeds up to 2 ^ 1125 grains, half sides up to 2 ^ 1145
-  reach : Reach 171 (2 ^ 1125) (2 ^ 1145)
+  -- seeds up to 2 ^ 1180 grains, half sides up to 2 ^ 1200
+  reach : Reach 116 (2 ^ 1180) (2 ^ 1200)
   reach = record {
     fine = lit≤ tt;
-    offset = limit 20 1145 (lit< tt) (lit≤ tt);
-    widened = limit 80 1145 (lit< tt) (lit≤ tt);
-    place = limit (1 + 80 * 2 ^ 20) 1125 (lit< tt) (lit≤ tt);
-    box = limit (1 + 81 * 2 ^ 20) 1125 (lit< tt) (lit≤ tt);
-    buffer = limit (1 + 82 * 2 ^ 20) 1125 (lit< tt) (lit≤ tt);
+    offset = limit 20 1200 (lit< tt) (lit≤ tt);
+    widened = limit 80 1200 (lit< tt) (lit≤ tt);
+    place = limit (1 + 80 * 2 ^ 20) 1180 (lit< tt) (lit≤ tt);
+    box = limit (1 + 81 * 2 ^ 20) 1180 (lit< tt) (lit≤ tt);
+    gap = limit 8 1200 (lit< tt) (lit≤ tt);
+    buffer = limit (1 + 89 * 2 ^ 20) 1180 (lit< tt) (lit≤ tt);
   }
 
   abbrev pub order : List ℕ
@@ -194,14 +199,14 @@ module _ (O : Options) (sub kv : List ℕ) (ks : List Kind) (xy : List Float) (s
   abbrev pub places₂ : List Point
   places₂ = places frames₂ (offsets search) seeds₂ order
 
-  pub place-of : (s : ℕ) → DoublesPoint 171 (2 ^ 1125 + 80 * 2 ^ 1145) (placeAt places₁ s) (placeAt places₂ s)
+  pub place-of : (s : ℕ) → DoublesPoint 116 (2 ^ 1180 + 80 * 2 ^ 1200) (placeAt places₁ s) (placeAt places₂ s)
   place-of =
       places-doubles frames₁ frames₂ (offsets search) seeds₁ seeds₂ order frame-of (λ s. finer (seed-of s)) (stationCount sub) (seeds-length sub xy) (seeds-length sub xy')
-      (subst (λ (n : ℕ). Turns n order) (counts-length sub) (order-turns sub kv counts)) (offsets-small search) (power 1145 (lit< tt)) reach
+      (subst (λ (n : ℕ). Turns n order) (counts-length sub) (order-turns sub kv counts)) (offsets-small search) reach
 
-  pub box-of : (s : ℕ) → DoublesBox 171 (2 ^ 1125 + 80 * 2 ^ 1145 + 2 ^ 1145) (boxIn (boxes frames₁ counts places₁) s) (boxIn (boxes frames₂ counts places₂) s)
+  pub box-of : (s : ℕ) → DoublesBox 116 (2 ^ 1180 + 80 * 2 ^ 1200 + 2 ^ 1200) (boxIn (boxes frames₁ counts places₁) s) (boxIn (boxes frames₂ counts places₂) s)
   box-of = boxes-doubles frames₁ frames₂ counts places₁ places₂ frame-of place-of (reach .box)
 
   -- refusal 8
   pub ill-sized : illSized (boxes frames₂ counts places₂) (occupied counts) ≡ illSized (boxes frames₁ counts places₁) (occupied counts)
-  ill-sized = ill-sized-of-doubles (boxes frames₁ counts places₁) (boxes frames₂ counts places₂) box-of (limit (2 * (1 + 81 * 2 ^ 20)) 1125 (lit< tt) (lit≤ tt)) (occupied counts)
+  ill-sized = ill-sized-of-doubles (boxes frames₁ counts places₁) (boxes frames₂ counts places₂) box-of (limit (2 * (1 + 81 * 2 ^ 20)) 1180 (lit< tt) (lit≤ tt)) (occupied counts)

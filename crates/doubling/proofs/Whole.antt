@@ -96,27 +96,27 @@ columns-le : (sub kv : List ℕ) → length sub ≤ 2 ^ 12 → (i : ℕ) → get
 unfolding columns column
 columns-le sub kv h = table-in (λ n. n ≤ 2 ^ 12) _ (length sub) 0 (λ i. le-trans (howMany-le _ (length sub)) h) zero-le
 
--- ---- boxes and places, up to 2 ^ 1153 grains
-pub box-wide : {b b' : Box} → DoublesBox 171 (2 ^ 1125 + 80 * 2 ^ 1145 + 2 ^ 1145) b b' → DoublesBox 171 (2 ^ 1153) b b'
+-- ---- boxes and places, up to 2 ^ 1208 grains
+pub box-wide : {b b' : Box} → DoublesBox 116 (2 ^ 1180 + 80 * 2 ^ 1200 + 2 ^ 1200) b b' → DoublesBox 116 (2 ^ 1208) b b'
 box-wide h = record { left = to (h .left); top-side = to (h .top-side); right = to (h .right); bottom = to (h .bottom) }
   where
-    to : {x x' : Float} → Doubles 171 (2 ^ 1125 + 80 * 2 ^ 1145 + 2 ^ 1145) x x' → Doubles 171 (2 ^ 1153) x x'
-    to f = widen-doubles 171 (2 ^ 1153) (le-refl 171) (lit≤ tt) f
+    to : {x x' : Float} → Doubles 116 (2 ^ 1180 + 80 * 2 ^ 1200 + 2 ^ 1200) x x' → Doubles 116 (2 ^ 1208) x x'
+    to f = widen-doubles 116 (2 ^ 1208) (le-refl 116) (lit≤ tt) f
 
-pub point-wide : {p p' : Point} → DoublesPoint 171 (2 ^ 1125 + 80 * 2 ^ 1145) p p' → DoublesPoint 171 (2 ^ 1153) p p'
-point-wide h = record { x = widen-doubles 171 (2 ^ 1153) (le-refl 171) (lit≤ tt) (h .x); y = widen-doubles 171 (2 ^ 1153) (le-refl 171) (lit≤ tt) (h .y) }
+pub point-wide : {p p' : Point} → DoublesPoint 116 (2 ^ 1180 + 80 * 2 ^ 1200) p p' → DoublesPoint 116 (2 ^ 1208) p p'
+point-wide h = record { x = widen-doubles 116 (2 ^ 1208) (le-refl 116) (lit≤ tt) (h .x); y = widen-doubles 116 (2 ^ 1208) (le-refl 116) (lit≤ tt) (h .y) }
 
 box-doubled : {lo top : ℕ} {b b' : Box} → DoublesBox lo top b b' → TwiceBox b b'
 box-doubled h = record { left = h .left .is; top = h .top-side .is; right = h .right .is; bottom = h .bottom .is }
 
 -- a list of blocks, of frames that double
-block-at : (fs fs' : List Frame) → ((s : ℕ) → DoublesFrame 171 (2 ^ 1145) (frameAt fs s) (frameAt fs' s)) → (s : ℕ) → Block (blockAt (map (λ (r : Frame). r .f) fs) s) (blockAt (map (λ (r : Frame). r .f) fs') s)
+block-at : (fs fs' : List Frame) → ((s : ℕ) → DoublesFrame 116 (2 ^ 1200) (frameAt fs s) (frameAt fs' s)) → (s : ℕ) → Block (blockAt (map (λ (r : Frame). r .f) fs) s) (blockAt (map (λ (r : Frame). r .f) fs') s)
 block-at fs fs' h s =
     subst (λ (x : Float). Block x (blockAt (map (λ (r : Frame). r .f) fs') s)) (sym (List·getD-map (λ (r : Frame). r .f) fs s none))
     (subst (λ (x : Float). Block (frameAt fs s .f) x) (sym (List·getD-map (λ (r : Frame). r .f) fs' s none)) (h s .f))
   where
     none : Frame
-    none = record { half = record { w = f0; h = f0 }; f = f0 }
+    none = record { half = record { w = f0; h = f0 }; f = f0; buffer = f0 }
 
 -- ---- the bounds of some boxes with finite left sides have one
 min-finite : (x y : Float) → T (isFinite x) → T (isFinite y) → T (isFinite (minOf x y))
@@ -170,7 +170,7 @@ module _ (O : Options) (sub kv : List ℕ) (ks : List Kind) (xy : List Float) (s
   blocks₂ = map (λ (r : Frame). r .f) (frames₂ O sub kv ks xy search F xy' D)
 
   abbrev pub bars₁ : List Bar
-  bars₁ = bars sub (columns sub kv) (spans sub ks fr tr) blocks₁ boxes₁
+  bars₁ = bars (O .gaps) sub (columns sub kv) (spans sub ks fr tr) blocks₁ boxes₁
 
   abbrev pub fr₂ : List ℕ
   fr₂ = fromRows sub (seeds₂ O sub kv ks xy search F xy' D) ks
@@ -179,7 +179,7 @@ module _ (O : Options) (sub kv : List ℕ) (ks : List Kind) (xy : List Float) (s
   tr₂ = toRows sub (seeds₂ O sub kv ks xy search F xy' D) ks
 
   abbrev pub bars₂ : List Bar
-  bars₂ = bars sub (columns sub kv) (spans sub ks fr₂ tr₂) blocks₂ boxes₂
+  bars₂ = bars (O .gaps) sub (columns sub kv) (spans sub ks fr₂ tr₂) blocks₂ boxes₂
 
   pub block-of : (s : ℕ) → Block (blockAt blocks₁ s) (blockAt blocks₂ s)
   block-of = block-at (frames₁ O sub kv ks xy search F xy' D) (frames₂ O sub kv ks xy search F xy' D) (frame-of O sub kv ks xy search F xy' D)
@@ -188,23 +188,23 @@ module _ (O : Options) (sub kv : List ℕ) (ks : List Kind) (xy : List Float) (s
   unfolding spans
   spans-in = table-in Rows (λ i. spanTo ks fr tr i (length ks)) (length sub) bare (λ i. span-rows ks fr tr few i (length ks)) tt
 
-  bar-at : (i : ℕ) → DoublesBar 117 (2 ^ 1165) (barAt bars₁ i) (barAt (bars sub (columns sub kv) (spans sub ks fr tr) blocks₂ boxes₂) i)
+  bar-at : (i : ℕ) → DoublesBar 63 (2 ^ 1220) (barAt bars₁ i) (barAt (bars (O .gaps) sub (columns sub kv) (spans sub ks fr tr) blocks₂ boxes₂) i)
   unfolding bars
   bar-at =
-      doubles-table (DoublesBar 117 (2 ^ 1165))
-      (λ i. barFor (boxIn boxes₁ (stationOf sub i)) (blockAt blocks₁ (stationOf sub i)) (getD (columns sub kv) i 0) (getD (spans sub ks fr tr) i bare))
-      (λ i. barFor (boxIn boxes₂ (stationOf sub i)) (blockAt blocks₂ (stationOf sub i)) (getD (columns sub kv) i 0) (getD (spans sub ks fr tr) i bare)) (length sub) none
-      (λ i. bar-doubles (boxIn boxes₁ (stationOf sub i)) (boxIn boxes₂ (stationOf sub i)) (blockAt blocks₁ (stationOf sub i)) (blockAt blocks₂ (stationOf sub i)) (box-wide (box-of O sub kv ks xy search F xy' D (stationOf sub i))) (block-of (stationOf sub i))
+      doubles-table (DoublesBar 63 (2 ^ 1220))
+      (λ i. barFor (O .gaps) (boxIn boxes₁ (stationOf sub i)) (blockAt blocks₁ (stationOf sub i)) (getD (columns sub kv) i 0) (getD (spans sub ks fr tr) i bare))
+      (λ i. barFor (O .gaps) (boxIn boxes₂ (stationOf sub i)) (blockAt blocks₂ (stationOf sub i)) (getD (columns sub kv) i 0) (getD (spans sub ks fr tr) i bare)) (length sub) none
+      (λ i. bar-doubles (O .gaps) (F .gaps) (boxIn boxes₁ (stationOf sub i)) (boxIn boxes₂ (stationOf sub i)) (blockAt blocks₁ (stationOf sub i)) (blockAt blocks₂ (stationOf sub i)) (box-wide (box-of O sub kv ks xy search F xy' D (stationOf sub i))) (block-of (stationOf sub i))
       (getD (columns sub kv) i 0) (getD (spans sub ks fr tr) i bare) (columns-le sub kv (F .buses) i) (spans-in i))
-      (record { x = zero-doubles 117 (2 ^ 1165); y0 = zero-doubles 117 (2 ^ 1165); y1 = zero-doubles 117 (2 ^ 1165) })
+      (record { x = zero-doubles 63 (2 ^ 1220); y0 = zero-doubles 63 (2 ^ 1220); y1 = zero-doubles 63 (2 ^ 1220) })
     where
       none : Bar
       none = record { x = f0; y0 = f0; y1 = f0 }
 
-  pub bar-of : (i : ℕ) → DoublesBar 117 (2 ^ 1165) (barAt bars₁ i) (barAt bars₂ i)
+  pub bar-of : (i : ℕ) → DoublesBar 63 (2 ^ 1220) (barAt bars₁ i) (barAt bars₂ i)
   bar-of i =
-      subst (λ (f : List ℕ). DoublesBar 117 (2 ^ 1165) (barAt bars₁ i) (barAt (bars sub (columns sub kv) (spans sub ks f tr₂) blocks₂ boxes₂) i)) (sym (rows-from O sub kv ks xy search F xy' D))
-      (subst (λ (t : List ℕ). DoublesBar 117 (2 ^ 1165) (barAt bars₁ i) (barAt (bars sub (columns sub kv) (spans sub ks fr t) blocks₂ boxes₂) i)) (sym (rows-to O sub kv ks xy search F xy' D)) (bar-at i))
+      subst (λ (f : List ℕ). DoublesBar 63 (2 ^ 1220) (barAt bars₁ i) (barAt (bars (O .gaps) sub (columns sub kv) (spans sub ks f tr₂) blocks₂ boxes₂) i)) (sym (rows-from O sub kv ks xy search F xy' D))
+      (subst (λ (t : List ℕ). DoublesBar 63 (2 ^ 1220) (barAt bars₁ i) (barAt (bars (O .gaps) sub (columns sub kv) (spans sub ks fr t) blocks₂ boxes₂) i)) (sym (rows-to O sub kv ks xy search F xy' D)) (bar-at i))
 
   -- the bounds, where a station is occupied
   pub bounds-of : 0 < length (occupied (busCounts sub)) → TwiceBox (boundsOf boxes₁ (occupied (busCounts sub))) (boundsOf boxes₂ (occupied (busCounts sub)))

@@ -11,6 +11,7 @@ use Rattle.float.specs.Small.{absOf, isFinite}
 use Rattle.float.specs.Ops.{f0}
 use Rattle.float.specs.Double.{scaled}
 use Rattle.geometry.specs.declared.Box.{Box}
+use Rattle.network.specs.declared.options.Gaps.{Gaps}
 use Rattle.network.specs.declared.options.Options.{Options}
 use Rattle.network.specs.Words.{stationCount, busCounts, isOccupied}
 use Rattle.network.specs.Seed.{seeds, placeAt}
@@ -38,12 +39,20 @@ pub record Allowed (k : ℕ) (x : Float) : Type 0 where
   pub large : eq x f0 ≡ false → lt (absOf x) least ≡ false
   pub near : above (scaled k x) ≡ false
 
+-- each of the four gaps
+pub record EachGap (P : Float → Type 0) (G : Gaps) : Type 0 where
+  pub bar-gap : P (G .«bar_gap»)
+  pub pad : P (G .pad)
+  pub min-bar : P (G .«min_bar»)
+  pub buffer : P (G .buffer)
+
 -- the numbers of the options and of the map are numbers of the format, as in every call
 pub record Held (O : Options) (N : Network) : Type 0 where
   pub fill : T (fits binary64 (O .fill))
   pub radius : T (fits binary64 (O .«tier_radius»))
   pub scale-1 : T (fits binary64 (O .«tier_scale_1»))
   pub scale-2 : T (fits binary64 (O .«tier_scale_2»))
+  pub gaps : EachGap (λ x. T (fits binary64 x)) (O .gaps)
   pub map : (i : ℕ) → T (fits binary64 (getD (N .xy) i nan))
 
 -- Nothing is asked of the other options, of the number of buses and branches, of voltages, of the mesh or of the lent lists: what is refused is refused in both calls.

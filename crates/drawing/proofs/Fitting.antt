@@ -12,7 +12,7 @@ use lib.Ieee.{binary64, lt, le, ofBits}
 use borrow.Author.Tests.{ltb-false, leb-true}
 use Rattle.network.specs.declared.options.Options.{Options}
 use Rattle.float.specs.Ops.{f0, f1}
-use Rattle.network.specs.Options.{inRange, between, searchFits, searchOf}
+use Rattle.network.specs.Options.{inRange, between, searchFits, gapsFit, searchOf}
 use Rattle.network.specs.Words.{stationCount}
 use Rattle.network.specs.Refusal.{refuse, shapeRefusal, tooFar}
 use Rattle.cells.specs.Index.{indexLength}
@@ -86,7 +86,7 @@ search-in o h =
     (between (ofBits binary64 0x3F90_0000_0000_0000) (o .«tier_scale_1») f1)
     (between (ofBits binary64 0x3F90_0000_0000_0000) (o .«tier_scale_2») f1)
     (searchFits (o .search))
-    (leb (o .«route_iterations») 100)
+    (gapsFit (o .gaps) && leb (o .«route_iterations») 100)
     h)
 
 -- Five lengths.

@@ -12,6 +12,7 @@ use Rattle.order.specs.Order.{pick}
 use Rattle.order.specs.Table.{table}
 use Rattle.geometry.specs.declared.Point.{Point}
 use Rattle.geometry.specs.declared.Box.{Box}
+use Rattle.network.specs.declared.options.Gaps.{Gaps}
 use Rattle.network.specs.declared.options.Options.{Options}
 use Rattle.network.specs.Options.{searchOf}
 use Rattle.network.specs.declared.words.Kind.{Kind}
@@ -20,6 +21,7 @@ use Rattle.network.specs.Words.{busCounts, kinds, kindAt, stationOf, occupied}
 use Rattle.network.specs.Seed as Seed
 use Rattle.stations.specs.Column as Column
 use Rattle.stations.specs.Row as Row
+use Rattle.units.specs.declared.Measures.{Measures}
 use Rattle.units.specs.Size as Sizes
 use Rattle.units.specs.Unit.{coordinates, spacing, typical, unitFor}
 use Rattle.units.specs.Scale as Scale
@@ -50,14 +52,19 @@ pub record Plan : Type 0 where
   pub bars : List Bar
   pub scene : Scene
 
+-- what interiors are measured by: a unit, and the options' gaps
+abbrev pub measuresOf : Options → Float → Measures
+measuresOf O unit = record { unit = unit; gaps = O .gaps }
+
 -- a scene whose lines run straight
-unfoldable pub straightScene : List ℕ → List Kind → List ℕ → List ℕ → List Float → List Box → List Point → List Bar → Scene
-straightScene sub ks fromRows toRows blocks boxes places bars =
+unfoldable pub straightScene : List ℕ → List Kind → List ℕ → List ℕ → Gaps → List Float → List Box → List Point → List Bar → Scene
+straightScene sub ks fromRows toRows gaps blocks boxes places bars =
     record {
       sub = sub;
       kinds = ks;
       fromRows = fromRows;
       toRows = toRows;
+      gaps = gaps;
       blocks = blocks;
       boxes = boxes;
       places = places;
@@ -77,18 +84,18 @@ planned O N =
     let columns = Column.columns sub (N .kv) in
     let fromRows = Row.fromRows sub seeds ks in
     let toRows = Row.toRows sub seeds ks in
-    let sizes = Sizes.sizes sub ks counts in
+    let sizes = Sizes.sizes (O .gaps) sub ks counts in
     let gap = spacing seeds counts in
     let unit = unitFor (O .fill) gap (typical sizes counts) in
     let scales = Scale.scales O seeds counts gap in
-    let frames = Place.frames unit scales sizes in
+    let frames = Place.frames (measuresOf O unit) scales sizes in
     let order = placementOrder sub (N .kv) counts in
     let offsets = Offset.offsets (searchOf (O .search)) in
     let places = Place.places frames offsets seeds order in
     let found = table (Place.foundFree frames offsets seeds order) (length order) in
     let boxes = Place.boxes frames counts places in
     let blocks = map (λ (r : Place.Frame). r .f) frames in
-    let bars = Bars.bars sub columns (Bars.spans sub ks fromRows toRows) blocks boxes in
+    let bars = Bars.bars (O .gaps) sub columns (Bars.spans sub ks fromRows toRows) blocks boxes in
     record {
       counts = counts;
       seeds = seeds;
@@ -98,7 +105,7 @@ planned O N =
       found = found;
       boxes = boxes;
       bars = bars;
-      scene = straightScene sub ks fromRows toRows blocks boxes places bars;
+      scene = straightScene sub ks fromRows toRows (O .gaps) blocks boxes places bars;
     }
 
 -- ---- lines through the mesh
@@ -111,6 +118,7 @@ ledScene S led occ gap ways =
       kinds = S .kinds;
       fromRows = S .fromRows;
       toRows = S .toRows;
+      gaps = S .gaps;
       blocks = S .blocks;
       boxes = S .boxes;
       places = S .places;

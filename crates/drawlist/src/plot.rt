@@ -13,6 +13,7 @@ fn options() -> Options
     ensures { λ r. ⌜ r ≡ listOptions ⌝ }
 {
     let o = Options::default();
+    let gaps = o.gaps;
     Options {
         fill: 0.5,
         tier_radius: o.tier_radius,
@@ -22,6 +23,7 @@ fn options() -> Options
         tier_scale_2: o.tier_scale_2,
         search: o.search,
         route_iterations: 0,
+        gaps,
     }
 }
 

@@ -18,6 +18,7 @@ use Rattle.network.specs.Words.{stationOf, kindOf, Safe}
 use Rattle.network.specs.Views.{fromRowsIn, toRowsIn}
 use Rattle.network.proofs.Branches.{kind-safe}
 use Rattle.network.proofs.Views.{putPoint, point-same, point-other}
+use Rattle.units.specs.declared.Measures.{Measures}
 use Rattle.runs.specs.Stages.Views.{exitOf, firstExit, secondExit}
 use Rattle.crossings.specs.Route as Route
 use Rattle.crossings.specs.Stages.Views.{Grid, grid, exitAt, lineBetween, lineFor, lineIn}
@@ -43,15 +44,15 @@ module _ (G : Grid) (e ra rb : ℕ) (K : Kind) (r : Exits) (k : kindOf (G .sub) 
   unfolding exitsOf lineFor
   exits-internal a b z h = exits-by (h ∙ ap (λ (t : Kind). exitsOf (lineFor G ra rb t)) (sym z))
 
-  pub exits-line : (a b : ℕ) → K ≡ Line a b → r ≡ lineExits (G .sub) (G .unit) (G .blocks) (G .places) (G .frames) a b ra rb → r ≡ exitsIn G e
+  pub exits-line : (a b : ℕ) → K ≡ Line a b → r ≡ lineExits (G .sub) (G .measures) (G .blocks) (G .places) (G .frames) a b ra rb → r ≡ exitsIn G e
   unfolding exitsOf lineFor lineBetween exitAt lineExits exitFrom
   exits-line a b z h = exits-by (h ∙ ap (λ (t : Kind). exitsOf (lineFor G ra rb t)) (sym z))
 
 -- ---- in a list, from branch to branch
 
-module _ (sub : List ℕ) (from to : List ℤ) (service : List ℕ) (unit : Float) (ends : List ℕ) (blocks frames : List Float) where
+module _ (sub : List ℕ) (from to : List ℤ) (service : List ℕ) (measures : Measures) (ends : List ℕ) (blocks frames : List Float) where
   abbrev pub gridBy : List Float → Grid
-  gridBy places = grid sub from to service unit ends blocks places frames
+  gridBy places = grid sub from to service measures ends blocks places frames
 
   -- the first e branches' exits stand in the list l, which was l₀
   pub record ExitedTo (l₀ l : List Float) (e : ℕ) : Type 0 where
@@ -128,9 +129,9 @@ module _ (sub : List ℕ) (from to : List ℤ) (service : List ℕ) (unit : Floa
 
 -- ---- by rows alone: whatever routes are written beside them
 
-module _ (sub : List ℕ) (from to : List ℤ) (service : List ℕ) (unit : Float) (blocks places frames : List Float) (before behind : List ℕ) where
+module _ (sub : List ℕ) (from to : List ℤ) (service : List ℕ) (measures : Measures) (blocks places frames : List Float) (before behind : List ℕ) where
   abbrev with : List ℕ → Grid
-  with ends = grid sub from to service unit ends blocks places frames
+  with ends = grid sub from to service measures ends blocks places frames
 
   line-for : (ra rb : ℕ) (x : Kind) → lineFor (with behind) ra rb x ≡ lineFor (with before) ra rb x
   unfolding lineFor lineBetween exitAt

@@ -16,6 +16,7 @@ use order::at;
 use runs::run::box_at;
 use runs::run::exit_of;
 use runs::run::put_point;
+use units::Measures;
 
 // The two exits of a line: from its first station's box and from its second's.
 pub struct Exits {
@@ -25,7 +26,7 @@ pub struct Exits {
 
 // The exit of station s towards t, at the height of a row.
 fn exit_at(
-    unit: f64,
+    measures: Measures,
     blocks: &[f64],
     places: &[f64],
     frames: &[f64],
@@ -34,16 +35,21 @@ fn exit_at(
     row: u32,
 ) -> Point
     requires { ⌜ (s < 2 ^ 32) × (t < 2 ^ 32) ⌝ }
-    ensures { λ r. ⌜ r ≡ exitFrom unit (now (blocks .entry)) (now (places .entry)) (now (frames .entry)) s t row ⌝ }
+    ensures { λ r. ⌜ r ≡ exitFrom measures (now (blocks .entry)) (now (places .entry)) (now (frames .entry)) s t row ⌝ }
 {
-    let y = row_y(box_at(frames, s), unit * number_at(blocks, 3 * s + 2), row);
+    let y = row_y(
+        measures.gaps,
+        box_at(frames, s),
+        measures.unit * number_at(blocks, 3 * s + 2),
+        row,
+    );
     exit_of(places, frames, s, t, y)
 }
 
 // The exits of a line between the buses a and b, whose ends have the rows ra and rb.
 fn line_exits(
     sub: &[u32],
-    unit: f64,
+    measures: Measures,
     blocks: &[f64],
     places: &[f64],
     frames: &[f64],
@@ -52,12 +58,12 @@ fn line_exits(
     ra: u32,
     rb: u32,
 ) -> Exits
-    ensures { λ r. ⌜ r ≡ lineExits (now (sub .entry)) unit (now (blocks .entry)) (now (places .entry)) (now (frames .entry)) a b ra rb ⌝ }
+    ensures { λ r. ⌜ r ≡ lineExits (now (sub .entry)) measures (now (blocks .entry)) (now (places .entry)) (now (frames .entry)) a b ra rb ⌝ }
 {
     let s = station_of(sub, a);
     let t = station_of(sub, b);
-    let first = exit_at(unit, blocks, places, frames, s, t, ra);
-    let second = exit_at(unit, blocks, places, frames, t, s, rb);
+    let first = exit_at(measures, blocks, places, frames, s, t, ra);
+    let second = exit_at(measures, blocks, places, frames, t, s, rb);
     Exits { first, second }
 }
 
@@ -81,7 +87,7 @@ fn exits_of(
     from: &[i64],
     to: &[i64],
     service: &[u8],
-    unit: f64,
+    measures: Measures,
     ends: &[u32],
     blocks: &[f64],
     places: &[f64],
@@ -89,7 +95,7 @@ fn exits_of(
     e: usize,
 ) -> Exits
     requires { ⌜ e < 2 ^ 32 ⌝ }
-    ensures { λ r. ⌜ r ≡ exitsIn (grid (now (sub .entry)) (now (from .entry)) (now (to .entry)) (now (service .entry)) unit (now (ends .entry)) (now (blocks .entry)) (now (places .entry)) (now (frames .entry))) e ⌝ }
+    ensures { λ r. ⌜ r ≡ exitsIn (grid (now (sub .entry)) (now (from .entry)) (now (to .entry)) (now (service .entry)) measures (now (ends .entry)) (now (blocks .entry)) (now (places .entry)) (now (frames .entry))) e ⌝ }
 {
     let ra = at(ends, 4 * e);
     let rb = at(ends, 4 * e + 1);
@@ -97,7 +103,7 @@ fn exits_of(
         Kind::Undrawn => no_exits(),
         Kind::Open(_, _) => no_exits(),
         Kind::Internal(_, _) => no_exits(),
-        Kind::Line(a, b) => line_exits(sub, unit, blocks, places, frames, a, b, ra, rb),
+        Kind::Line(a, b) => line_exits(sub, measures, blocks, places, frames, a, b, ra, rb),
     }
 }
 
@@ -107,7 +113,7 @@ pub fn write_exits(
     from: &[i64],
     to: &[i64],
     service: &[u8],
-    unit: f64,
+    measures: Measures,
     ends: &[u32],
     blocks: &[f64],
     frames: &[f64],
@@ -115,7 +121,7 @@ pub fn write_exits(
 )
     requires { ⌜ (length (now sub) ≤ 4096) × (length (now from) ≤ 8192) × (2 * length (now sub) + 4 * length (now from) ≤ length (now places)) ⌝ }
     requires { ⌜ ((i : ℕ) → i < length (now sub) → stationOf (now sub) i < length (now sub)) ⌝ }
-    ensures { λ _. ⌜ Exited (grid (now (sub .entry)) (now (from .entry)) (now (to .entry)) (now (service .entry)) unit (now (ends .entry)) (now (blocks .entry)) (now (places .exit)) (now (frames .entry))) ⌝ }
+    ensures { λ _. ⌜ Exited (grid (now (sub .entry)) (now (from .entry)) (now (to .entry)) (now (service .entry)) measures (now (ends .entry)) (now (blocks .entry)) (now (places .exit)) (now (frames .entry))) ⌝ }
     ensures { λ _. ⌜ ((s : ℕ) → s < length (now (sub .entry)) → pointAt (now (places .exit)) s ≡ pointAt (now (places .entry)) s) ⌝ }
 {
     let n = sub.len();
@@ -126,7 +132,7 @@ pub fn write_exits(
             from,
             to,
             service,
-            unit,
+            measures,
             ends,
             blocks,
             places,

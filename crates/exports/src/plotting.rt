@@ -9,7 +9,7 @@ use records::plain::plot_numbers;
 
 // Draws the network into the lent lists.
 #[no_mangle]
-pub extern "C" fn tansygate_layout(
+pub extern "C" fn tansygate_plot(
     positions: &mut [f64],
     bars: &mut [f64],
     boxes: &mut [f64],

@@ -31,7 +31,7 @@ use Rattle.drawing.specs.declared.answer.Answer.{Answer}
 use Rattle.drawing.specs.declared.answer.Answer.the-variants.{Refused}
 use Rattle.drawing.specs.declared.room.Room.{Room}
 use Rattle.drawing.specs.Network.{Network, Lists, lists}
-use Rattle.drawing.specs.Drawing.{drawing}
+use Rattle.drawing.specs.Drawing.{measuresOf, drawing}
 use Rattle.drawing.specs.Answer.{orLater, routedBy, lateBy, late, crossingRoom, allFinite, listsOf, listsAfter, answerBy, answerFor}
 use Rattle.chart.specs.Stages.Charted.{routedLate, Charted}
 use Rattle.finish.specs.Stages.Draft.{Judged, Drew}
@@ -64,7 +64,7 @@ module _ (o : Options) (N : Network) (k : ℕ) (R : Room) (unit : Float) (fin : 
   module _ (z : l ≡ 0) (cell gap : Float) (led : Bool) (ce : cell ≡ cellSize (boxesIn k frames) (occupied (countsIn k stations)))
       (ge : gap ≡ gapOf unit) (le : led ≡ ltb 0 (o .«route_iterations»)) where
     abbrev heldBy : Held
-    heldBy = held (N .station) unit buses ends blocks places frames (lead led cell gap k stations ways)
+    heldBy = held (N .station) (measuresOf o unit) buses ends blocks places frames (lead led cell gap k stations ways)
 
     runs-are : runsIn heldBy (N .from) (N .to) (N .service) ≡ drawing o N .runs
     runs-are =
@@ -86,7 +86,7 @@ module _ (o : Options) (N : Network) (k : ℕ) (R : Room) (unit : Float) (fin : 
         → pieces ≡ length (allPieces (kinds (N .station) (N .from) (N .to) (N .service)) (runsIn heldBy (N .from) (N .to) (N .service)))
         → runs ≡ allOf (allOf finitePoint) (runsIn heldBy (N .from) (N .to) (N .service))
         → boxes ≡ everyFinite (4 * k) frames
-        → bars ≡ allOf finiteBar (barsIn (N .station) unit buses blocks frames)
+        → bars ≡ allOf finiteBar (barsIn (N .station) (measuresOf o unit) buses blocks frames)
         → all ≡ (fin && (isFinite unit && (boxes && (bars && runs))))
         → bounds ≡ boundsOf (boxesIn k frames) (occupied (countsIn k stations))
         → l' ≡ lateBy 0 pieces (R .pieces) (R .branches) all
@@ -128,8 +128,8 @@ module _ (o : Options) (N : Network) (k : ℕ) (R : Room) (unit : Float) (fin : 
           by (suc r) b p = refl
 
       pub drew : (L : Lists) (a : Answer) (p b x s : List Float) (r : List ℕ) (n : List Float) (e : List ℕ)
-          → p ≡ after l' (flat (λ t. pointNumbers (position t)) (barsIn (N .station) unit buses blocks frames)) (L .positions)
-          → b ≡ after l' (flat barNumbers (barsIn (N .station) unit buses blocks frames)) (L .bars)
+          → p ≡ after l' (flat (λ t. pointNumbers (position t)) (barsIn (N .station) (measuresOf o unit) buses blocks frames)) (L .positions)
+          → b ≡ after l' (flat barNumbers (barsIn (N .station) (measuresOf o unit) buses blocks frames)) (L .bars)
           → x ≡ after l' (flat boxNumbers (boxesIn k frames)) (L .boxes)
           → s ≡ after l' (scalesIn k blocks) (L .scales)
           → r ≡ after l' (map role (kinds (N .station) (N .from) (N .to) (N .service))) (L .roles)

@@ -15,10 +15,10 @@ use cells::cells::cell_size;
 use cells::index::index_boxes;
 use chart::Course;
 use crossings::gap::gap_of;
+use crossings::gap::gap_of;
+use crossings::gap::gap_of;
 use drawing::late::all_finite;
-use crossings::gap::gap_of;
 use drawing::late::late_of;
-use crossings::gap::gap_of;
 use drawing::room::Room;
 use geometry::Box;
 use network::options::Options;
@@ -26,6 +26,7 @@ use network::refuse::finite_to;
 use pieces::survey;
 use results::bounds::bounds_of;
 use results::buses::finite_bars;
+use units::Measures;
 
 // What a drawing answers beside its lists, its late refusal, 0 for none, and the side of a cell.
 pub struct Draft {
@@ -74,6 +75,8 @@ pub(crate) fn judge(
     ensures { λ r. ⌜ Indexed (boxesIn k (now (frames .entry))) (occupied (countsIn k (now (stations .entry)))) (r .cell) k (now (sorted .exit)) ⌝ }
 {
     let unit = c.unit;
+    let gaps = o.gaps;
+    let measures = Measures { unit, gaps };
     let led = is_led(o);
     let cell = cell_size(k, stations, frames);
     index_boxes(led, cell, k, stations, frames, sorted);
@@ -82,7 +85,7 @@ pub(crate) fn judge(
         from,
         to,
         service,
-        unit,
+        measures,
         buses,
         ends,
         blocks,
@@ -98,7 +101,7 @@ pub(crate) fn judge(
         path,
     );
     let boxes = finite_to(frames, 4 * k);
-    let bars = finite_bars(sub, unit, buses, blocks, frames);
+    let bars = finite_bars(sub, measures, buses, blocks, frames);
     let finite = all_finite(c.finite, unit, boxes, bars, all.finite);
     let bounds = bounds_of(k, stations, frames);
     let late = late_of(0, all.pieces, room.pieces, room.branches, finite);

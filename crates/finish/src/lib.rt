@@ -9,10 +9,10 @@ ghost use Rattle.drawing.specs.Drawing.{drawing};
 ghost use Rattle.drawing.specs.Answer.{crossingRoom, late};
 ghost use Rattle.chart.specs.Stages.Charted.{Charted};
 ghost use Rattle.finish.specs.Stages.Draft.{Drew};
-use crate::draft::gap_of;
 use crate::draft::is_led;
 use crate::draft::judge;
 use chart::Course;
+use crossings::gap::gap_of;
 use drawing::answer::Answer;
 use drawing::answers::answer_of;
 use drawing::room::Room;
@@ -21,6 +21,7 @@ use pieces::write_pieces;
 use results::buses::write_buses;
 use results::lists::write_roles;
 use results::lists::write_stations;
+use units::Measures;
 
 // Judges a drawing that nothing refuses so far, and writes it where nothing does.
 fn write(
@@ -60,6 +61,8 @@ fn write(
     ensures { λ r. ⌜ Drew o (network (now (sub .entry)) (now (kv .entry)) (now (from .entry)) (now (to .entry)) (now (service .entry)) (now (xy .entry)) (now (corners .entry)) (now (twins .entry))) (late (drawing o (network (now (sub .entry)) (now (kv .entry)) (now (from .entry)) (now (to .entry)) (now (service .entry)) (now (xy .entry)) (now (corners .entry)) (now (twins .entry)))) room) (lists (now (positions .entry)) (now (bars .entry)) (now (boxes .entry)) (now (scales .entry)) (now (roles .entry)) (now (pieces .entry)) (now (branches .entry))) r (lists (now (positions .exit)) (now (bars .exit)) (now (boxes .exit)) (now (scales .exit)) (now (roles .exit)) (now (pieces .exit)) (now (branches .exit))) ⌝ }
 {
     let unit = c.unit;
+    let gaps = o.gaps;
+    let measures = Measures { unit, gaps };
     let d = judge(
         o,
         sub,
@@ -83,7 +86,16 @@ fn write(
         path,
         ways,
     );
-    write_buses(d.late, sub, unit, buses, blocks, frames, positions, bars);
+    write_buses(
+        d.late,
+        sub,
+        measures,
+        buses,
+        blocks,
+        frames,
+        positions,
+        bars,
+    );
     write_stations(d.late, k, frames, blocks, boxes, scales);
     write_roles(d.late, sub, from, to, service, roles);
     write_pieces(
@@ -92,7 +104,7 @@ fn write(
         from,
         to,
         service,
-        unit,
+        measures,
         buses,
         ends,
         blocks,

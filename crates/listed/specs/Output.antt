@@ -28,6 +28,7 @@ listOptions =
       «tier_scale_2» = defaults .«tier_scale_2»;
       search = defaults .search;
       «route_iterations» = 0;
+      gaps = defaults .gaps;
     }
 
 -- the lists that it lends, long enough for 64 buses and 64 branches, whose runs have three pieces at most

@@ -1,6 +1,18 @@
 // The options of a drawing.
 ghost use mathlib.Core.Path.{_≡_};
-ghost use Rattle.network.specs.Options.{defaults, between, searchFits, inRange, searchOf};
+ghost use Rattle.network.specs.Options.{defaults, between, searchFits, gapFits, gapsFit, inRange, searchOf};
+
+// The interior grid, in blocks, and what is kept free around each box.
+pub struct Gaps {
+    // From one bar to the next.
+    pub bar_gap: f64,
+    // Inside each side of a box.
+    pub pad: f64,
+    // The shortest bar's length.
+    pub min_bar: f64,
+    // Kept free around each box.
+    pub buffer: f64,
+}
 
 // Options of `TxLayoutOptions`, for given points.
 pub struct Options {
@@ -17,18 +29,11 @@ pub struct Options {
     pub search: i32,
     // Rounds of channel spacing; 0 draws lines straight.
     pub route_iterations: u32,
+    // Bar gap, padding, shortest bar and buffer.
+    pub gaps: Gaps,
 }
 
 impl Options {
-    // The interior grid, in blocks.
-    pub const BAR_GAP: f64 = 2.0;
-
-    pub const PAD: f64 = 1.0;
-
-    pub const MIN_BAR: f64 = 2.0;
-    // Kept free around each box, in blocks.
-    pub const BUFFER: f64 = 1.0;
-
     // The ranges; the least of the others is 0.
     pub const FILL_MOST: f64 = 16.0;
 
@@ -41,6 +46,10 @@ impl Options {
     pub const SEARCH_MOST: i32 = 20;
 
     pub const ITERATIONS_MOST: u32 = 100;
+
+    pub const GAP_LEAST: f64 = 0.5;
+
+    pub const GAP_MOST: f64 = 8.0;
 
     // The default options.
     pub fn default() -> Options
@@ -55,6 +64,12 @@ impl Options {
             tier_scale_2: 4.0 / 9.0,
             search: 10,
             route_iterations: 10,
+            gaps: Gaps {
+                bar_gap: 2.0,
+                pad: 1.0,
+                min_bar: 2.0,
+                buffer: 1.0,
+            },
         }
     }
 
@@ -80,6 +95,9 @@ impl Options {
         if !search_fits(self.search) {
             return false;
         }
+        if !gaps_fit(self.gaps) {
+            return false;
+        }
         self.route_iterations <= Options::ITERATIONS_MOST
     }
 }
@@ -100,6 +118,29 @@ fn search_fits(search: i32) -> bool
     } else {
         search <= Options::SEARCH_MOST
     }
+}
+
+// Whether a gap is in its range.
+fn gap_fits(x: f64) -> bool
+    ensures { λ r. ⌜ r ≡ gapFits x ⌝ }
+{
+    between(Options::GAP_LEAST, x, Options::GAP_MOST)
+}
+
+// Whether each of the four gaps is in its range.
+fn gaps_fit(g: Gaps) -> bool
+    ensures { λ r. ⌜ r ≡ gapsFit g ⌝ }
+{
+    if !gap_fits(g.bar_gap) {
+        return false;
+    }
+    if !gap_fits(g.pad) {
+        return false;
+    }
+    if !gap_fits(g.min_bar) {
+        return false;
+    }
+    gap_fits(g.buffer)
 }
 
 // A search as a number of offsets, 0 where it is below 0.

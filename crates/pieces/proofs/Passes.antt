@@ -20,6 +20,7 @@ use Rattle.network.specs.declared.words.Kind.the-variants.{Undrawn, Open, Inter
 use Rattle.network.specs.Words.{stationOf, known, kindFor, kindOf, kindAt, kinds, Safe}
 use Rattle.network.proofs.Branches.{kind-safe}
 use Rattle.network.specs.Views.{pointsIn}
+use Rattle.units.specs.declared.Measures.{Measures}
 use Rattle.runs.specs.Run.{Piece, apart, pieces, isLine, allPieces}
 use Rattle.runs.specs.Finite.{allOf, finitePoint}
 use Rattle.runs.specs.Lists.{flat, pieceNumbers, after}
@@ -200,7 +201,7 @@ module _ (H : Held) (from to : List ℤ) (service : List ℕ) where
 
   -- ---- the branches that are no lines, by the lists that they are drawn from
   abbrev other : ℕ → List Point
-  other e = otherRun (H .sub) (H .unit) (H .buses) (H .ends) (H .blocks) (H .frames) e (kind e)
+  other e = otherRun (H .sub) (H .measures) (H .buses) (H .ends) (H .blocks) (H .frames) e (kind e)
 
   other-pass : (e : ℕ) → other e ≡ passRun false H from to service e
   unfolding passRun
@@ -210,11 +211,11 @@ module _ (H : Held) (from to : List ℤ) (service : List ℕ) where
       go true ps = refl
       go false ps = refl
 
-  pub others-are : othersIn (H .sub) (H .unit) (H .buses) (H .ends) (H .blocks) (H .frames) from to service ≡ passIn false H from to service
+  pub others-are : othersIn (H .sub) (H .measures) (H .buses) (H .ends) (H .blocks) (H .frames) from to service ≡ passIn false H from to service
   unfolding othersIn passIn
   others-are = joined-ext (λ (e : ℕ). pieces e (other e)) (passAt false H from to service) (length from) (λ e h. ap (pieces e) (other-pass e))
 
-  pub others-finite : othersFinite (H .sub) (H .unit) (H .buses) (H .ends) (H .blocks) (H .frames) from to service ≡ passFinite false H from to service
+  pub others-finite : othersFinite (H .sub) (H .measures) (H .buses) (H .ends) (H .blocks) (H .frames) from to service ≡ passFinite false H from to service
   unfolding othersFinite passFinite
   others-finite = ap (allOf (allOf finitePoint)) (table-ext other (passRun false H from to service) (length from) (λ e h. other-pass e))
 
@@ -238,7 +239,7 @@ module _ (sub : List ℕ) (from to : List ℤ) (service : List ℕ) (e : ℕ) wh
 -- ---- requests as branches' runs
 module _ (H : Held) where
   abbrev held-lists : Lists
-  held-lists = lists (H .sub) (H .unit) (H .buses) (H .ends) (H .blocks) (H .places) (H .frames)
+  held-lists = lists (H .sub) (H .measures) (H .buses) (H .ends) (H .blocks) (H .places) (H .frames)
 
   request-branch : (e : ℕ) (K : Kind) → requestOf held-lists e K .e ≡ e
   unfolding requestOf nothingAt lineRequest
@@ -253,7 +254,7 @@ module _ (H : Held) where
   request-pass e (Open a b) s = refl
   request-pass e (Internal a b) s = refl
   request-pass e (Line a b) s =
-      ap (λ (z : Bool). pick z [] (lineFrom (H .sub) (H .unit) (H .buses) (H .blocks) (H .places) (H .frames) (H .lead) e a b (getD (H .ends) (4 * e) 0) (getD (H .ends) (4 * e + 1) 0) (wayOf (H .ends) e) (wayCount (H .ends) e)))
+      ap (λ (z : Bool). pick z [] (lineFrom (H .sub) (H .measures) (H .buses) (H .blocks) (H .places) (H .frames) (H .lead) e a b (getD (H .ends) (4 * e) 0) (getD (H .ends) (4 * e + 1) 0) (wayOf (H .ends) e) (wayCount (H .ends) e)))
       (ne-eqb (stationOf (H .sub) a) (stationOf (H .sub) b) (s .2))
 
   request-asks : (path : List Float) (e : ℕ) (K : Kind) → (isLine K ≡ true → Fits (H .ends) path e × (e < 2 ^ 31)) → Asks (H .ends) path (requestOf held-lists e K)
@@ -300,29 +301,29 @@ module _ (H : Held) where
     block-room w at n b h = subst (λ (z : List Piece). RoomFor w at z n b) (sym block-pieces) h
 
 -- ---- the loop over the branches that are no lines: after e branches
-module _ (sub : List ℕ) (unit : Float) (buses ends : List ℕ) (blocks frames : List Float) (e : ℕ) (K : Kind) where
-  other-short : length (otherRun sub unit buses ends blocks frames e K) ≤ 2
+module _ (sub : List ℕ) (measures : Measures) (buses ends : List ℕ) (blocks frames : List Float) (e : ℕ) (K : Kind) where
+  other-short : length (otherRun sub measures buses ends blocks frames e K) ≤ 2
   unfolding otherRun openFrom internalFrom
   other-short = go K
     where
-      go : (K : Kind) → length (otherRun sub unit buses ends blocks frames e K) ≤ 2
+      go : (K : Kind) → length (otherRun sub measures buses ends blocks frames e K) ≤ 2
       go Undrawn = omega arith
       go (Open a b) = omega arith
       go (Internal a b) = omega arith
       go (Line a b) = omega arith
 
-  pub other-few : (c : ℕ) (path : List Float) → Ran c path (otherRun sub unit buses ends blocks frames e K) → c < 2 ^ 32
+  pub other-few : (c : ℕ) (path : List Float) → Ran c path (otherRun sub measures buses ends blocks frames e K) → c < 2 ^ 32
   other-few c path R = omega (arith, R .count, other-short)
 
-module _ (sub : List ℕ) (unit : Float) (buses ends : List ℕ) (blocks frames : List Float) (from to : List ℤ) (service : List ℕ) (w : Bool) (t : Totals) (path n : List Float) (b : List ℕ) where
+module _ (sub : List ℕ) (measures : Measures) (buses ends : List ℕ) (blocks frames : List Float) (from to : List ℤ) (service : List ℕ) (w : Bool) (t : Totals) (path n : List Float) (b : List ℕ) where
   abbrev otherAt : ℕ → List Point
-  otherAt e = otherRun sub unit buses ends blocks frames e (kindOf sub from to service e)
+  otherAt e = otherRun sub measures buses ends blocks frames e (kindOf sub from to service e)
 
   pub record Others (e : ℕ) (s : Totals) (path' n' : List Float) (b' : List ℕ) : Type 0 where
     pub going : Going w (λ (i : ℕ). pieces i (otherAt i)) otherAt (length from) t n b e s n' b'
     pub sized : length path' ≡ length path
 
-  pub others-none : RoomFor w (t .pieces) (othersIn sub unit buses ends blocks frames from to service) n b → Others 0 t path n b
+  pub others-none : RoomFor w (t .pieces) (othersIn sub measures buses ends blocks frames from to service) n b → Others 0 t path n b
   unfolding othersIn
   others-none h = record { going = go-none w _ _ (length from) t n b h; sized = refl }
 
@@ -335,7 +336,7 @@ module _ (sub : List ℕ) (unit : Float) (buses ends : List ℕ) (blocks frames 
           → length path'' ≡ length path' → length n'' ≡ length n' → length b'' ≡ length b' → Others (e + 1) r path'' n'' b''
       others-more P d f g = record { going = go-more w _ _ (length from) t n b (I .going) l (ran-passed R w e P) f g; sized = d ∙ I .sized }
 
-    pub others-end : length from ≤ e → Passed w t s (othersIn sub unit buses ends blocks frames from to service) (othersFinite sub unit buses ends blocks frames from to service) n n' b b'
+    pub others-end : length from ≤ e → Passed w t s (othersIn sub measures buses ends blocks frames from to service) (othersFinite sub measures buses ends blocks frames from to service) n n' b b'
     unfolding othersIn othersFinite
     others-end l = go-end w _ _ (length from) t n b (I .going) l
 
@@ -439,10 +440,10 @@ module _ (H : Held) (from to : List ℤ) (service : List ℕ) (path : List Float
   all = allPieces (kinds (H .sub) from to service) (runsIn H from to service)
 
   abbrev others : List Piece
-  others = othersIn (H .sub) (H .unit) (H .buses) (H .ends) (H .blocks) (H .frames) from to service
+  others = othersIn (H .sub) (H .measures) (H .buses) (H .ends) (H .blocks) (H .frames) from to service
 
   abbrev others-ok : Bool
-  others-ok = othersFinite (H .sub) (H .unit) (H .buses) (H .ends) (H .blocks) (H .frames) from to service
+  others-ok = othersFinite (H .sub) (H .measures) (H .buses) (H .ends) (H .blocks) (H .frames) from to service
 
   sum : length all ≡ length others + length (passIn true H from to service)
   sum = ap length (all-passes H from to service) ∙ length-append (passIn false H from to service) (passIn true H from to service)

@@ -20,6 +20,7 @@ use float::small::is_finite;
 use geometry::Point;
 use geometry::point_at;
 use runs::run::run;
+use units::Measures;
 
 // How many pieces all runs have, and whether all their points are finite.
 pub struct Totals {
@@ -153,7 +154,7 @@ fn pass_others(
     from: &[i64],
     to: &[i64],
     service: &[u8],
-    unit: f64,
+    measures: Measures,
     buses: &[u32],
     ends: &[u32],
     blocks: &[f64],
@@ -163,8 +164,8 @@ fn pass_others(
     branches: &mut [u32],
 ) -> Totals
     requires { ⌜ (length (now from) ≤ 8192) × (length (now sub) ≤ 4096) × (0 < length (now from) → 8 ≤ length (now path)) ⌝ }
-    requires { ⌜ RoomFor write (t .pieces) (othersIn (now sub) unit (now buses) (now ends) (now blocks) (now frames) (now from) (now to) (now service)) (now numbers) (now branches) ⌝ }
-    ensures { λ r. ⌜ Passed write t r (othersIn (now (sub .entry)) unit (now (buses .entry)) (now (ends .entry)) (now (blocks .entry)) (now (frames .entry)) (now (from .entry)) (now (to .entry)) (now (service .entry))) (othersFinite (now (sub .entry)) unit (now (buses .entry)) (now (ends .entry)) (now (blocks .entry)) (now (frames .entry)) (now (from .entry)) (now (to .entry)) (now (service .entry))) (now (numbers .entry)) (now (numbers .exit)) (now (branches .entry)) (now (branches .exit)) ⌝ }
+    requires { ⌜ RoomFor write (t .pieces) (othersIn (now sub) measures (now buses) (now ends) (now blocks) (now frames) (now from) (now to) (now service)) (now numbers) (now branches) ⌝ }
+    ensures { λ r. ⌜ Passed write t r (othersIn (now (sub .entry)) measures (now (buses .entry)) (now (ends .entry)) (now (blocks .entry)) (now (frames .entry)) (now (from .entry)) (now (to .entry)) (now (service .entry))) (othersFinite (now (sub .entry)) measures (now (buses .entry)) (now (ends .entry)) (now (blocks .entry)) (now (frames .entry)) (now (from .entry)) (now (to .entry)) (now (service .entry))) (now (numbers .entry)) (now (numbers .exit)) (now (branches .entry)) (now (branches .exit)) ⌝ }
 {
     let mut done = t;
     let mut e = 0;
@@ -174,7 +175,7 @@ fn pass_others(
             from,
             to,
             service,
-            unit,
+            measures,
             buses,
             ends,
             blocks,
@@ -194,7 +195,7 @@ pub fn survey(
     from: &[i64],
     to: &[i64],
     service: &[u8],
-    unit: f64,
+    measures: Measures,
     buses: &[u32],
     ends: &[u32],
     blocks: &[f64],
@@ -212,8 +213,8 @@ pub fn survey(
     requires { ⌜ (length (now from) ≤ 8192) × (length (now sub) ≤ 4096) ⌝ }
     requires { ⌜ FitAll (now from) (now ends) (now path) ⌝ }
     requires { ⌜ Stands cell k (now stations) (now frames) (now index) ⌝ }
-    ensures { λ r. ⌜ r .pieces ≡ length (allPieces (kinds (now (sub .entry)) (now (from .entry)) (now (to .entry)) (now (service .entry))) (runsIn (held (now (sub .entry)) unit (now (buses .entry)) (now (ends .entry)) (now (blocks .entry)) (now (places .entry)) (now (frames .entry)) (lead led cell gap k (now (stations .entry)) (now (ways .entry)))) (now (from .entry)) (now (to .entry)) (now (service .entry)))) ⌝ }
-    ensures { λ r. ⌜ r .finite ≡ allOf (allOf finitePoint) (runsIn (held (now (sub .entry)) unit (now (buses .entry)) (now (ends .entry)) (now (blocks .entry)) (now (places .entry)) (now (frames .entry)) (lead led cell gap k (now (stations .entry)) (now (ways .entry)))) (now (from .entry)) (now (to .entry)) (now (service .entry))) ⌝ }
+    ensures { λ r. ⌜ r .pieces ≡ length (allPieces (kinds (now (sub .entry)) (now (from .entry)) (now (to .entry)) (now (service .entry))) (runsIn (held (now (sub .entry)) measures (now (buses .entry)) (now (ends .entry)) (now (blocks .entry)) (now (places .entry)) (now (frames .entry)) (lead led cell gap k (now (stations .entry)) (now (ways .entry)))) (now (from .entry)) (now (to .entry)) (now (service .entry)))) ⌝ }
+    ensures { λ r. ⌜ r .finite ≡ allOf (allOf finitePoint) (runsIn (held (now (sub .entry)) measures (now (buses .entry)) (now (ends .entry)) (now (blocks .entry)) (now (places .entry)) (now (frames .entry)) (lead led cell gap k (now (stations .entry)) (now (ways .entry)))) (now (from .entry)) (now (to .entry)) (now (service .entry))) ⌝ }
     ensures { λ r. ⌜ r .pieces ≤ 2 ^ 45 ⌝ }
 {
     let mut numbers = [0.0; 1];
@@ -228,7 +229,7 @@ pub fn survey(
         from,
         to,
         service,
-        unit,
+        measures,
         buses,
         ends,
         blocks,
@@ -244,7 +245,7 @@ pub fn survey(
         from,
         to,
         service,
-        unit,
+        measures,
         buses,
         ends,
         blocks,
@@ -270,7 +271,7 @@ pub fn write_pieces(
     from: &[i64],
     to: &[i64],
     service: &[u8],
-    unit: f64,
+    measures: Measures,
     buses: &[u32],
     ends: &[u32],
     blocks: &[f64],
@@ -290,9 +291,9 @@ pub fn write_pieces(
     requires { ⌜ (length (now from) ≤ 8192) × (length (now sub) ≤ 4096) ⌝ }
     requires { ⌜ FitAll (now from) (now ends) (now path) ⌝ }
     requires { ⌜ Stands cell k (now stations) (now frames) (now index) ⌝ }
-    requires { ⌜ RoomIf l (allPieces (kinds (now sub) (now from) (now to) (now service)) (runsIn (held (now sub) unit (now buses) (now ends) (now blocks) (now places) (now frames) (lead led cell gap k (now stations) (now ways))) (now from) (now to) (now service))) (now numbers) (now branches) ⌝ }
-    ensures { λ _. ⌜ now (numbers .exit) ≡ after l (flat pieceNumbers (allPieces (kinds (now (sub .entry)) (now (from .entry)) (now (to .entry)) (now (service .entry))) (runsIn (held (now (sub .entry)) unit (now (buses .entry)) (now (ends .entry)) (now (blocks .entry)) (now (places .entry)) (now (frames .entry)) (lead led cell gap k (now (stations .entry)) (now (ways .entry)))) (now (from .entry)) (now (to .entry)) (now (service .entry))))) (now (numbers .entry)) ⌝ }
-    ensures { λ _. ⌜ now (branches .exit) ≡ after l (map branchOf (allPieces (kinds (now (sub .entry)) (now (from .entry)) (now (to .entry)) (now (service .entry))) (runsIn (held (now (sub .entry)) unit (now (buses .entry)) (now (ends .entry)) (now (blocks .entry)) (now (places .entry)) (now (frames .entry)) (lead led cell gap k (now (stations .entry)) (now (ways .entry)))) (now (from .entry)) (now (to .entry)) (now (service .entry))))) (now (branches .entry)) ⌝ }
+    requires { ⌜ RoomIf l (allPieces (kinds (now sub) (now from) (now to) (now service)) (runsIn (held (now sub) measures (now buses) (now ends) (now blocks) (now places) (now frames) (lead led cell gap k (now stations) (now ways))) (now from) (now to) (now service))) (now numbers) (now branches) ⌝ }
+    ensures { λ _. ⌜ now (numbers .exit) ≡ after l (flat pieceNumbers (allPieces (kinds (now (sub .entry)) (now (from .entry)) (now (to .entry)) (now (service .entry))) (runsIn (held (now (sub .entry)) measures (now (buses .entry)) (now (ends .entry)) (now (blocks .entry)) (now (places .entry)) (now (frames .entry)) (lead led cell gap k (now (stations .entry)) (now (ways .entry)))) (now (from .entry)) (now (to .entry)) (now (service .entry))))) (now (numbers .entry)) ⌝ }
+    ensures { λ _. ⌜ now (branches .exit) ≡ after l (map branchOf (allPieces (kinds (now (sub .entry)) (now (from .entry)) (now (to .entry)) (now (service .entry))) (runsIn (held (now (sub .entry)) measures (now (buses .entry)) (now (ends .entry)) (now (blocks .entry)) (now (places .entry)) (now (frames .entry)) (lead led cell gap k (now (stations .entry)) (now (ways .entry)))) (now (from .entry)) (now (to .entry)) (now (service .entry))))) (now (branches .entry)) ⌝ }
 {
     if l != 0 {
         return;
@@ -307,7 +308,7 @@ pub fn write_pieces(
         from,
         to,
         service,
-        unit,
+        measures,
         buses,
         ends,
         blocks,
@@ -323,7 +324,7 @@ pub fn write_pieces(
         from,
         to,
         service,
-        unit,
+        measures,
         buses,
         ends,
         blocks,

@@ -14,6 +14,7 @@ use requests::request::LineRequest;
 use requests::request::request_at;
 use requests::request::requests_from;
 use runs::run::run_line;
+use units::Measures;
 
 // Leads the line that a request asks for, and adds its run to the totals.
 fn lead_line(
@@ -160,7 +161,7 @@ fn lead_block(
     from: &[i64],
     to: &[i64],
     service: &[u8],
-    unit: f64,
+    measures: Measures,
     buses: &[u32],
     ends: &[u32],
     blocks: &[f64],
@@ -180,15 +181,15 @@ fn lead_block(
     requires { ⌜ (length (now from) ≤ 8192) × (length (now sub) ≤ 4096) ⌝ }
     requires { ⌜ FitAll (now from) (now ends) (now path) ⌝ }
     requires { ⌜ Stands cell k (now stations) (now frames) (now index) ⌝ }
-    requires { ⌜ (start < 2 ^ 31) × RoomFor write (t .pieces) (blockIn (held (now sub) unit (now buses) (now ends) (now blocks) (now places) (now frames) (lead led cell gap k (now stations) (now ways))) (now from) (now to) (now service) start) (now numbers) (now branches) ⌝ }
-    ensures { λ s. ⌜ Passed write t s (blockIn (held (now (sub .entry)) unit (now (buses .entry)) (now (ends .entry)) (now (blocks .entry)) (now (places .entry)) (now (frames .entry)) (lead led cell gap k (now (stations .entry)) (now (ways .entry)))) (now (from .entry)) (now (to .entry)) (now (service .entry)) start) (blockFinite (held (now (sub .entry)) unit (now (buses .entry)) (now (ends .entry)) (now (blocks .entry)) (now (places .entry)) (now (frames .entry)) (lead led cell gap k (now (stations .entry)) (now (ways .entry)))) (now (from .entry)) (now (to .entry)) (now (service .entry)) start) (now (numbers .entry)) (now (numbers .exit)) (now (branches .entry)) (now (branches .exit)) ⌝ }
+    requires { ⌜ (start < 2 ^ 31) × RoomFor write (t .pieces) (blockIn (held (now sub) measures (now buses) (now ends) (now blocks) (now places) (now frames) (lead led cell gap k (now stations) (now ways))) (now from) (now to) (now service) start) (now numbers) (now branches) ⌝ }
+    ensures { λ s. ⌜ Passed write t s (blockIn (held (now (sub .entry)) measures (now (buses .entry)) (now (ends .entry)) (now (blocks .entry)) (now (places .entry)) (now (frames .entry)) (lead led cell gap k (now (stations .entry)) (now (ways .entry)))) (now (from .entry)) (now (to .entry)) (now (service .entry)) start) (blockFinite (held (now (sub .entry)) measures (now (buses .entry)) (now (ends .entry)) (now (blocks .entry)) (now (places .entry)) (now (frames .entry)) (lead led cell gap k (now (stations .entry)) (now (ways .entry)))) (now (from .entry)) (now (to .entry)) (now (service .entry)) start) (now (numbers .entry)) (now (numbers .exit)) (now (branches .entry)) (now (branches .exit)) ⌝ }
 {
     let list = requests_from(
         sub,
         from,
         to,
         service,
-        unit,
+        measures,
         buses,
         ends,
         blocks,
@@ -223,7 +224,7 @@ pub(crate) fn lead_lines(
     from: &[i64],
     to: &[i64],
     service: &[u8],
-    unit: f64,
+    measures: Measures,
     buses: &[u32],
     ends: &[u32],
     blocks: &[f64],
@@ -243,8 +244,8 @@ pub(crate) fn lead_lines(
     requires { ⌜ (length (now from) ≤ 8192) × (length (now sub) ≤ 4096) ⌝ }
     requires { ⌜ FitAll (now from) (now ends) (now path) ⌝ }
     requires { ⌜ Stands cell k (now stations) (now frames) (now index) ⌝ }
-    requires { ⌜ RoomFor write (t .pieces) (passIn true (held (now sub) unit (now buses) (now ends) (now blocks) (now places) (now frames) (lead led cell gap k (now stations) (now ways))) (now from) (now to) (now service)) (now numbers) (now branches) ⌝ }
-    ensures { λ s. ⌜ Passed write t s (passIn true (held (now (sub .entry)) unit (now (buses .entry)) (now (ends .entry)) (now (blocks .entry)) (now (places .entry)) (now (frames .entry)) (lead led cell gap k (now (stations .entry)) (now (ways .entry)))) (now (from .entry)) (now (to .entry)) (now (service .entry))) (passFinite true (held (now (sub .entry)) unit (now (buses .entry)) (now (ends .entry)) (now (blocks .entry)) (now (places .entry)) (now (frames .entry)) (lead led cell gap k (now (stations .entry)) (now (ways .entry)))) (now (from .entry)) (now (to .entry)) (now (service .entry))) (now (numbers .entry)) (now (numbers .exit)) (now (branches .entry)) (now (branches .exit)) ⌝ }
+    requires { ⌜ RoomFor write (t .pieces) (passIn true (held (now sub) measures (now buses) (now ends) (now blocks) (now places) (now frames) (lead led cell gap k (now stations) (now ways))) (now from) (now to) (now service)) (now numbers) (now branches) ⌝ }
+    ensures { λ s. ⌜ Passed write t s (passIn true (held (now (sub .entry)) measures (now (buses .entry)) (now (ends .entry)) (now (blocks .entry)) (now (places .entry)) (now (frames .entry)) (lead led cell gap k (now (stations .entry)) (now (ways .entry)))) (now (from .entry)) (now (to .entry)) (now (service .entry))) (passFinite true (held (now (sub .entry)) measures (now (buses .entry)) (now (ends .entry)) (now (blocks .entry)) (now (places .entry)) (now (frames .entry)) (lead led cell gap k (now (stations .entry)) (now (ways .entry)))) (now (from .entry)) (now (to .entry)) (now (service .entry))) (now (numbers .entry)) (now (numbers .exit)) (now (branches .entry)) (now (branches .exit)) ⌝ }
 {
     let mut done = t;
     let mut start = 0;
@@ -257,7 +258,7 @@ pub(crate) fn lead_lines(
             from,
             to,
             service,
-            unit,
+            measures,
             buses,
             ends,
             blocks,

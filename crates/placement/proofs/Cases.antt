@@ -13,6 +13,7 @@ use Rattle.order.specs.Table.{tableFrom}
 use Rattle.geometry.specs.declared.Point.{Point}
 use Rattle.geometry.specs.Plane.{origin}
 use Rattle.proximity.specs.Overlap.{meet, overlap}
+use Rattle.network.specs.Options.{defaultGaps}
 use Rattle.offsets.specs.declared.offset.Offset.{Offset}
 use Rattle.offsets.specs.Offset.{offsetNumber, offsetOf, gridNumber, offsetGrid, offsets}
 use Rattle.placement.specs.Place.{frameFor, frames, boxOn, buffered, free, place, firstFree, placeFor, boxOf, nextPlace, placesTo, places}
@@ -33,7 +34,7 @@ offsets-begin = refl
 -- Two stations of one bus each on the seed (0, 0), with the unit 1/8 of fill 1/2: 2 blocks wide and 4 high.
 abbrev two : ℕ → List Point
 two search =
-    places (frames (ofBits binary64 0x3FC0_0000_0000_0000) (f1 ∷ f1 ∷ []) (record { w = f2; h = f4 } ∷ record { w = f2; h = f4 } ∷ []))
+    places (frames (record { unit = ofBits binary64 0x3FC0_0000_0000_0000; gaps = defaultGaps }) (f1 ∷ f1 ∷ []) (record { w = f2; h = f4 } ∷ record { w = f2; h = f4 } ∷ []))
     (offsets search) (origin ∷ origin ∷ []) (0 ∷ 1 ∷ [])
 
 abbrev bits : List Point → List (ℕ × ℕ)

@@ -1,11 +1,12 @@
 -- A box whose buffered box strictly overlaps no other doesn't overlap it in the audit's sense, whichever of the two is shrunk. Assumes nothing.
 use Prim.Native.Nat.{_≤_, _<_}
-use mathlib.Core.Path.{sym, subst}
-use mathlib.Core.Bool.{Bool, _&&_}
+use mathlib.Core.Path.{_≡_, refl, sym, subst}
+use mathlib.Core.Logic.{_⊎_, inl, inr}
+use mathlib.Core.Bool.{Bool, true, false, not, _&&_}
 use native.Mathlib.Omega.{arith}
 use lib.Dec.{T, ltb→lt, lt→ltb}
 use lib.Count.{trailingZeros}
-use lib.Ieee.{Float, nan, inf, fin, binary64, lt, fits, ofBits, ofFields, odd}
+use lib.Ieee.{Float, nan, inf, fin, binary64, add, sub, neg, lt, fits, ofBits, ofFields, odd}
 use lib.Ieee.Fits.{add-fits, sub-fits, and-l, and-r, and-i}
 use Rattle.float.specs.Small.{isFinite}
 use Rattle.float.specs.Ops.{_⊕_, _⊖_, _⊗_}
@@ -13,7 +14,6 @@ use Rattle.geometry.specs.declared.Point.{Point}
 use Rattle.geometry.specs.declared.Box.{Box}
 use Rattle.geometry.specs.Plane.{edge, shrunk}
 use Rattle.proximity.specs.Overlap.{meet, overlap}
-use Rattle.network.specs.Options.{buffer}
 use Rattle.placement.specs.Place.{Frame, boxOn, buffered}
 use Rattle.placement.proofs.Rank.{rank, Number, Plus, lt-rank, add-up, sub-down, add-number, sub-number, finite-number}
 
@@ -71,6 +71,63 @@ module _ (b q g : Float) (B : Good b) (Q : Good q) (G : Plus g) where
       step q (q ⊕ edge) (b ⊕ g) b (Q .0) (add-fits binary64 q edge) (add-fits binary64 b g) (B .0)
       (finite-number q (Q .1)) (add-number q edge (Q .1) edge-finite) (add-number b g (B .1) (plus-finite g G)) (finite-number b (B .1)) v u
 
+-- a number that isn't negative, infinity among them
+abbrev pub Outward : Float → Type 0
+Outward nan = ⊥
+Outward (inf s) = T (not s)
+Outward (fin s m e) = T (not s)
+
+outward-cases : (x : Float) → Outward x → Plus x ⊎ (x ≡ inf false)
+outward-cases nan h = absurd h
+outward-cases (inf true) h = absurd h
+outward-cases (inf false) h = inr refl
+outward-cases (fin true m e) h = absurd h
+outward-cases (fin false m e) h = inl tt
+
+-- a side moved out without end lies past every finite one
+far-low : (b q : Float) → Good b → Good q → T (lt (b ⊖ inf false) q)
+unfolding sub neg add lt isFinite
+far-low nan q B Q = absurd (B .1)
+far-low (inf s) q B Q = absurd (B .1)
+far-low (fin s m e) nan B Q = absurd (Q .1)
+far-low (fin s m e) (inf t) B Q = absurd (Q .1)
+far-low (fin s m e) (fin t n d) B Q = tt
+
+far-high : (b q : Float) → Good b → Good q → T (lt q (b ⊕ inf false))
+unfolding add lt isFinite
+far-high nan q B Q = absurd (B .1)
+far-high (inf s) q B Q = absurd (B .1)
+far-high (fin s m e) nan B Q = absurd (Q .1)
+far-high (fin s m e) (inf t) B Q = absurd (Q .1)
+far-high (fin s m e) (fin t n d) B Q = tt
+
+module _ (b q g : Float) (B : Good b) (Q : Good q) (G : Outward g) where
+  out-low : {A : Type 0} → (Plus g → A → T (lt (b ⊖ g) q)) → A → T (lt (b ⊖ g) q)
+  out-low {A} f a = go (outward-cases g G)
+    where
+      go : Plus g ⊎ (g ≡ inf false) → T (lt (b ⊖ g) q)
+      go (inl p) = f p a
+      go (inr e) = subst (λ (x : Float). T (lt (b ⊖ x) q)) (sym e) (far-low b q B Q)
+
+  out-high : {A : Type 0} → (Plus g → A → T (lt q (b ⊕ g))) → A → T (lt q (b ⊕ g))
+  out-high {A} f a = go (outward-cases g G)
+    where
+      go : Plus g ⊎ (g ≡ inf false) → T (lt q (b ⊕ g))
+      go (inl p) = f p a
+      go (inr e) = subst (λ (x : Float). T (lt q (b ⊕ x))) (sym e) (far-high b q B Q)
+
+  low-out : T (lt (b ⊕ edge) q) → T (lt (b ⊖ g) q)
+  low-out = out-low (λ p. low b q g B Q p)
+
+  high-out : T (lt q (b ⊖ edge)) → T (lt q (b ⊕ g))
+  high-out = out-high (λ p. high b q g B Q p)
+
+  low-other-out : T (lt b (q ⊖ edge)) → T (lt (b ⊖ g) q)
+  low-other-out = out-low (λ p. low-other b q g B Q p)
+
+  high-other-out : T (lt (q ⊕ edge) b) → T (lt q (b ⊕ g))
+  high-other-out = out-high (λ p. high-other b q g B Q p)
+
 -- four finite sides
 pub record Whole (b : Box) : Type 0 where
   pub left : Good (b .left)
@@ -90,12 +147,12 @@ turned a b c d a' b' c' d' f g h k t =
     let y = and-r (a && b) (c && d) t in
     and-i (a' && b') (c' && d') (and-i a' b' (f (and-r a b x)) (g (and-l a b x))) (and-i c' d' (h (and-r c d y)) (k (and-l c d y)))
 
-module _ (c : Point) (r : Frame) (G : Plus (r .f ⊗ buffer)) (W : Whole (boxOn c (r .half))) (q : Box) (Q : Whole q) where
+module _ (c : Point) (r : Frame) (G : Outward (r .f ⊗ r .buffer)) (W : Whole (boxOn c (r .half))) (q : Box) (Q : Whole q) where
   abbrev b : Box
   b = boxOn c (r .half)
 
   abbrev g : Float
-  g = r .f ⊗ buffer
+  g = r .f ⊗ r .buffer
 
   -- the box itself is shrunk
   pub over-own : T (overlap (shrunk (boxOn c (r .half))) q) → T (overlap (buffered c r) q)
@@ -103,8 +160,8 @@ module _ (c : Point) (r : Frame) (G : Plus (r .f ⊗ buffer)) (W : Whole (boxOn 
   over-own =
       four (lt (b .left ⊕ edge) (q .right)) (lt (q .left) (b .right ⊖ edge)) (lt (b .top ⊕ edge) (q .bottom)) (lt (q .top) (b .bottom ⊖ edge))
       (lt (b .left ⊖ g) (q .right)) (lt (q .left) (b .right ⊕ g)) (lt (b .top ⊖ g) (q .bottom)) (lt (q .top) (b .bottom ⊕ g))
-      (low (b .left) (q .right) g (W .left) (Q .right) G) (high (b .right) (q .left) g (W .right) (Q .left) G)
-      (low (b .top) (q .bottom) g (W .top) (Q .bottom) G) (high (b .bottom) (q .top) g (W .bottom) (Q .top) G)
+      (low-out (b .left) (q .right) g (W .left) (Q .right) G) (high-out (b .right) (q .left) g (W .right) (Q .left) G)
+      (low-out (b .top) (q .bottom) g (W .top) (Q .bottom) G) (high-out (b .bottom) (q .top) g (W .bottom) (Q .top) G)
 
   -- the other is
   pub over-other : T (overlap (shrunk q) (boxOn c (r .half))) → T (overlap (buffered c r) q)
@@ -112,5 +169,5 @@ module _ (c : Point) (r : Frame) (G : Plus (r .f ⊗ buffer)) (W : Whole (boxOn 
   over-other =
       turned (lt (q .left ⊕ edge) (b .right)) (lt (b .left) (q .right ⊖ edge)) (lt (q .top ⊕ edge) (b .bottom)) (lt (b .top) (q .bottom ⊖ edge))
       (lt (b .left ⊖ g) (q .right)) (lt (q .left) (b .right ⊕ g)) (lt (b .top ⊖ g) (q .bottom)) (lt (q .top) (b .bottom ⊕ g))
-      (low-other (b .left) (q .right) g (W .left) (Q .right) G) (high-other (b .right) (q .left) g (W .right) (Q .left) G)
-      (low-other (b .top) (q .bottom) g (W .top) (Q .bottom) G) (high-other (b .bottom) (q .top) g (W .bottom) (Q .top) G)
+      (low-other-out (b .left) (q .right) g (W .left) (Q .right) G) (high-other-out (b .right) (q .left) g (W .right) (Q .left) G)
+      (low-other-out (b .top) (q .bottom) g (W .top) (Q .bottom) G) (high-other-out (b .bottom) (q .top) g (W .bottom) (Q .top) G)

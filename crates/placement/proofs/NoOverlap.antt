@@ -21,7 +21,6 @@ use Rattle.geometry.specs.declared.Point.{Point}
 use Rattle.geometry.specs.declared.Box.{Box}
 use Rattle.geometry.specs.Plane.{shrunk}
 use Rattle.proximity.specs.Overlap.{overlap}
-use Rattle.network.specs.Options.{buffer}
 use Rattle.network.specs.Words.{isOccupied, occupied}
 use Rattle.network.specs.Seed.{placeAt}
 use Rattle.stations.specs.Column.{falling}
@@ -31,8 +30,7 @@ use Rattle.placement.specs.Place.{Frame, frameAt, boxOn, boxOf, buffered
 use Rattle.turns.specs.Turns.{topTo, placementOrder}
 use Rattle.turns.specs.Stages.Listed.{Turns}
 use Rattle.turns.proofs.Queue.{order-turns}
-use Rattle.placement.proofs.Rank.{Plus}
-use Rattle.placement.proofs.Clear.{Whole, over-own, over-other}
+use Rattle.placement.proofs.Clear.{Outward, Whole, over-own, over-other}
 use Rattle.placement.proofs.PlaceLaw.{clear-of}
 
 -- ---- every occupied station has its turn
@@ -103,7 +101,7 @@ module _ (sub kv counts : List ℕ) (fs : List Frame) (os : List Offset) (seeds 
 
   -- Every station found a free place, buffers are not negative and boxes finite: no two boxes overlap, one of them shrunk.
   module _ (found : (i : ℕ) → i < length (placementOrder sub kv counts) → foundFree fs os seeds (placementOrder sub kv counts) i ≡ true)
-      (plus : (s : ℕ) → isOccupied counts s ≡ true → Plus (frameAt fs s .f ⊗ buffer))
+      (plus : (s : ℕ) → isOccupied counts s ≡ true → Outward (frameAt fs s .f ⊗ frameAt fs s .buffer))
       (finite : (s : ℕ) → isOccupied counts s ≡ true → Finite (boxOf fs (places fs os seeds (placementOrder sub kv counts)) s)) where
     full : (s : ℕ) → isOccupied counts s ≡ true → Whole (boxOf fs end s)
     unfolding boxOf

@@ -90,7 +90,7 @@ no-box lo top = record { left = zero-doubles lo top; top-side = zero-doubles lo 
 
 module _ {lo t u : ℕ} (fs fs' : List Frame) (os : List Offset) (seeds seeds' : List Point) (order : List ℕ)
     (F : (s : ℕ) → DoublesFrame lo u (frameAt fs s) (frameAt fs' s)) (S : (s : ℕ) → DoublesPoint lo t (placeAt seeds s) (placeAt seeds' s))
-    (k : ℕ) (n : length seeds ≡ k) (n' : length seeds' ≡ k) (turns : Turns k order) (small : Small os) (i : Limit u) (R : Reach lo t u) where
+    (k : ℕ) (n : length seeds ≡ k) (n' : length seeds' ≡ k) (turns : Turns k order) (small : Small os) (R : Reach lo t u) where
   boxes-paired : (ps ps' : List Point) → ((s : ℕ) → DoublesPoint lo (t + 80 * u) (placeAt ps s) (placeAt ps' s)) → (done : List ℕ) → Paired (DoublesBox lo (t + 80 * u + u)) (map (boxOf fs ps) done) (map (boxOf fs' ps') done)
   unfolding boxOf
   boxes-paired ps ps' h [] = tt
@@ -118,7 +118,7 @@ module _ {lo t u : ℕ} (fs fs' : List Frame) (os : List Offset) (seeds seeds' :
       let c = placeFor (placeAt ps s) (frameAt fs s) e os in
       let c' = placeFor (placeAt ps' s) (frameAt fs' s) e' os in
       let fresh : (m : ℕ) → m < j → getD order m 0 ≡ getD order j 0 → ⊥ = (λ m l q. apart m j l (turns .once m j (through m j (length order) l h) h q)) in
-      let new : DoublesPoint lo (t + 80 * u) c c' = search-doubles lo (t + 80 * u + u) (placeAt ps s) (placeAt ps' s) (frameAt fs s) (frameAt fs' s) e e' (T .rest s fresh) (F s) (boxes-paired ps ps' (T .all) (take j order)) i R os small in
+      let new : DoublesPoint lo (t + 80 * u) c c' = search-doubles lo (t + 80 * u + u) (placeAt ps s) (placeAt ps' s) (frameAt fs s) (frameAt fs' s) e e' (T .rest s fresh) (F s) (boxes-paired ps ps' (T .all) (take j order)) R os small in
       let b : s < length ps = subst (λ (z : ℕ). s < z) (sym (T .length-is)) (turns .below j h) in
       let b' : s < length ps' = subst (λ (z : ℕ). s < z) (sym (T .length-is')) (turns .below j h) in
       record {

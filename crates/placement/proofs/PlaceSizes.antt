@@ -14,6 +14,7 @@ use Rattle.order.specs.Order.{pick}
 use Rattle.geometry.specs.declared.Point.{Point}
 use Rattle.geometry.specs.declared.Box.{Box}
 use Rattle.geometry.proofs.Crossing.{Near}
+use Rattle.units.specs.declared.Measures.{Measures}
 use Rattle.units.specs.Size.{Size, larger}
 use Rattle.offsets.specs.declared.offset.Offset.{Offset}
 use Rattle.placement.specs.declared.search.Found.the-variants.{At}
@@ -26,15 +27,15 @@ pub record Sides (k : ℕ) (z : Size) : Type 0 where
   pub h : AtMost k (z .h)
 
 -- ---- half sides: a unit, a scale of at most 1, sides in blocks
-pub frame-most : (u b g : ℕ) (unit scale : Float) (z : Size) → u + b ≤ g + 1074 → u ≤ 2097 → g ≤ 2097 → AtMost u unit → AtMost 1074 scale → Sides b z → Sides g (frameFor unit scale z .half) × AtMost u (frameFor unit scale z .f)
+pub frame-most : (u b g : ℕ) (M : Measures) (scale : Float) (z : Size) → u + b ≤ g + 1074 → u ≤ 2097 → g ≤ 2097 → AtMost u (M .unit) → AtMost 1074 scale → Sides b z → Sides g (frameFor M scale z .half) × AtMost u (frameFor M scale z .f)
 unfolding frameFor
-frame-most u b g unit scale z l L G h s Z = (record { w = half (z .w) (Z .w); h = half (z .h) (Z .h) }, block)
+frame-most u b g M scale z l L G h s Z = (record { w = half (z .w) (Z .w); h = half (z .h) (Z .h) }, block)
   where
-    block : AtMost u (unit ⊗ scale)
-    block = mul-most u 1074 u unit scale (omega arith) L h s
+    block : AtMost u (M .unit ⊗ scale)
+    block = mul-most u 1074 u (M .unit) scale (omega arith) L h s
 
-    half : (x : Float) → AtMost b x → AtMost g (x ⊗ (unit ⊗ scale) ⊘ f2)
-    half x k = div-most g (1074 + 1) g (x ⊗ (unit ⊗ scale)) f2 (omega arith) G (mul-most b u g x (unit ⊗ scale) (omega arith) G k block) f2-least
+    half : (x : Float) → AtMost b x → AtMost g (x ⊗ (M .unit ⊗ scale) ⊘ f2)
+    half x k = div-most g (1074 + 1) g (x ⊗ (M .unit ⊗ scale)) f2 (omega arith) G (mul-most b u g x (M .unit ⊗ scale) (omega arith) G k block) f2-least
 
 -- ---- places: seeds of at most m, half sides of at most g
 module _ (m g : ℕ) (M : m + 8 ≤ 2097) (G : g + 8 ≤ 2097) (H : m ≤ g) (seed : Point) (z : Size) (S : Near m seed) (Z : Sides g z) where

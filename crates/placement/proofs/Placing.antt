@@ -22,6 +22,7 @@ use Rattle.network.specs.Words.{isOccupied}
 use Rattle.network.specs.Seed.{placeAt}
 use Rattle.network.specs.Views.{countsIn, orderIn, pointsIn, boxesIn}
 use Rattle.network.proofs.Views.{length-points, getD-points, points-set, boxes-zero, boxes-push}
+use Rattle.units.specs.declared.Measures.{Measures}
 use Rattle.units.specs.Size.{Size, sizeAt}
 use Rattle.units.specs.Stages.Views.{sizeIn, sizesIn, scalesIn}
 use Rattle.units.proofs.Occupied.{is-occupied, not-occupied}
@@ -36,15 +37,15 @@ all-of P [] h = tt
 all-of P (x ∷ xs) h = (h zero (suc-le-suc zero-le), all-of P xs (λ i l. h (suc i) (suc-le-suc l)))
 
 -- ---- what station s's interior is drawn in
-module _ (unit : Float) (k : ℕ) (blocks : List Float) where
-  pub frame-at : (s : ℕ) → s < k → frameAt (framesIn unit k blocks) s ≡ frameIn unit blocks s
+module _ (M : Measures) (k : ℕ) (blocks : List Float) where
+  pub frame-at : (s : ℕ) → s < k → frameAt (framesIn M k blocks) s ≡ frameIn M blocks s
   unfolding frames sizesIn
   frame-at s h =
       let zs : List Size = sizesIn k blocks in
       let l : s < length zs = rw (length-table (sizeIn blocks) k) h in
-      getD-table (λ i. frameFor unit (getD (scalesIn k blocks) i f1) (sizeAt zs i)) (length zs) s (record { half = record { w = f0; h = f0 }; f = f0 }) l
-      ∙ ap (λ (x : Float). frameFor unit x (sizeAt zs s)) (getD-strided 3 2 nan k s blocks f1 h)
-      ∙ ap (frameFor unit (getD blocks (3 * s + 2) nan)) (getD-table (sizeIn blocks) k s (record { w = f0; h = f0 }) h)
+      getD-table (λ i. frameFor M (getD (scalesIn k blocks) i f1) (sizeAt zs i)) (length zs) s (record { half = record { w = f0; h = f0 }; f = f0; buffer = f0 }) l
+      ∙ ap (λ (x : Float). frameFor M x (sizeAt zs s)) (getD-strided 3 2 nan k s blocks f1 h)
+      ∙ ap (frameFor M (getD blocks (3 * s + 2) nan)) (getD-table (sizeIn blocks) k s (record { w = f0; h = f0 }) h)
 
 -- ---- the first p stations of the order are placed, and their boxes stand in this order
 pub record Placed (fs : List Frame) (os : List Offset) (seeds : List Point) (order : List ℕ) (k p : ℕ) (ps bs : List Float) : Type 0 where
@@ -55,11 +56,11 @@ pub placed-none : (fs : List Frame) (os : List Offset) (order : List ℕ) (k : �
 unfolding placesTo
 placed-none fs os order k ps bs = record { points = refl; boxes = boxes-zero bs }
 
-module _ (unit : Float) (k : ℕ) (blocks : List Float) (os : List Offset) (seeds : List Point) (order : List ℕ) (T : Turns k order) (p s : ℕ) (h : p < length order) (e : s ≡ getD order p 0)
-    (ps bs ps' bs' : List Float) (l : 2 * k ≤ length ps) (m : 4 * p + 3 < length bs) (S : PlacedAs unit blocks os s p ps bs ps' bs')
-    (D : Placed (framesIn unit k blocks) os seeds order k p ps bs) where
+module _ (M : Measures) (k : ℕ) (blocks : List Float) (os : List Offset) (seeds : List Point) (order : List ℕ) (T : Turns k order) (p s : ℕ) (h : p < length order) (e : s ≡ getD order p 0)
+    (ps bs ps' bs' : List Float) (l : 2 * k ≤ length ps) (m : 4 * p + 3 < length bs) (S : PlacedAs M blocks os s p ps bs ps' bs')
+    (D : Placed (framesIn M k blocks) os seeds order k p ps bs) where
   abbrev fs : List Frame
-  fs = framesIn unit k blocks
+  fs = framesIn M k blocks
 
   abbrev before : List Point
   before = placesTo fs os seeds order p
@@ -76,8 +77,8 @@ module _ (unit : Float) (k : ℕ) (blocks : List Float) (os : List Offset) (seed
   chosen-is : S .at ≡ nextPlace fs os before (take p order) s
   unfolding nextPlace
   chosen-is =
-      S .chosen ∙ ap (λ (c : Point). placeFor c (frameIn unit blocks s) (boxesIn p bs) os) seed-is
-      ∙ ap (λ (r : Frame). placeFor (placeAt before s) r (boxesIn p bs) os) (sym (frame-at unit k blocks s below))
+      S .chosen ∙ ap (λ (c : Point). placeFor c (frameIn M blocks s) (boxesIn p bs) os) seed-is
+      ∙ ap (λ (r : Frame). placeFor (placeAt before s) r (boxesIn p bs) os) (sym (frame-at M k blocks s below))
       ∙ ap (λ (q : List Box). placeFor (placeAt before s) (frameAt fs s) q os) (D .boxes)
 
   to-next : after ≡ placesTo fs os seeds order (suc p)
@@ -100,17 +101,17 @@ module _ (unit : Float) (k : ℕ) (blocks : List Float) (os : List Offset) (seed
       let n : t ≢ s = λ z. apart i j (sym (getD-take p order i 0 j) ∙ z) in
       ap (λ (c : Point). boxOn c (frameAt fs t .half)) (sym (getD-set-other before s t (S .at) origin n)))
 
-  own : boxOf fs after s ≡ boxOn (S .at) (frameIn unit blocks s .half)
+  own : boxOf fs after s ≡ boxOn (S .at) (frameIn M blocks s .half)
   unfolding boxOf
   own =
       let n : s < length before = subst (λ (q : List Point). s < length q) (D .points) (rw (length-points k ps) below) in
       ap (λ (c : Point). boxOn c (frameAt fs s .half)) (getD-set-same before s (S .at) origin n)
-      ∙ ap (λ (r : Frame). boxOn (S .at) (r .half)) (frame-at unit k blocks s below)
+      ∙ ap (λ (r : Frame). boxOn (S .at) (r .half)) (frame-at M k blocks s below)
 
   boxes-next : boxesIn (suc p) bs' ≡ map (boxOf fs (placesTo fs os seeds order (suc p))) (take (suc p) order)
   boxes-next =
-      ap (boxesIn (suc p)) (S .boxed) ∙ boxes-push p bs (boxOn (S .at) (frameIn unit blocks s .half)) m
-      ∙ ap (λ (q : List Box). q ++ (boxOn (S .at) (frameIn unit blocks s .half) ∷ [])) (D .boxes ∙ map-agree (boxOf fs before) (boxOf fs after) (take p order) kept)
+      ap (boxesIn (suc p)) (S .boxed) ∙ boxes-push p bs (boxOn (S .at) (frameIn M blocks s .half)) m
+      ∙ ap (λ (q : List Box). q ++ (boxOn (S .at) (frameIn M blocks s .half) ∷ [])) (D .boxes ∙ map-agree (boxOf fs before) (boxOf fs after) (take p order) kept)
       ∙ ap (λ (b : Box). map (boxOf fs after) (take p order) ++ (b ∷ [])) (sym own)
       ∙ sym (map-append (boxOf fs after) (take p order) (s ∷ []))
       ∙ ap (λ (t : ℕ). map (boxOf fs after) (take p order ++ (t ∷ []))) e
@@ -126,12 +127,12 @@ unfolding places
 placed-end fs os seeds r st k p ps bs e D = D .points ∙ ap (placesTo fs os seeds (orderIn r st)) (e ∙ sym (length-strided 2 1 0 r st))
 
 -- ---- the box list
-module _ (unit : Float) (k : ℕ) (st : List ℕ) (blocks ps : List Float) where
+module _ (M : Measures) (k : ℕ) (st : List ℕ) (blocks ps : List Float) where
   abbrev all-frames : List Frame
-  all-frames = framesIn unit k blocks
+  all-frames = framesIn M k blocks
 
   abbrev pub boxFor : ℕ → Box
-  boxFor s = pick (isOccupied (countsIn k st) s) (boxOf (framesIn unit k blocks) (pointsIn k ps) s) noBox
+  boxFor s = pick (isOccupied (countsIn k st) s) (boxOf (framesIn M k blocks) (pointsIn k ps) s) noBox
 
   pub boxes-none : (bs : List Float) → boxesIn 0 bs ≡ table boxFor 0
   boxes-none bs = boxes-zero bs ∙ sym (table-zero boxFor)
@@ -141,12 +142,12 @@ module _ (unit : Float) (k : ℕ) (st : List ℕ) (blocks ps : List Float) where
       rw (add-one s)
       (boxes-push s bs b h ∙ ap (λ (q : List Box). q ++ (b ∷ [])) i ∙ ap (λ (x : Box). table boxFor s ++ (x ∷ [])) e ∙ sym (table-suc boxFor s))
 
-  pub boxes-yes : (s : ℕ) (bs : List Float) (b : Box) → s < k → 4 * s + 3 < length bs → 0 < getD st (2 * s) 0 → b ≡ boxOn (pointAt ps s) (frameIn unit blocks s .half)
+  pub boxes-yes : (s : ℕ) (bs : List Float) (b : Box) → s < k → 4 * s + 3 < length bs → 0 < getD st (2 * s) 0 → b ≡ boxOn (pointAt ps s) (frameIn M blocks s .half)
       → boxesIn s bs ≡ table boxFor s → boxesIn (s + 1) (putBox bs s b) ≡ table boxFor (s + 1)
   unfolding boxOf
   boxes-yes s bs b h l p e i =
       put-more s bs b l
-      (e ∙ ap (λ (r : Frame). boxOn (pointAt ps s) (r .half)) (sym (frame-at unit k blocks s h))
+      (e ∙ ap (λ (r : Frame). boxOn (pointAt ps s) (r .half)) (sym (frame-at M k blocks s h))
       ∙ ap (λ (c : Point). boxOn c (frameAt all-frames s .half)) (sym (getD-points k s ps origin h))
       ∙ ap (λ (x : Bool). pick x (boxOf all-frames (pointsIn k ps) s) noBox) (sym (is-occupied k s st h p))) i
 

@@ -18,7 +18,6 @@ use Rattle.order.specs.Order.{pick}
 use Rattle.geometry.specs.declared.Point.{Point}
 use Rattle.geometry.specs.declared.Box.{Box}
 use Rattle.proximity.specs.Overlap.{overlap}
-use Rattle.network.specs.Options.{buffer}
 use Rattle.units.specs.Size.{Size}
 use Rattle.units.specs.Doubles.{DoublesPoint, DoublesSize, Paired}
 use Rattle.offsets.specs.declared.offset.Offset.{Offset}
@@ -43,21 +42,34 @@ four = record { number = record { held = tt; finite = tt }; count = 4; grid = re
 one-wide : Stepped 1074 (4 * 2 ^ 1074) f1
 one-wide = widen-to 1074 (4 * 2 ^ 1074) (le-refl 1074) (lit≤ tt) one
 
+more : (t a : ℕ) → t ≤ t + a
+more t a = omega arith
+
 -- ---- boxes
 pub box-doubles : {lo t u : ℕ} (c c' : Point) (z z' : Size) → DoublesPoint lo t c c' → DoublesSize lo u z z' → Limit (t + u) → DoublesBox lo (t + u) (boxOn c z) (boxOn c' z')
 unfolding boxOn
 box-doubles c c' z z' p q l = record { left = sub-doubles (p .x) (q .w) l; top-side = sub-doubles (p .y) (q .h) l; right = add-doubles (p .x) (q .w) l; bottom = add-doubles (p .y) (q .h) l }
 
-pub buffered-doubles : {lo t u : ℕ} (c c' : Point) (r r' : Frame) → DoublesPoint lo t c c' → DoublesFrame lo u r r' → 52 ≤ lo → Limit u → Limit (t + u) → Limit (t + u + u) → DoublesBox lo (t + u + u) (buffered c r) (buffered c' r')
+pub buffered-doubles : {lo t u : ℕ} (c c' : Point) (r r' : Frame) → DoublesPoint lo t c c' → DoublesFrame lo u r r' → Limit (8 * u) → Limit (t + u) → Limit (t + u + 8 * u) → DoublesBox lo (t + u + 8 * u) (buffered c r) (buffered c' r')
 unfolding buffered
-buffered-doubles {lo} {t} {u} c c' r r' p q h i l m =
-    let g : Doubles lo u (r .f ⊗ buffer) (r' .f ⊗ buffer) = mul-doubles lo u (q .f) one refl h (le-refl (u * 2 ^ 1074)) i in
+buffered-doubles {lo} {t} {u} c c' r r' p q i l m =
+    let fine : Doubles (lo + 53) (8 * u) (r .f ⊗ r .buffer) (r' .f ⊗ r .buffer) = mul-doubles (lo + 53) (8 * u) (q .f) (q .gap) (digits lo) (enough lo) (le-of-eq (flat u (2 ^ 1074))) i in
+    let g : Doubles lo (8 * u) (r .f ⊗ r .buffer) (r' .f ⊗ r' .buffer) = subst (λ (b : Float). Doubles lo (8 * u) (r .f ⊗ r .buffer) (r' .f ⊗ b)) (sym (q .same)) (widen-doubles lo (8 * u) (more lo 53) (le-refl (8 * u)) fine) in
     record {
       left = sub-doubles (sub-doubles (p .x) (q .half .w) l) g m;
       top-side = sub-doubles (sub-doubles (p .y) (q .half .h) l) g m;
       right = add-doubles (add-doubles (p .x) (q .half .w) l) g m;
       bottom = add-doubles (add-doubles (p .y) (q .half .h) l) g m;
     }
+  where
+    digits : (lo : ℕ) → lo + 53 + 1074 ≡ lo + 106 + 1021
+    digits lo = omega arith
+
+    enough : (lo : ℕ) → 52 ≤ lo + 53
+    enough lo = omega arith
+
+    flat : (u w : ℕ) → u * (8 * w) ≡ 8 * u * w
+    flat u w = omega arith
 
 pub overlap-of-doubles : {i j t u : ℕ} (p p' q q' : Box) → DoublesBox i t p p' → DoublesBox j u q q' → overlap p' q' ≡ overlap p q
 unfolding overlap
@@ -108,10 +120,7 @@ next-doubles lo top (At c) Nowhere d d' h k = absurd h
 next-doubles lo top Nowhere (At c') d d' h k = absurd h
 next-doubles lo top Nowhere Nowhere d d' h k = k
 
-more : (t a : ℕ) → t ≤ t + a
-more t a = omega arith
-
-module _ {lo t u : ℕ} (j v : ℕ) (seed seed' : Point) (r r' : Frame) (earlier earlier' : List Box) (p : DoublesPoint lo t seed seed') (q : DoublesFrame lo u r r') (e : Paired (DoublesBox j v) earlier earlier') (i : Limit u) (R : Reach lo t u) where
+module _ {lo t u : ℕ} (j v : ℕ) (seed seed' : Point) (r r' : Frame) (earlier earlier' : List Box) (p : DoublesPoint lo t seed seed') (q : DoublesFrame lo u r r') (e : Paired (DoublesBox j v) earlier earlier') (R : Reach lo t u) where
   pub found-doubles : (widening : Float) → Stepped 1074 (4 * 2 ^ 1074) widening → (os : List Offset) → Small os → DoublesFound lo (t + 80 * u) (firstFree seed r earlier widening os) (firstFree seed' r' earlier' widening os)
   unfolding firstFree
   found-doubles widening w [] h = tt
@@ -122,7 +131,7 @@ module _ {lo t u : ℕ} (j v : ℕ) (seed seed' : Point) (r r' : Frame) (earlier
       let l' = firstFree seed' r' earlier' widening os in
       let k : DoublesPoint lo (t + 80 * u) c c' = place-doubles seed seed' (r .half) (r' .half) widening o (h .0) (h .1) p (q .half) w R in
       subst (λ (b : Bool). DoublesFound lo (t + 80 * u) (pick (free (buffered c r) earlier) (At c) l) (pick b (At c') l'))
-      (sym (free-of-doubles j v (buffered c r) (buffered c' r') earlier earlier' (buffered-doubles c c' r r' k q (R .fine) i (R .box) (R .buffer)) e))
+      (sym (free-of-doubles j v (buffered c r) (buffered c' r') earlier earlier' (buffered-doubles c c' r r' k q (R .gap) (R .box) (R .buffer)) e))
       (pick-found lo (t + 80 * u) (free (buffered c r) earlier) (At c) (At c') l l' k (found-doubles widening w os (h .2)))
 
   pub search-doubles : (os : List Offset) → Small os → DoublesPoint lo (t + 80 * u) (placeFor seed r earlier os) (placeFor seed' r' earlier' os)

@@ -13,39 +13,40 @@ use Rattle.geometry.specs.declared.Point.{Point}
 use Rattle.geometry.specs.declared.Box.{Box}
 use Rattle.geometry.specs.Plane.{point}
 use Rattle.proximity.specs.Overlap.{overlap}
-use Rattle.network.specs.Options.{buffer}
 use Rattle.network.specs.Words.{isOccupied}
 use Rattle.network.specs.Seed.{placeAt}
+use Rattle.units.specs.declared.Measures.{Measures}
 use Rattle.units.specs.Size.{Size, sizeAt, larger}
 use Rattle.offsets.specs.declared.offset.Offset.{Offset}
 use Rattle.placement.specs.declared.search.Found.{Found}
 use Rattle.placement.specs.declared.search.Found.the-variants.{At, Nowhere}
 
--- What a station's interior is drawn in: its half sides and its block f, unit × scale.
+-- What a station's interior is drawn in: its half sides, its block f, unit × scale, and its buffer in blocks.
 pub record Frame : Type 0 where
   pub half : Size
   pub f : Float
+  pub buffer : Float
 
 -- the sides of a box of this size in blocks of f, halved
-unfoldable pub frameFor : Float → Float → Size → Frame
-frameFor unit scale z =
-    let f = unit ⊗ scale in
-    record { half = record { w = z .w ⊗ f ⊘ f2; h = z .h ⊗ f ⊘ f2 }; f = f }
+unfoldable pub frameFor : Measures → Float → Size → Frame
+frameFor M scale z =
+    let f = M .unit ⊗ scale in
+    record { half = record { w = z .w ⊗ f ⊘ f2; h = z .h ⊗ f ⊘ f2 }; f = f; buffer = M .gaps .buffer }
 
-unfoldable pub frames : Float → List Float → List Size → List Frame
-frames unit scales zs = table (λ s. frameFor unit (getD scales s f1) (sizeAt zs s)) (length zs)
+unfoldable pub frames : Measures → List Float → List Size → List Frame
+frames M scales zs = table (λ s. frameFor M (getD scales s f1) (sizeAt zs s)) (length zs)
 
 abbrev pub frameAt : List Frame → ℕ → Frame
-frameAt fs s = getD fs s (record { half = record { w = f0; h = f0 }; f = f0 })
+frameAt fs s = getD fs s (record { half = record { w = f0; h = f0 }; f = f0; buffer = f0 })
 
 -- A box stands at a place when it is centred there.
 unfoldable pub boxOn : Point → Size → Box
 boxOn c z = record { left = c .x ⊖ z .w; top = c .y ⊖ z .h; right = c .x ⊕ z .w; bottom = c .y ⊕ z .h }
 
--- that box with its buffer, unit × scale, on each side
+-- that box with its buffer, unit × scale × buffer, on each side
 unfoldable pub buffered : Point → Frame → Box
 buffered c r =
-    let g = r .f ⊗ buffer in
+    let g = r .f ⊗ r .buffer in
     record {
       left = c .x ⊖ r .half .w ⊖ g;
       top = c .y ⊖ r .half .h ⊖ g;

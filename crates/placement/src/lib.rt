@@ -1,3 +1,3 @@
 // Placement: the first free place of each station, boxes and refusal 8.
-pub mod sized;
 pub mod search;
+pub mod sized;

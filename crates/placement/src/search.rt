@@ -14,12 +14,12 @@ ghost use Rattle.turns.specs.Stages.Listed.{Turns};
 use float::small::max;
 use geometry::Box;
 use geometry::Point;
-use network::options::Options;
 use offset_table::OFFSET_A;
 use offset_table::OFFSET_B;
 use offset_table::is_inside;
 use offset_table::pair_at;
 use offsets::offset::Offset;
+use units::Measures;
 
 // A free place, or none.
 pub enum Found {
@@ -70,10 +70,10 @@ fn box_on(c: Point, w: f64, h: f64) -> Box
 }
 
 // That box with its buffer.
-fn buffered(c: Point, w: f64, h: f64, f: f64) -> Box
-    ensures { λ r. ⌜ r ≡ buffered c (frame w h f) ⌝ }
+fn buffered(c: Point, w: f64, h: f64, f: f64, buffer: f64) -> Box
+    ensures { λ r. ⌜ r ≡ buffered c (frame w h f buffer) ⌝ }
 {
-    let g = f * Options::BUFFER;
+    let g = f * buffer;
     Box {
         left: c.x - w - g,
         top: c.y - h - g,
@@ -99,6 +99,7 @@ fn first_free(
     w: f64,
     h: f64,
     f: f64,
+    buffer: f64,
     widening: f64,
     a: &[i32],
     b: &[i32],
@@ -107,14 +108,14 @@ fn first_free(
     count: usize,
 ) -> Found
     requires { ⌜ 4 * count ≤ length (now frames) ⌝ }
-    ensures { λ r. ⌜ r ≡ firstFree seed (frame w h f) (boxesIn count (now (frames .entry))) widening (skipped search (pairsIn (now (a .entry)) (now (b .entry)))) ⌝ }
+    ensures { λ r. ⌜ r ≡ firstFree seed (frame w h f buffer) (boxesIn count (now (frames .entry))) widening (skipped search (pairsIn (now (a .entry)) (now (b .entry)))) ⌝ }
 {
     let mut j = 0;
     while j < a.len() {
         let o = pair_at(a, b, j);
         if is_inside(o, search) {
             let c = place(seed, w, h, widening, o);
-            if is_free(buffered(c, w, h, f), frames, count) {
+            if is_free(buffered(c, w, h, f, buffer), frames, count) {
                 return Found::At(c);
             }
             j += 1;
@@ -131,6 +132,7 @@ fn place_for(
     w: f64,
     h: f64,
     f: f64,
+    buffer: f64,
     a: &[i32],
     b: &[i32],
     search: usize,
@@ -138,17 +140,29 @@ fn place_for(
     count: usize,
 ) -> Point
     requires { ⌜ 4 * count ≤ length (now frames) ⌝ }
-    ensures { λ r. ⌜ r ≡ placeFor seed (frame w h f) (boxesIn count (now (frames .entry))) (skipped search (pairsIn (now (a .entry)) (now (b .entry)))) ⌝ }
+    ensures { λ r. ⌜ r ≡ placeFor seed (frame w h f buffer) (boxesIn count (now (frames .entry))) (skipped search (pairsIn (now (a .entry)) (now (b .entry)))) ⌝ }
 {
-    let near = first_free(seed, w, h, f, 1.0, a, b, search, frames, count);
+    let near = first_free(seed, w, h, f, buffer, 1.0, a, b, search, frames, count);
     match near {
         Found::At(c) => c,
         Found::Nowhere => {
-            let wide = first_free(seed, w, h, f, 2.0, a, b, search, frames, count);
+            let wide = first_free(seed, w, h, f, buffer, 2.0, a, b, search, frames, count);
             match wide {
                 Found::At(c) => c,
                 Found::Nowhere => {
-                    let widest = first_free(seed, w, h, f, 4.0, a, b, search, frames, count);
+                    let widest = first_free(
+                        seed,
+                        w,
+                        h,
+                        f,
+                        buffer,
+                        4.0,
+                        a,
+                        b,
+                        search,
+                        frames,
+                        count,
+                    );
                     match widest {
                         Found::At(c) => c,
                         Found::Nowhere => seed,
@@ -174,7 +188,7 @@ fn put_box(frames: &mut [f64], i: usize, b: Box)
 fn place_station(
     s: usize,
     p: usize,
-    unit: f64,
+    m: Measures,
     blocks: &[f64],
     a: &[i32],
     b: &[i32],
@@ -183,16 +197,17 @@ fn place_station(
     frames: &mut [f64],
 )
     requires { ⌜ (3 * s + 2 < length (now blocks)) × (2 * s + 1 < length (now places)) × (4 * p + 3 < length (now frames)) ⌝ }
-    ensures { λ _. ⌜ PlacedAs unit (now (blocks .entry)) (skipped search (pairsIn (now (a .entry)) (now (b .entry)))) s p (now (places .entry)) (now (frames .entry)) (now (places .exit)) (now (frames .exit)) ⌝ }
+    ensures { λ _. ⌜ PlacedAs m (now (blocks .entry)) (skipped search (pairsIn (now (a .entry)) (now (b .entry)))) s p (now (places .entry)) (now (frames .entry)) (now (places .exit)) (now (frames .exit)) ⌝ }
 {
-    let f = unit * blocks[3 * s + 2];
+    let f = m.unit * blocks[3 * s + 2];
     let w = blocks[3 * s] * f / 2.0;
     let h = blocks[3 * s + 1] * f / 2.0;
     let seed = Point {
         x: places[2 * s],
         y: places[2 * s + 1],
     };
-    let c = place_for(seed, w, h, f, a, b, search, frames, p);
+    let buffer = m.gaps.buffer;
+    let c = place_for(seed, w, h, f, buffer, a, b, search, frames, p);
     places[2 * s] = c.x;
     places[2 * s + 1] = c.y;
     put_box(frames, p, box_on(c, w, h));
@@ -202,7 +217,7 @@ fn place_station(
 fn place_all(
     k: usize,
     r: usize,
-    unit: f64,
+    m: Measures,
     stations: &[u32],
     blocks: &[f64],
     a: &[i32],
@@ -213,12 +228,12 @@ fn place_all(
 )
     requires { ⌜ (r ≤ k) × (2 * k ≤ length (now stations)) × (3 * k ≤ length (now blocks)) × (2 * k ≤ length (now places)) × (4 * k ≤ length (now frames)) ⌝ }
     requires { ⌜ Turns k (orderIn r (now stations)) ⌝ }
-    ensures { λ _. ⌜ pointsIn k (now (places .exit)) ≡ Place.places (framesIn unit k (now (blocks .entry))) (skipped search (pairsIn (now (a .entry)) (now (b .entry)))) (pointsIn k (now (places .entry))) (orderIn r (now (stations .entry))) ⌝ }
+    ensures { λ _. ⌜ pointsIn k (now (places .exit)) ≡ Place.places (framesIn m k (now (blocks .entry))) (skipped search (pairsIn (now (a .entry)) (now (b .entry)))) (pointsIn k (now (places .entry))) (orderIn r (now (stations .entry))) ⌝ }
 {
     let mut p = 0;
     while p < r {
         let s = stations[2 * p + 1] as usize;
-        place_station(s, p, unit, blocks, a, b, search, places, frames);
+        place_station(s, p, m, blocks, a, b, search, places, frames);
         p += 1;
     }
 }
@@ -227,7 +242,7 @@ fn place_all(
 pub fn place_by_table(
     k: usize,
     r: usize,
-    unit: f64,
+    m: Measures,
     stations: &[u32],
     blocks: &[f64],
     search: usize,
@@ -236,12 +251,12 @@ pub fn place_by_table(
 )
     requires { ⌜ (search ≤ 20) × (r ≤ k) × (2 * k ≤ length (now stations)) × (3 * k ≤ length (now blocks)) × (2 * k ≤ length (now places)) × (4 * k ≤ length (now frames)) ⌝ }
     requires { ⌜ Turns k (orderIn r (now stations)) ⌝ }
-    ensures { λ _. ⌜ pointsIn k (now (places .exit)) ≡ Place.places (framesIn unit k (now (blocks .entry))) (offsets search) (pointsIn k (now (places .entry))) (orderIn r (now (stations .entry))) ⌝ }
+    ensures { λ _. ⌜ pointsIn k (now (places .exit)) ≡ Place.places (framesIn m k (now (blocks .entry))) (offsets search) (pointsIn k (now (places .entry))) (orderIn r (now (stations .entry))) ⌝ }
 {
     place_all(
         k,
         r,
-        unit,
+        m,
         stations,
         blocks,
         &OFFSET_A,
@@ -253,11 +268,11 @@ pub fn place_by_table(
 }
 
 // Station s's box at its place.
-fn station_box(s: usize, unit: f64, blocks: &[f64], places: &[f64]) -> Box
+fn station_box(s: usize, m: Measures, blocks: &[f64], places: &[f64]) -> Box
     requires { ⌜ (3 * s + 2 < length (now blocks)) × (2 * s + 1 < length (now places)) ⌝ }
-    ensures { λ r. ⌜ r ≡ boxOn (pointAt (now (places .entry)) s) (frameIn unit (now (blocks .entry)) s .half) ⌝ }
+    ensures { λ r. ⌜ r ≡ boxOn (pointAt (now (places .entry)) s) (frameIn m (now (blocks .entry)) s .half) ⌝ }
 {
-    let f = unit * blocks[3 * s + 2];
+    let f = m.unit * blocks[3 * s + 2];
     let w = blocks[3 * s] * f / 2.0;
     let h = blocks[3 * s + 1] * f / 2.0;
     let c = Point {
@@ -270,19 +285,19 @@ fn station_box(s: usize, unit: f64, blocks: &[f64], places: &[f64]) -> Box
 // The box list: by station, zeros where one isn't occupied.
 pub fn station_boxes(
     k: usize,
-    unit: f64,
+    m: Measures,
     stations: &[u32],
     blocks: &[f64],
     places: &[f64],
     frames: &mut [f64],
 )
     requires { ⌜ (2 * k ≤ length (now stations)) × (3 * k ≤ length (now blocks)) × (2 * k ≤ length (now places)) × (4 * k ≤ length (now frames)) ⌝ }
-    ensures { λ _. ⌜ boxesIn k (now (frames .exit)) ≡ Place.boxes (framesIn unit k (now (blocks .entry))) (countsIn k (now (stations .entry))) (pointsIn k (now (places .entry))) ⌝ }
+    ensures { λ _. ⌜ boxesIn k (now (frames .exit)) ≡ Place.boxes (framesIn m k (now (blocks .entry))) (countsIn k (now (stations .entry))) (pointsIn k (now (places .entry))) ⌝ }
 {
     let mut s = 0;
     while s < k {
         if 0 < stations[2 * s] {
-            put_box(frames, s, station_box(s, unit, blocks, places));
+            put_box(frames, s, station_box(s, m, blocks, places));
             s += 1;
         } else {
             put_box(

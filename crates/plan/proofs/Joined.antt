@@ -17,6 +17,7 @@ use Rattle.network.specs.Refusal.{everyFinite}
 use Rattle.network.specs.Views.{countsIn, columnsIn, orderIn, fromRowsIn, toRowsIn, pointsIn, boxesIn}
 use Rattle.stations.specs.Column as Column
 use Rattle.stations.specs.Row as Row
+use Rattle.units.specs.declared.Measures.{Measures}
 use Rattle.units.specs.Size as Size
 use Rattle.units.specs.Unit as Unit
 use Rattle.units.specs.Scale as Scale
@@ -44,15 +45,15 @@ module _ (o : Options) (sub kv : List ℕ) (from to : List ℤ) (service : List 
       → toRowsIn (length from) ends ≡ Row.toRows sub (pointsIn k places) (kinds sub from to service)
       → strided 2 1 0 k st ≡ table (Row.rowsIn sub (kinds sub from to service)) k
       → countsIn k st ≡ countsIn k st₂
-      → unit ≡ Unit.unitFor (o .fill) (Unit.spacing (pointsIn k places) (countsIn k st)) (Unit.typical (Size.sizesFor (countsIn k st) (rowCountsIn k st)) (countsIn k st))
-      → sizesIn k blocks ≡ Size.sizesFor (countsIn k st) (rowCountsIn k st)
+      → unit ≡ Unit.unitFor (o .fill) (Unit.spacing (pointsIn k places) (countsIn k st)) (Unit.typical (Size.sizesFor (o .gaps) (countsIn k st) (rowCountsIn k st)) (countsIn k st))
+      → sizesIn k blocks ≡ Size.sizesFor (o .gaps) (countsIn k st) (rowCountsIn k st)
       → scalesIn k blocks ≡ Scale.scales o (pointsIn k places) (countsIn k st) (Unit.spacing (pointsIn k places) (countsIn k st))
       → finite ≡ everyFinite (2 * k) places
       → Interiors o sub kv from to service xy k unit finite st buses ends places blocks
   unfolding ks ss
   interiors-joined unit finite st₁ st₂ st buses ends places blocks c₁ p col c₂ fr tr rs c₃ u z sc f =
       let c : countsIn k st ≡ busCounts sub = c₃ ∙ c₂ ∙ c₁ in
-      let v : Size.sizesFor (countsIn k st) (rowCountsIn k st) ≡ Size.sizes sub ks (busCounts sub) = sizes-view _ _ _ _ _ c rs in
+      let v : Size.sizesFor (o .gaps) (countsIn k st) (rowCountsIn k st) ≡ Size.sizes (o .gaps) sub ks (busCounts sub) = sizes-view _ _ _ _ _ _ c rs in
       record {
         counts = c;
         columns = col;
@@ -65,13 +66,13 @@ module _ (o : Options) (sub kv : List ℕ) (from to : List ℤ) (service : List 
         finiteIs = f;
       }
 
-pub settled-joined : (sub kv : List ℕ) (k r : ℕ) (unit : Float) (search : ℕ) (blocks : List Float) (seeds : List Point) (st : List ℕ) (places frames : List Float)
+pub settled-joined : (sub kv : List ℕ) (k r : ℕ) (measures : Measures) (search : ℕ) (blocks : List Float) (seeds : List Point) (st : List ℕ) (places frames : List Float)
     → countsIn k st ≡ busCounts sub
     → orderIn r st ≡ placementOrder sub kv (busCounts sub)
-    → pointsIn k places ≡ Place.places (framesIn unit k blocks) (offsets search) seeds (orderIn r st)
-    → boxesIn k frames ≡ Place.boxes (framesIn unit k blocks) (countsIn k st) (pointsIn k places)
-    → Settled sub kv k unit search blocks seeds st places frames
-settled-joined sub kv k r unit search blocks seeds st places frames cs od ps bs =
+    → pointsIn k places ≡ Place.places (framesIn measures k blocks) (offsets search) seeds (orderIn r st)
+    → boxesIn k frames ≡ Place.boxes (framesIn measures k blocks) (countsIn k st) (pointsIn k places)
+    → Settled sub kv k measures search blocks seeds st places frames
+settled-joined sub kv k r measures search blocks seeds st places frames cs od ps bs =
     record {
       counts = cs;
       placed = ps ∙ cc od;

@@ -14,6 +14,7 @@ use placement::search::station_boxes;
 use stations::columns::columns;
 use stations::rows::rows;
 use turns::turns::placement_order;
+use units::Measures;
 use units::units;
 
 // The unit of a drawing, and whether all seeds are finite.
@@ -85,7 +86,7 @@ pub fn settle(
     sub: &[u32],
     kv: &[u64],
     k: usize,
-    unit: f64,
+    measures: Measures,
     search: usize,
     stations: &mut [u32],
     sorted: &mut [u32],
@@ -97,9 +98,9 @@ pub fn settle(
 )
     requires { ⌜ (search ≤ 20) × (k ≤ 4096) × (length (now kv) ≡ length (now sub)) × (countsIn k (now stations) ≡ busCounts (now sub)) ⌝ }
     requires { ⌜ (2 * k ≤ length (now stations)) × (k ≤ length (now sorted)) × (k ≤ length (now spare)) × (k ≤ length (now keys)) × (3 * k ≤ length (now blocks)) × (2 * k ≤ length (now places)) × (4 * k ≤ length (now frames)) ⌝ }
-    ensures { λ _. ⌜ Settled (now (sub .entry)) (now (kv .entry)) k unit search (now (blocks .entry)) (pointsIn k (now (places .entry))) (now (stations .exit)) (now (places .exit)) (now (frames .exit)) ⌝ }
+    ensures { λ _. ⌜ Settled (now (sub .entry)) (now (kv .entry)) k measures search (now (blocks .entry)) (pointsIn k (now (places .entry))) (now (stations .exit)) (now (places .exit)) (now (frames .exit)) ⌝ }
 {
     let r = placement_order(sub, kv, k, stations, keys, sorted, spare);
-    place_by_table(k, r, unit, stations, blocks, search, places, frames);
-    station_boxes(k, unit, stations, blocks, places, frames);
+    place_by_table(k, r, measures, stations, blocks, search, places, frames);
+    station_boxes(k, measures, stations, blocks, places, frames);
 }

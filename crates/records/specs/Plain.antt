@@ -27,6 +27,7 @@ optionsOf s =
       «tier_scale_2» = s .«tier_scale_2»;
       search = s .search;
       «route_iterations» = s .«route_iterations»;
+      gaps = record { «bar_gap» = s .«bar_gap»; pad = s .pad; «min_bar» = s .«min_bar»; buffer = s .buffer };
     }
 
 -- Number 0 with the unit, the bounds and the count of pieces, or a refusal's number and zeros.

@@ -3,6 +3,7 @@ ghost use mathlib.Core.Path.{_≡_};
 ghost use Rattle.records.specs.Plain.{optionsOf, plotted, audited};
 use drawing::answer::Answer;
 use findings::answer::Audit;
+use network::options::Gaps;
 use network::options::Options;
 
 // The options of a drawing (crate `network`).
@@ -16,6 +17,10 @@ pub struct Settings {
     pub tier_scale_2: f64,
     pub search: i32,
     pub route_iterations: u32,
+    pub bar_gap: f64,
+    pub pad: f64,
+    pub min_bar: f64,
+    pub buffer: f64,
 }
 
 // Number 0 with the unit, the bounds and the count of pieces, or a refusal's number and zeros.
@@ -53,6 +58,12 @@ pub fn options_of(s: Settings) -> Options
         tier_scale_2: s.tier_scale_2,
         search: s.search,
         route_iterations: s.route_iterations,
+        gaps: Gaps {
+            bar_gap: s.bar_gap,
+            pad: s.pad,
+            min_bar: s.min_bar,
+            buffer: s.buffer,
+        },
     }
 }
 

@@ -1,7 +1,7 @@
 // A stored layout call, made again and compared.
 //
 // Its words, by number:
-//   0 fill, radius, two tier counts, two tier scales, search, iterations
+//   0 fill, radius, two tier counts, two tier scales, search, iterations; the gaps are the default ones
 //   8 lengths of sub, kv, from, to, service, xy, corners, twins
 //   16 lent lengths of positions, bars, boxes, scales, roles, pieces, branches, the crossing list, stations
 //   25 the answer's number
@@ -28,6 +28,8 @@ use network::options::Options;
 use small::held::draw_small;
 
 fn options(w: &[u64]) -> Options {
+    let d = Options::default();
+    let gaps = d.gaps;
     Options {
         fill: float_at(w, 0),
         tier_radius: float_at(w, 1),
@@ -37,6 +39,7 @@ fn options(w: &[u64]) -> Options {
         tier_scale_2: float_at(w, 5),
         search: search_at(w, 6),
         route_iterations: u32_at(w, 7),
+        gaps,
     }
 }
 

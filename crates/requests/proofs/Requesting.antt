@@ -15,6 +15,7 @@ use Rattle.geometry.specs.declared.Point.{Point}
 use Rattle.network.specs.declared.words.Kind.{Kind}
 use Rattle.network.specs.declared.words.Kind.the-variants.{Undrawn, Open, Internal, Line}
 use Rattle.network.specs.Words.{stationOf, kindOf}
+use Rattle.units.specs.declared.Measures.{Measures}
 use Rattle.runs.specs.Stages.Views.{slotOf, firstExit, secondExit}
 use Rattle.requests.specs.declared.request.LineRequest.{LineRequest}
 use Rattle.requests.specs.Stages.Requests.{Lists, nothingAt, lineRequest, requestOf, FilledTo}
@@ -33,20 +34,20 @@ module _ (X : Lists) (e : ℕ) (K : Kind) where
   unfolding requestOf
   internal-request q a b p h = p ∙ ap (requestOf X e) (sym h)
 
-  pub line-request : (q : LineRequest) (a b ra rb : ℕ) → q ≡ lineRequest (X .sub) (X .unit) (X .buses) (X .blocks) (X .places) (X .frames) e a b ra rb → K ≡ Line a b
+  pub line-request : (q : LineRequest) (a b ra rb : ℕ) → q ≡ lineRequest (X .sub) (X .measures) (X .buses) (X .blocks) (X .places) (X .frames) e a b ra rb → K ≡ Line a b
       → ra ≡ getD (X .ends) (4 * e) 0 → rb ≡ getD (X .ends) (4 * e + 1) 0 → q ≡ requestOf X e K
   unfolding requestOf
   line-request q a b ra rb p h f g =
-      p ∙ ap (λ (z : ℕ). lineRequest (X .sub) (X .unit) (X .buses) (X .blocks) (X .places) (X .frames) e a b z rb) f
-      ∙ ap (λ (z : ℕ). lineRequest (X .sub) (X .unit) (X .buses) (X .blocks) (X .places) (X .frames) e a b (getD (X .ends) (4 * e) 0) z) g ∙ ap (requestOf X e) (sym h)
+      p ∙ ap (λ (z : ℕ). lineRequest (X .sub) (X .measures) (X .buses) (X .blocks) (X .places) (X .frames) e a b z rb) f
+      ∙ ap (λ (z : ℕ). lineRequest (X .sub) (X .measures) (X .buses) (X .blocks) (X .places) (X .frames) e a b (getD (X .ends) (4 * e) 0) z) g ∙ ap (requestOf X e) (sym h)
 
 -- what line e asks for, by its parts
-pub request-is : (sub : List ℕ) (unit : Float) (buses : List ℕ) (blocks places frames : List Float) (b i j ra rb s t : ℕ) (p q x y : Point)
-    → s ≡ stationOf sub i → t ≡ stationOf sub j → p ≡ slotOf unit buses blocks frames s i ra → q ≡ slotOf unit buses blocks frames t j rb
+pub request-is : (sub : List ℕ) (measures : Measures) (buses : List ℕ) (blocks places frames : List Float) (b i j ra rb s t : ℕ) (p q x y : Point)
+    → s ≡ stationOf sub i → t ≡ stationOf sub j → p ≡ slotOf measures buses blocks frames s i ra → q ≡ slotOf measures buses blocks frames t j rb
     → x ≡ firstExit (length sub) places b → y ≡ secondExit (length sub) places b
-    → record { e = b; sa = s; sb = t; «slot_a» = p; «slot_b» = q; «exit_a» = x; «exit_b» = y } ≡ lineRequest sub unit buses blocks places frames b i j ra rb
+    → record { e = b; sa = s; sb = t; «slot_a» = p; «slot_b» = q; «exit_a» = x; «exit_b» = y } ≡ lineRequest sub measures buses blocks places frames b i j ra rb
 unfolding lineRequest
-request-is sub unit buses blocks places frames b i j ra rb s t p q x y c d f g h k = cc
+request-is sub measures buses blocks places frames b i j ra rb s t p q x y c d f g h k = cc
 
 -- ---- a block of requests: after m of them
 pub none-below : (i : ℕ) → i < 0 → ⊥

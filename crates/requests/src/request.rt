@@ -12,6 +12,7 @@ use order::at;
 use runs::run::first_exit;
 use runs::run::second_exit;
 use runs::run::slot_of;
+use units::Measures;
 
 // What a line asks for: its branch, its two stations, and its slot and exit at each end. The two stations are one where the branch is no line.
 pub struct LineRequest {
@@ -43,7 +44,7 @@ fn nothing_at(e: usize) -> LineRequest
 // The request of line e between the buses a and b, whose ends have the rows ra and rb; its exits stand in `places`.
 fn line_request(
     sub: &[u32],
-    unit: f64,
+    measures: Measures,
     buses: &[u32],
     blocks: &[f64],
     places: &[f64],
@@ -55,12 +56,12 @@ fn line_request(
     rb: u32,
 ) -> LineRequest
     requires { ⌜ (e < 2 ^ 32) × (length (now sub) ≤ 2 ^ 32) × (a < 2 ^ 32) × (b < 2 ^ 32) ⌝ }
-    ensures { λ r. ⌜ r ≡ lineRequest (now (sub .entry)) unit (now (buses .entry)) (now (blocks .entry)) (now (places .entry)) (now (frames .entry)) e a b ra rb ⌝ }
+    ensures { λ r. ⌜ r ≡ lineRequest (now (sub .entry)) measures (now (buses .entry)) (now (blocks .entry)) (now (places .entry)) (now (frames .entry)) e a b ra rb ⌝ }
 {
     let sa = station_of(sub, a);
     let sb = station_of(sub, b);
-    let p = slot_of(unit, buses, blocks, frames, sa, a, ra);
-    let q = slot_of(unit, buses, blocks, frames, sb, b, rb);
+    let p = slot_of(measures, buses, blocks, frames, sa, a, ra);
+    let q = slot_of(measures, buses, blocks, frames, sb, b, rb);
     let x = first_exit(sub.len(), places, e);
     let y = second_exit(sub.len(), places, e);
     LineRequest {
@@ -80,7 +81,7 @@ fn request_of(
     from: &[i64],
     to: &[i64],
     service: &[u8],
-    unit: f64,
+    measures: Measures,
     buses: &[u32],
     ends: &[u32],
     blocks: &[f64],
@@ -89,7 +90,7 @@ fn request_of(
     e: usize,
 ) -> LineRequest
     requires { ⌜ (e < 2 ^ 32) × (length (now sub) ≤ 2 ^ 32) ⌝ }
-    ensures { λ r. ⌜ r ≡ requestOf (lists (now (sub .entry)) unit (now (buses .entry)) (now (ends .entry)) (now (blocks .entry)) (now (places .entry)) (now (frames .entry))) e (kindOf (now (sub .entry)) (now (from .entry)) (now (to .entry)) (now (service .entry)) e) ⌝ }
+    ensures { λ r. ⌜ r ≡ requestOf (lists (now (sub .entry)) measures (now (buses .entry)) (now (ends .entry)) (now (blocks .entry)) (now (places .entry)) (now (frames .entry))) e (kindOf (now (sub .entry)) (now (from .entry)) (now (to .entry)) (now (service .entry)) e) ⌝ }
 {
     let ra = at(ends, 4 * e);
     let rb = at(ends, 4 * e + 1);
@@ -97,7 +98,19 @@ fn request_of(
         Kind::Undrawn => nothing_at(e),
         Kind::Open(_, _) => nothing_at(e),
         Kind::Internal(_, _) => nothing_at(e),
-        Kind::Line(a, b) => line_request(sub, unit, buses, blocks, places, frames, e, a, b, ra, rb),
+        Kind::Line(a, b) => line_request(
+            sub,
+            measures,
+            buses,
+            blocks,
+            places,
+            frames,
+            e,
+            a,
+            b,
+            ra,
+            rb,
+        ),
     }
 }
 
@@ -107,7 +120,7 @@ pub fn requests_from(
     from: &[i64],
     to: &[i64],
     service: &[u8],
-    unit: f64,
+    measures: Measures,
     buses: &[u32],
     ends: &[u32],
     blocks: &[f64],
@@ -116,7 +129,7 @@ pub fn requests_from(
     start: usize,
 ) -> [LineRequest; 16]
     requires { ⌜ (start < 2 ^ 31) × (length (now sub) ≤ 2 ^ 32) ⌝ }
-    ensures { λ r. ⌜ FilledTo (lists (now (sub .entry)) unit (now (buses .entry)) (now (ends .entry)) (now (blocks .entry)) (now (places .entry)) (now (frames .entry))) (now (from .entry)) (now (to .entry)) (now (service .entry)) start 16 r ⌝ }
+    ensures { λ r. ⌜ FilledTo (lists (now (sub .entry)) measures (now (buses .entry)) (now (ends .entry)) (now (blocks .entry)) (now (places .entry)) (now (frames .entry))) (now (from .entry)) (now (to .entry)) (now (service .entry)) start 16 r ⌝ }
     ensures { λ r. ⌜ length r ≡ 16 ⌝ }
 {
     let mut list = [nothing_at(0); 16];
@@ -127,7 +140,7 @@ pub fn requests_from(
             from,
             to,
             service,
-            unit,
+            measures,
             buses,
             ends,
             blocks,

@@ -13,6 +13,7 @@ use Rattle.geometry.specs.declared.Box.{Box}
 use Rattle.geometry.specs.Plane.{boxAt}
 use Rattle.network.specs.Words.{stationOf}
 use Rattle.network.specs.Views.{boxesIn}
+use Rattle.units.specs.declared.Measures.{Measures}
 use Rattle.bars.specs.declared.Bar.{Bar}
 use Rattle.bars.specs.Bar.{position}
 use Rattle.runs.specs.Stages.Views.{barOf}
@@ -31,12 +32,12 @@ first : {A B : Type 0} (f : A → List B) (g : ℕ → A) (c : ℕ) (old : List 
 first f g c old e = rw e (written-none (flat f (table g 0)) old (flat-none f g))
 
 -- ---- buses
-module _ (sub : List ℕ) (unit : Float) (buses : List ℕ) (blocks frames : List Float) where
+module _ (sub : List ℕ) (measures : Measures) (buses : List ℕ) (blocks frames : List Float) where
   abbrev pub busBar : ℕ → Bar
-  busBar i = barOf unit buses blocks frames (stationOf sub i) i
+  busBar i = barOf measures buses blocks frames (stationOf sub i) i
 
-  pub bar-here : (s i : ℕ) (x : Bar) → s ≡ stationOf sub i → x ≡ barOf unit buses blocks frames s i → x ≡ busBar i
-  bar-here s i x e q = q ∙ ap (λ (t : ℕ). barOf unit buses blocks frames t i) e
+  pub bar-here : (s i : ℕ) (x : Bar) → s ≡ stationOf sub i → x ≡ barOf measures buses blocks frames s i → x ≡ busBar i
+  bar-here s i x e q = q ∙ ap (λ (t : ℕ). barOf measures buses blocks frames t i) e
 
   -- the positions and bars of the first i
   pub record Drawn (p₀ b₀ : List Float) (i : ℕ) (p b : List Float) : Type 0 where
@@ -47,7 +48,7 @@ module _ (sub : List ℕ) (unit : Float) (buses : List ℕ) (blocks frames : Lis
   drawn-none p b = record { points = first (λ b. pointNumbers (position b)) busBar 2 p refl; bars = first barNumbers busBar 4 b refl }
 
   pub drawn-more : (p₀ b₀ p b p' b' : List Float) (i s : ℕ) (x : Bar) (q : Point) → 2 * i + 2 ≤ length p₀ → 4 * i + 4 ≤ length b₀
-      → s ≡ stationOf sub i → x ≡ barOf unit buses blocks frames s i → q ≡ position x → p' ≡ set (set p (2 * i) (q .x)) (2 * i + 1) (q .y)
+      → s ≡ stationOf sub i → x ≡ barOf measures buses blocks frames s i → q ≡ position x → p' ≡ set (set p (2 * i) (q .x)) (2 * i + 1) (q .y)
       → b' ≡ set (set (set (set b (4 * i) (x .x)) (4 * i + 1) (x .y0)) (4 * i + 2) (x .x)) (4 * i + 3) (x .y1) → Drawn p₀ b₀ i p b → Drawn p₀ b₀ (i + 1) p' b'
   drawn-more p₀ b₀ p b p' b' i s x q h k e f g u v d =
       let z : x ≡ busBar i = bar-here s i x e f in

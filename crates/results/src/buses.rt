@@ -13,12 +13,13 @@ use float::small::is_finite;
 use network::seed::put_point;
 use network::words::station_of;
 use runs::run::bar_of;
+use units::Measures;
 
 // The buses' positions and bars, unless the layout was refused with l.
 pub fn write_buses(
     l: u32,
     sub: &[u32],
-    unit: f64,
+    measures: Measures,
     buses: &[u32],
     blocks: &[f64],
     frames: &[f64],
@@ -26,15 +27,15 @@ pub fn write_buses(
     bars: &mut [f64],
 )
     requires { ⌜ (length (now sub) ≤ 4096) × (2 * length (now sub) ≤ length (now positions)) × (4 * length (now sub) ≤ length (now bars)) ⌝ }
-    ensures { λ _. ⌜ now (positions .exit) ≡ after l (flat (λ b. pointNumbers (position b)) (barsIn (now (sub .entry)) unit (now (buses .entry)) (now (blocks .entry)) (now (frames .entry)))) (now (positions .entry)) ⌝ }
-    ensures { λ _. ⌜ now (bars .exit) ≡ after l (flat barNumbers (barsIn (now (sub .entry)) unit (now (buses .entry)) (now (blocks .entry)) (now (frames .entry)))) (now (bars .entry)) ⌝ }
+    ensures { λ _. ⌜ now (positions .exit) ≡ after l (flat (λ b. pointNumbers (position b)) (barsIn (now (sub .entry)) measures (now (buses .entry)) (now (blocks .entry)) (now (frames .entry)))) (now (positions .entry)) ⌝ }
+    ensures { λ _. ⌜ now (bars .exit) ≡ after l (flat barNumbers (barsIn (now (sub .entry)) measures (now (buses .entry)) (now (blocks .entry)) (now (frames .entry)))) (now (bars .entry)) ⌝ }
 {
     if l != 0 {
         return;
     }
     let mut i = 0;
     while i < sub.len() {
-        let bar = bar_of(unit, buses, blocks, frames, station_of(sub, i), i);
+        let bar = bar_of(measures, buses, blocks, frames, station_of(sub, i), i);
         put_point(positions, i, position(bar));
         put_numbers(bars, i, bar.x, bar.y0, bar.x, bar.y1);
         i += 1;
@@ -54,13 +55,19 @@ fn finite_bar(b: Bar) -> bool
 }
 
 // Whether all bars are.
-pub fn finite_bars(sub: &[u32], unit: f64, buses: &[u32], blocks: &[f64], frames: &[f64]) -> bool
+pub fn finite_bars(
+    sub: &[u32],
+    measures: Measures,
+    buses: &[u32],
+    blocks: &[f64],
+    frames: &[f64],
+) -> bool
     requires { ⌜ length (now sub) ≤ 4096 ⌝ }
-    ensures { λ r. ⌜ r ≡ allOf finiteBar (barsIn (now (sub .entry)) unit (now (buses .entry)) (now (blocks .entry)) (now (frames .entry))) ⌝ }
+    ensures { λ r. ⌜ r ≡ allOf finiteBar (barsIn (now (sub .entry)) measures (now (buses .entry)) (now (blocks .entry)) (now (frames .entry))) ⌝ }
 {
     let mut i = 0;
     while i < sub.len() {
-        if finite_bar(bar_of(unit, buses, blocks, frames, station_of(sub, i), i)) {
+        if finite_bar(bar_of(measures, buses, blocks, frames, station_of(sub, i), i)) {
             i += 1;
         } else {
             return false;

@@ -13,6 +13,7 @@ use Rattle.order.specs.Table.{table, strided}
 use Rattle.order.proofs.Tables.{table-ext}
 use Rattle.network.specs.Views.{pointsIn, fromRowsIn, toRowsIn}
 use Rattle.network.specs.Refusal.{everyFinite}
+use Rattle.units.specs.declared.Measures.{Measures}
 use Rattle.runs.specs.Finite.{allOf}
 use Rattle.crossings.specs.Route.{Scene, Routing, Crossing, pointOf, roundsTo, routing}
 use Rattle.crossings.specs.Stages.Views.{grid, sceneIn, Stored}
@@ -46,12 +47,12 @@ every-all (suc c) l h =
 
 -- ---- the steps together
 
-module _ (sub : List ℕ) (from to : List ℤ) (service : List ℕ) (unit : Float) (ends : List ℕ) (blocks places frames : List Float) (k c : ℕ) (stations : List ℕ) (centres : List Float)
+module _ (sub : List ℕ) (from to : List ℤ) (service : List ℕ) (measures : Measures) (ends : List ℕ) (blocks places frames : List Float) (k c : ℕ) (stations : List ℕ) (centres : List Float)
     (corners twins numbers : List ℕ) (along : List Float) (channels crossings : ℕ)
-    (entered : Entered (grid sub from to service unit ends blocks places frames) k c stations centres corners twins numbers along channels crossings)
+    (entered : Entered (grid sub from to service measures ends blocks places frames) k c stations centres corners twins numbers along channels crossings)
     (ends′ numbers′ : List ℕ) (centres′ : List Float) (grouped : Grouped (length from) channels crossings ends numbers ends′ numbers′) where
   abbrev S′ : Scene
-  S′ = sceneIn (grid sub from to service unit ends blocks places frames) k c stations centres corners twins
+  S′ = sceneIn (grid sub from to service measures ends blocks places frames) k c stations centres corners twins
 
   abbrev R′ : Routing
   R′ = routing S′
@@ -66,14 +67,14 @@ module _ (sub : List ℕ) (from to : List ℤ) (service : List ℕ) (unit : Floa
 
   pub cornered-all : (d : ℕ) → d < channels → Cornered frames stations corners c (edgeIn (length from) ends′ d)
   cornered-all d h =
-      cornered sub from to service unit ends blocks places frames k c stations centres corners twins numbers along ends′ numbers′ centres′ (entered .mesh) (entered .exits) (entered .boxes) (entered .occupied) (entered .stored) grouped-all d
+      cornered sub from to service measures ends blocks places frames k c stations centres corners twins numbers along ends′ numbers′ centres′ (entered .mesh) (entered .exits) (entered .boxes) (entered .occupied) (entered .stored) grouped-all d
       (subst (λ (t : ℕ). d < t) (entered .channels-are) h)
 
   pub ready-all : Ready H′ channels crossings
   ready-all =
       subst (λ (t : ℕ). Ready H′ t crossings) (sym (entered .channels-are))
       (subst (λ (t : ℕ). Ready H′ (length (R′ .channels)) t) (sym (entered .crossings-are))
-      (ready sub from to service unit ends blocks places frames k c stations centres corners twins numbers along ends′ numbers′ centres′ (entered .mesh) (entered .exits) (entered .boxes) (entered .occupied) (entered .stored) grouped-all))
+      (ready sub from to service measures ends blocks places frames k c stations centres corners twins numbers along ends′ numbers′ centres′ (entered .mesh) (entered .exits) (entered .boxes) (entered .occupied) (entered .stored) grouped-all))
 
   long : crossings ≤ length along
   long =
@@ -85,11 +86,11 @@ module _ (sub : List ℕ) (from to : List ℤ) (service : List ℕ) (unit : Floa
   unfolding roundsTo
   started = entered .stored .placed
 
-  module _ (ranged : Ranged unit blocks frames stations corners (length from) ends′ c channels centres centres′) (n : ℕ) (l : List Float) (h : l ≡ roundsIn c H′ channels n along) where
+  module _ (ranged : Ranged (measures .unit) blocks frames stations corners (length from) ends′ c channels centres centres′) (n : ℕ) (l : List Float) (h : l ≡ roundsIn c H′ channels n along) where
     meaning : Means S′ R′ c H′
     meaning =
-        means sub from to service unit ends blocks places frames k c stations centres corners twins numbers along ends′ numbers′ centres′ (entered .mesh) (entered .exits) (entered .boxes) (entered .occupied) (entered .stored) grouped-all
-        (subst (λ (t : ℕ). Ranged unit blocks frames stations corners (length from) ends′ c t centres centres′) (entered .channels-are) ranged)
+        means sub from to service measures ends blocks places frames k c stations centres corners twins numbers along ends′ numbers′ centres′ (entered .mesh) (entered .exits) (entered .boxes) (entered .occupied) (entered .stored) grouped-all
+        (subst (λ (t : ℕ). Ranged (measures .unit) blocks frames stations corners (length from) ends′ c t centres centres′) (entered .channels-are) ranged)
 
     places-are : take (length (R′ .crossings)) l ≡ roundsTo S′ R′ n
     places-are = ap (take (length (R′ .crossings))) (h ∙ ap (λ (t : ℕ). roundsIn c H′ t n along) (entered .channels-are)) ∙ rounds-are S′ R′ c H′ meaning n along started

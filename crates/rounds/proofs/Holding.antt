@@ -22,6 +22,7 @@ use Rattle.mesh.specs.Mesh.{next, endAt, lowAt, highAt, meshOk}
 use Rattle.mesh.proofs.Meshes.{Sound, mesh-sound, next-in}
 use Rattle.network.specs.Views.{boxesIn}
 use Rattle.network.proofs.Views.{getD-boxes}
+use Rattle.units.specs.declared.Measures.{Measures}
 use Rattle.placement.specs.Place.{boxIn, noBox}
 use Rattle.crossings.specs.Route as Route
 use Rattle.crossings.specs.Route.{Scene, Routing, Keyed, Crossing, Path, noChannel, noCrossing, noPath, routing, makeChannel, crossingAt, channelAt, pathAt, centreAt, stationAt, members}
@@ -38,10 +39,10 @@ use Rattle.rounds.proofs.Meaning.{Means}
 column : {A : Type 0} (f : A → ℕ) (d : A) (c o k : ℕ) (l : List ℕ) (bs : List A) → strided c o 0 k l ≡ map f bs → (i : ℕ) → i < k → getD l (c * i + o) 0 ≡ getD (map f bs) i 0
 column f d c o k l bs e i h = sym (getD-strided c o 0 k i l 0 h) ∙ ap (λ (t : List ℕ). getD t i 0) e
 
-module _ (sub : List ℕ) (from to : List ℤ) (service : List ℕ) (unit : Float) (ends : List ℕ) (blocks places frames : List Float) (k c : ℕ) (stations : List ℕ) (centres : List Float)
+module _ (sub : List ℕ) (from to : List ℤ) (service : List ℕ) (measures : Measures) (ends : List ℕ) (blocks places frames : List Float) (k c : ℕ) (stations : List ℕ) (centres : List Float)
     (corners twins numbers : List ℕ) (along : List Float) (ends′ numbers′ : List ℕ) (centres′ : List Float) where
   abbrev pub G : Grid
-  G = grid sub from to service unit ends blocks places frames
+  G = grid sub from to service measures ends blocks places frames
 
   abbrev pub S : Scene
   S = sceneIn G k c stations centres corners twins
@@ -179,11 +180,11 @@ module _ (sub : List ℕ) (from to : List ℤ) (service : List ℕ) (unit : Floa
       range-by : (a b : ℕ) → a ≡ channelAt S R d .low → b ≡ channelAt S R d .high → makeChannel S a b .range ≡ channelAt S R d .range
       range-by a b p q = rw (p, q) (ap (λ (t : Keyed). t .range) (sym (all .made .each d g)))
 
-      gap-is : gapOf unit ≡ S .gap
+      gap-is : gapOf (measures .unit) ≡ S .gap
       unfolding sceneIn
       gap-is = refl
 
-      range-is : rangeIn unit blocks frames stations centres corners h ≡ channelAt S R d .range
+      range-is : rangeIn (measures .unit) blocks frames stations centres corners h ≡ channelAt S R d .range
       unfolding rangeIn makeChannel
       range-is =
           let l = corner-is (lowAt corners h) (lowAt corners h) low-below refl in
@@ -205,7 +206,7 @@ module _ (sub : List ℕ) (from to : List ℤ) (service : List ℕ) (unit : Floa
           }
 
     -- ---- together
-    module _ (ranged : Ranged unit blocks frames stations corners (length from) ends′ c (length (R .channels)) centres centres′) where
+    module _ (ranged : Ranged (measures .unit) blocks frames stations corners (length from) ends′ c (length (R .channels)) centres centres′) where
       pub means : Means S R c H
       means =
           record {

@@ -25,6 +25,7 @@ use Rattle.network.specs.Words.{kindOf}
 use Rattle.network.specs.Refusal.{refuse}
 use Rattle.network.specs.Views.{fromRowsIn, toRowsIn, pointsIn, orderIn}
 use Rattle.detour.specs.Stages.Paths.{pathIn}
+use Rattle.units.specs.declared.Measures.{Measures}
 use Rattle.runs.specs.Finite.{allOf}
 use Rattle.runs.specs.Stages.Views.{wayOf, wayCount}
 use Rattle.crossings.specs.Route as Route
@@ -144,14 +145,14 @@ module _ (S : Scene) (m : ℕ) (corners before behind : List ℕ) (iterations ro
 
 -- ---- the lines of a scene, by rows alone
 
-module _ (sub : List ℕ) (from to : List ℤ) (service : List ℕ) (unit : Float) (blocks places frames : List Float) (before behind : List ℕ) where
+module _ (sub : List ℕ) (from to : List ℤ) (service : List ℕ) (measures : Measures) (blocks places frames : List Float) (before behind : List ℕ) where
   abbrev with : List ℕ → Grid
-  with ends = grid sub from to service unit ends blocks places frames
+  with ends = grid sub from to service measures ends blocks places frames
 
   module _ (rows : SameRows (length from) before behind) where
     lines-same : linesIn (with behind) ≡ linesIn (with before)
     unfolding linesIn
-    lines-same = table-ext (lineIn (with behind)) (lineIn (with before)) (length from) (line-same sub from to service unit blocks places frames before behind (rows .from) (rows .to))
+    lines-same = table-ext (lineIn (with behind)) (lineIn (with before)) (length from) (line-same sub from to service measures blocks places frames before behind (rows .from) (rows .to))
 
     scene-same : (k c : ℕ) (stations : List ℕ) (centres : List Float) (corners twins : List ℕ) → sceneIn (with behind) k c stations centres corners twins ≡ sceneIn (with before) k c stations centres corners twins
     unfolding sceneIn
@@ -170,12 +171,12 @@ scene-corners G k c stations centres corners twins = refl
 pub mesh-room : (corners twins : List ℕ) (n : ℕ) → meshOk corners twins n ≡ true → (length corners ≤ 24576) × (min (length corners) 24576 ≡ length corners)
 mesh-room corners twins n ok = let h = mesh-sound corners twins n ok .most in (h, min-eq-left h)
 
-module _ (sub : List ℕ) (from to : List ℤ) (service : List ℕ) (unit : Float) (blocks places frames : List Float) (k c : ℕ) (stations : List ℕ) (centres : List Float) (corners twins : List ℕ)
+module _ (sub : List ℕ) (from to : List ℤ) (service : List ℕ) (measures : Measures) (blocks places frames : List Float) (k c : ℕ) (stations : List ℕ) (centres : List Float) (corners twins : List ℕ)
     (room : ℕ) (before ends numbers : List ℕ) (along : List Float) (r : Routed)
     (ok : meshOk corners twins c ≡ true)
     (traced : Traced (λ k G. sceneIn (lined sub from to service G) k c stations centres corners twins) (length from) corners room before r ends numbers along) where
   abbrev gridOf : List ℕ → Grid
-  gridOf l = grid sub from to service unit l blocks places frames
+  gridOf l = grid sub from to service measures l blocks places frames
 
   abbrev sceneOf : List ℕ → Scene
   sceneOf l = sceneIn (gridOf l) k c stations centres corners twins
@@ -189,7 +190,7 @@ module _ (sub : List ℕ) (from to : List ℤ) (service : List ℕ) (unit : Floa
     entered E =
         record {
           mesh = ok;
-          exits = exited-rows sub from to service unit blocks places frames before ends (traced .rows .from) (traced .rows .to) E;
+          exits = exited-rows sub from to service measures blocks places frames before ends (traced .rows .from) (traced .rows .to) E;
           boxes = boxes;
           occupied = occupied;
           channels-are = traced .channels left k (gridOf ends);
@@ -263,5 +264,5 @@ module _ (sub : List ℕ) (from to : List ℤ) (service : List ℕ) (unit : Floa
       pub led-all : Led (sceneOf before) (length from) corners before (meshOk corners twins c) iterations room 0 finite behind ways
       led-all =
           subst (λ (s : Scene). Led s (length from) corners before (meshOk corners twins c) iterations room 0 finite behind ways)
-          (scene-same sub from to service unit blocks places frames before ends (traced .rows) k c stations centres corners twins)
+          (scene-same sub from to service measures blocks places frames before ends (traced .rows) k c stations centres corners twins)
           (subst (λ (b : Bool). Led S (length from) corners before b iterations room 0 finite behind ways) (sym ok) led-own)

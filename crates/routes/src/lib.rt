@@ -16,6 +16,7 @@ use mesh::mesh_ok;
 use rounds::space_all_rounds;
 use routing::routes::clear_paths;
 use routing::routes::trace_all;
+use units::Measures;
 
 // A late refusal, 9 or 10, else 0, and whether all crossing places are finite.
 pub struct Found {
@@ -43,7 +44,7 @@ fn route_used(
     service: &[u8],
     corners: &[u32],
     twins: &[u32],
-    unit: f64,
+    measures: Measures,
     k: usize,
     c: usize,
     stations: &[u32],
@@ -59,12 +60,12 @@ fn route_used(
     along: &mut [f64],
     ways: &mut [f64],
 ) -> Found
-    requires { ⌜ (length (now from) ≤ 8192) × (c ≤ 4096) × (4 * k ≤ length (now frames)) × (2 * c + 3 * min (length (now corners)) 24576 ≤ length (now path)) × (length (now sub) ≤ 4096) × Exited (grid (now sub) (now from) (now to) (now service) unit (now ends) (now blocks) (now places) (now frames)) ⌝ }
+    requires { ⌜ (length (now from) ≤ 8192) × (c ≤ 4096) × (4 * k ≤ length (now frames)) × (2 * c + 3 * min (length (now corners)) 24576 ≤ length (now path)) × (length (now sub) ≤ 4096) × Exited (grid (now sub) (now from) (now to) (now service) measures (now ends) (now blocks) (now places) (now frames)) ⌝ }
     requires { ⌜ (3 * room ≤ length (now numbers)) × (room ≤ length (now along)) × (2 * room ≤ length (now ways)) × (room ≤ length (now sorted)) × (room ≤ length (now spare)) × (room ≤ length (now keys)) ⌝ }
     requires { ⌜ (4 * length (now from) + 4 * min (length (now corners)) 24576 + 4 ≤ length (now ends)) × (min (length (now corners)) 24576 ≤ length (now sorted)) × (min (length (now corners)) 24576 ≤ length (now spare)) × (min (length (now corners)) 24576 ≤ length (now keys)) ⌝ }
     requires { ⌜ Rising (orderIn c (now stations)) ⌝ }
     requires { ⌜ ((v : ℕ) → v < c → stationIn (now stations) v < k) ⌝ }
-    ensures { λ r. ⌜ Led (sceneIn (grid (now (sub .entry)) (now (from .entry)) (now (to .entry)) (now (service .entry)) unit (now (ends .entry)) (now (blocks .entry)) (now (places .entry)) (now (frames .entry))) k c (now (stations .entry)) (now (path .entry)) (now (corners .entry)) (now (twins .entry))) (length (now (from .entry))) (now (corners .entry)) (now (ends .entry)) (meshOk (now (corners .entry)) (now (twins .entry)) c) iterations room (r .late) (r .finite) (now (ends .exit)) (now (ways .exit)) ⌝ }
+    ensures { λ r. ⌜ Led (sceneIn (grid (now (sub .entry)) (now (from .entry)) (now (to .entry)) (now (service .entry)) measures (now (ends .entry)) (now (blocks .entry)) (now (places .entry)) (now (frames .entry))) k c (now (stations .entry)) (now (path .entry)) (now (corners .entry)) (now (twins .entry))) (length (now (from .entry))) (now (corners .entry)) (now (ends .entry)) (meshOk (now (corners .entry)) (now (twins .entry)) c) iterations room (r .late) (r .finite) (now (ends .exit)) (now (ways .exit)) ⌝ }
 {
     if !mesh_ok(corners, twins, c) {
         return Found {
@@ -101,7 +102,7 @@ fn route_used(
         from,
         to,
         service,
-        unit,
+        measures,
         ends,
         blocks,
         places,
@@ -135,7 +136,7 @@ pub fn route_lines(
     service: &[u8],
     corners: &[u32],
     twins: &[u32],
-    unit: f64,
+    measures: Measures,
     k: usize,
     stations: &mut [u32],
     ends: &mut [u32],
@@ -150,10 +151,10 @@ pub fn route_lines(
     along: &mut [f64],
     ways: &mut [f64],
 ) -> Found
-    requires { ⌜ (length (now from) ≤ 8192) × (k ≤ 4096) × (2 * k ≤ length (now stations)) × (2 * k ≤ length (now places)) × (4 * k ≤ length (now frames)) × (2 * k + 3 * min (length (now corners)) 24576 ≤ length (now path)) × (length (now sub) ≤ 4096) × Exited (grid (now sub) (now from) (now to) (now service) unit (now ends) (now blocks) (now places) (now frames)) ⌝ }
+    requires { ⌜ (length (now from) ≤ 8192) × (k ≤ 4096) × (2 * k ≤ length (now stations)) × (2 * k ≤ length (now places)) × (4 * k ≤ length (now frames)) × (2 * k + 3 * min (length (now corners)) 24576 ≤ length (now path)) × (length (now sub) ≤ 4096) × Exited (grid (now sub) (now from) (now to) (now service) measures (now ends) (now blocks) (now places) (now frames)) ⌝ }
     requires { ⌜ (3 * room ≤ length (now numbers)) × (room ≤ length (now along)) × (2 * room ≤ length (now ways)) × (room ≤ length (now sorted)) × (room ≤ length (now spare)) × (room ≤ length (now keys)) ⌝ }
     requires { ⌜ (4 * length (now from) + 4 * min (length (now corners)) 24576 + 4 ≤ length (now ends)) × (min (length (now corners)) 24576 ≤ length (now sorted)) × (min (length (now corners)) 24576 ≤ length (now spare)) × (min (length (now corners)) 24576 ≤ length (now keys)) ⌝ }
-    ensures { λ r. ⌜ Routes (grid (now (sub .entry)) (now (from .entry)) (now (to .entry)) (now (service .entry)) unit (now (ends .entry)) (now (blocks .entry)) (now (places .entry)) (now (frames .entry))) k (now (stations .entry)) (now (corners .entry)) (now (twins .entry)) iterations room (r .late) (r .finite) (now (stations .exit)) (now (ends .exit)) (now (ways .exit)) ⌝ }
+    ensures { λ r. ⌜ Routes (grid (now (sub .entry)) (now (from .entry)) (now (to .entry)) (now (service .entry)) measures (now (ends .entry)) (now (blocks .entry)) (now (places .entry)) (now (frames .entry))) k (now (stations .entry)) (now (corners .entry)) (now (twins .entry)) iterations room (r .late) (r .finite) (now (stations .exit)) (now (ends .exit)) (now (ways .exit)) ⌝ }
 {
     let c = occupied_corners(k, stations, places, path);
     if !mesh_used(c, iterations) {
@@ -172,7 +173,7 @@ pub fn route_lines(
         service,
         corners,
         twins,
-        unit,
+        measures,
         k,
         c,
         stations,

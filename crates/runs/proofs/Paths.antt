@@ -21,6 +21,7 @@ use Rattle.detour.proofs.Shifting.{point-before, path-zero, path-more, path-con
 use Rattle.detour.proofs.Detours.{length-detour, led-short}
 use Rattle.network.specs.declared.words.Kind.{Kind}
 use Rattle.network.specs.declared.words.Kind.the-variants.{Undrawn, Open, Internal, Line}
+use Rattle.units.specs.declared.Measures.{Measures}
 use Rattle.runs.specs.Run.{isLine}
 use Rattle.runs.specs.Stages.Views.{Lead, Held, openFrom, internalFrom, ledIn, ledRun, lineFrom, runFrom, wayOf, wayCount, runIn, otherRun, Ran}
 
@@ -146,27 +147,27 @@ module _ (led : Bool) (cell gap : Float) (k : ℕ) (stations : List ℕ) (frames
 
 -- ---- the run of a branch, by what it is
 
-module _ (sub : List ℕ) (unit : Float) (buses ends : List ℕ) (blocks frames : List Float) (e : ℕ) (K : Kind) where
-  pub none-run : K ≡ Undrawn → [] ≡ otherRun sub unit buses ends blocks frames e K
+module _ (sub : List ℕ) (measures : Measures) (buses ends : List ℕ) (blocks frames : List Float) (e : ℕ) (K : Kind) where
+  pub none-run : K ≡ Undrawn → [] ≡ otherRun sub measures buses ends blocks frames e K
   unfolding otherRun
-  none-run h = subst (λ (z : Kind). [] ≡ otherRun sub unit buses ends blocks frames e z) (sym h) refl
+  none-run h = subst (λ (z : Kind). [] ≡ otherRun sub measures buses ends blocks frames e z) (sym h) refl
 
-  pub no-line-run : (a b : ℕ) → K ≡ Line a b → [] ≡ otherRun sub unit buses ends blocks frames e K
+  pub no-line-run : (a b : ℕ) → K ≡ Line a b → [] ≡ otherRun sub measures buses ends blocks frames e K
   unfolding otherRun
-  no-line-run a b h = subst (λ (z : Kind). [] ≡ otherRun sub unit buses ends blocks frames e z) (sym h) refl
+  no-line-run a b h = subst (λ (z : Kind). [] ≡ otherRun sub measures buses ends blocks frames e z) (sym h) refl
 
-  pub open-run : (a b : ℕ) → K ≡ Open a b → openFrom sub unit buses blocks frames a b ≡ otherRun sub unit buses ends blocks frames e K
+  pub open-run : (a b : ℕ) → K ≡ Open a b → openFrom sub measures buses blocks frames a b ≡ otherRun sub measures buses ends blocks frames e K
   unfolding otherRun
-  open-run a b h = subst (λ (z : Kind). openFrom sub unit buses blocks frames a b ≡ otherRun sub unit buses ends blocks frames e z) (sym h) refl
+  open-run a b h = subst (λ (z : Kind). openFrom sub measures buses blocks frames a b ≡ otherRun sub measures buses ends blocks frames e z) (sym h) refl
 
   pub internal-run : (a b ra rb : ℕ) → K ≡ Internal a b → ra ≡ getD ends (4 * e) 0 → rb ≡ getD ends (4 * e + 1) 0
-      → internalFrom sub unit buses blocks frames a b ra rb ≡ otherRun sub unit buses ends blocks frames e K
+      → internalFrom sub measures buses blocks frames a b ra rb ≡ otherRun sub measures buses ends blocks frames e K
   unfolding otherRun
   internal-run a b ra rb h p q =
-      subst (λ (z : Kind). internalFrom sub unit buses blocks frames a b ra rb ≡ otherRun sub unit buses ends blocks frames e z) (sym h) (cc (p, q))
+      subst (λ (z : Kind). internalFrom sub measures buses blocks frames a b ra rb ≡ otherRun sub measures buses ends blocks frames e z) (sym h) (cc (p, q))
 
 -- the runs of all branches that are no lines
-pub other-is : (H : Held) (e : ℕ) (K : Kind) → otherRun (H .sub) (H .unit) (H .buses) (H .ends) (H .blocks) (H .frames) e K ≡ pick (isLine K) [] (runIn H e K)
+pub other-is : (H : Held) (e : ℕ) (K : Kind) → otherRun (H .sub) (H .measures) (H .buses) (H .ends) (H .blocks) (H .frames) e K ≡ pick (isLine K) [] (runIn H e K)
 unfolding otherRun isLine runIn runFrom
 other-is H e Undrawn = refl
 other-is H e (Open a b) = refl

@@ -11,6 +11,7 @@ use Rattle.order.specs.Order.{pick}
 use Rattle.order.specs.Table.{table, joined}
 use Rattle.geometry.specs.declared.Point.{Point}
 use Rattle.geometry.specs.declared.Box.{Box}
+use Rattle.network.specs.declared.options.Gaps.{Gaps}
 use Rattle.network.specs.declared.words.Kind.{Kind}
 use Rattle.network.specs.declared.words.Kind.the-variants.{Undrawn, Open, Internal, Line}
 use Rattle.network.specs.Words.{kindAt, stationOf}
@@ -20,13 +21,14 @@ use Rattle.bars.specs.declared.Bar.{Bar}
 use Rattle.bars.specs.Bar.{barAt, position, rowEnd}
 use Rattle.bars.specs.Exit.{exit}
 
--- What runs are drawn from: the buses' stations, the branches with the rows of their ends, the stations' blocks, boxes and places, the buses' bars;
+-- What runs are drawn from: the buses' stations, the branches with the rows of their ends, the gaps, the stations' blocks, boxes and places, the buses' bars;
 -- whether there are iterations, the occupied stations, the gap to keep from boxes, and each branch's waypoints.
 pub record Scene : Type 0 where
   pub sub : List ℕ
   pub kinds : List Kind
   pub fromRows : List ℕ
   pub toRows : List ℕ
+  pub gaps : Gaps
   pub blocks : List Float
   pub boxes : List Box
   pub places : List Point
@@ -38,7 +40,7 @@ pub record Scene : Type 0 where
 
 -- the row end of bus i
 unfoldable pub slot : Scene → ℕ → ℕ → Point
-slot S i row = rowEnd (S .sub) (S .blocks) (S .boxes) (S .bars) i row
+slot S i row = rowEnd (S .gaps) (S .sub) (S .blocks) (S .boxes) (S .bars) i row
 
 -- the path between the slots of a line from station s to station t, led round boxes where there are iterations
 unfoldable pub ledPath : Scene → ℕ → ℕ → List Point → List Point

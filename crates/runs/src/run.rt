@@ -22,6 +22,7 @@ use network::words::Kind;
 use network::words::kind_of;
 use network::words::station_of;
 use order::at;
+use units::Measures;
 
 // The box s of a list of four numbers each.
 pub fn box_at(list: &[f64], s: usize) -> Box
@@ -45,13 +46,21 @@ fn block_of(unit: f64, blocks: &[f64], s: usize) -> f64
 }
 
 // The bar of bus i of station s.
-pub fn bar_of(unit: f64, buses: &[u32], blocks: &[f64], frames: &[f64], s: usize, i: usize) -> Bar
+pub fn bar_of(
+    measures: Measures,
+    buses: &[u32],
+    blocks: &[f64],
+    frames: &[f64],
+    s: usize,
+    i: usize,
+) -> Bar
     requires { ⌜ (s < 2 ^ 32) × (i < 2 ^ 32) ⌝ }
-    ensures { λ r. ⌜ r ≡ barOf unit (now (buses .entry)) (now (blocks .entry)) (now (frames .entry)) s i ⌝ }
+    ensures { λ r. ⌜ r ≡ barOf measures (now (buses .entry)) (now (blocks .entry)) (now (frames .entry)) s i ⌝ }
 {
     bar_for(
+        measures.gaps,
         box_at(frames, s),
-        block_of(unit, blocks, s),
+        block_of(measures.unit, blocks, s),
         at(buses, 3 * i),
         at(buses, 3 * i + 1),
         at(buses, 3 * i + 2),
@@ -60,7 +69,7 @@ pub fn bar_of(unit: f64, buses: &[u32], blocks: &[f64], frames: &[f64], s: usize
 
 // The row end of bus i of station s.
 pub fn slot_of(
-    unit: f64,
+    measures: Measures,
     buses: &[u32],
     blocks: &[f64],
     frames: &[f64],
@@ -69,12 +78,17 @@ pub fn slot_of(
     row: u32,
 ) -> Point
     requires { ⌜ (s < 2 ^ 32) × (i < 2 ^ 32) ⌝ }
-    ensures { λ r. ⌜ r ≡ slotOf unit (now (buses .entry)) (now (blocks .entry)) (now (frames .entry)) s i row ⌝ }
+    ensures { λ r. ⌜ r ≡ slotOf measures (now (buses .entry)) (now (blocks .entry)) (now (frames .entry)) s i row ⌝ }
 {
-    let bar = bar_of(unit, buses, blocks, frames, s, i);
+    let bar = bar_of(measures, buses, blocks, frames, s, i);
     Point {
         x: bar.x,
-        y: row_y(box_at(frames, s), block_of(unit, blocks, s), row),
+        y: row_y(
+            measures.gaps,
+            box_at(frames, s),
+            block_of(measures.unit, blocks, s),
+            row,
+        ),
     }
 }
 
@@ -135,7 +149,7 @@ fn put_two(path: &mut [f64], p: Point, q: Point) -> usize
 // The run of an open branch between the buses a and b.
 fn run_open(
     sub: &[u32],
-    unit: f64,
+    measures: Measures,
     buses: &[u32],
     blocks: &[f64],
     frames: &[f64],
@@ -144,17 +158,17 @@ fn run_open(
     path: &mut [f64],
 ) -> usize
     requires { ⌜ (a < 2 ^ 32) × (b < 2 ^ 32) × (8 ≤ length (now path)) ⌝ }
-    ensures { λ r. ⌜ Ran r (now (path .exit)) (openFrom (now (sub .entry)) unit (now (buses .entry)) (now (blocks .entry)) (now (frames .entry)) a b) ⌝ }
+    ensures { λ r. ⌜ Ran r (now (path .exit)) (openFrom (now (sub .entry)) measures (now (buses .entry)) (now (blocks .entry)) (now (frames .entry)) a b) ⌝ }
 {
-    let p = bar_of(unit, buses, blocks, frames, station_of(sub, a), a);
-    let q = bar_of(unit, buses, blocks, frames, station_of(sub, b), b);
+    let p = bar_of(measures, buses, blocks, frames, station_of(sub, a), a);
+    let q = bar_of(measures, buses, blocks, frames, station_of(sub, b), b);
     put_two(path, position(p), position(q))
 }
 
 // The run of an internal branch between the buses a and b, whose ends have the rows ra and rb.
 fn run_internal(
     sub: &[u32],
-    unit: f64,
+    measures: Measures,
     buses: &[u32],
     blocks: &[f64],
     frames: &[f64],
@@ -165,10 +179,10 @@ fn run_internal(
     path: &mut [f64],
 ) -> usize
     requires { ⌜ (a < 2 ^ 32) × (b < 2 ^ 32) × (8 ≤ length (now path)) ⌝ }
-    ensures { λ r. ⌜ Ran r (now (path .exit)) (internalFrom (now (sub .entry)) unit (now (buses .entry)) (now (blocks .entry)) (now (frames .entry)) a b ra rb) ⌝ }
+    ensures { λ r. ⌜ Ran r (now (path .exit)) (internalFrom (now (sub .entry)) measures (now (buses .entry)) (now (blocks .entry)) (now (frames .entry)) a b ra rb) ⌝ }
 {
-    let p = slot_of(unit, buses, blocks, frames, station_of(sub, a), a, ra);
-    let q = slot_of(unit, buses, blocks, frames, station_of(sub, b), b, rb);
+    let p = slot_of(measures, buses, blocks, frames, station_of(sub, a), a, ra);
+    let q = slot_of(measures, buses, blocks, frames, station_of(sub, b), b, rb);
     put_two(path, p, q)
 }
 
@@ -276,7 +290,7 @@ pub fn run(
     from: &[i64],
     to: &[i64],
     service: &[u8],
-    unit: f64,
+    measures: Measures,
     buses: &[u32],
     ends: &[u32],
     blocks: &[f64],
@@ -285,14 +299,25 @@ pub fn run(
     path: &mut [f64],
 ) -> usize
     requires { ⌜ (e < 2 ^ 32) × (length (now sub) ≤ 2 ^ 32) × (8 ≤ length (now path)) ⌝ }
-    ensures { λ r. ⌜ Ran r (now (path .exit)) (otherRun (now (sub .entry)) unit (now (buses .entry)) (now (ends .entry)) (now (blocks .entry)) (now (frames .entry)) e (kindOf (now (sub .entry)) (now (from .entry)) (now (to .entry)) (now (service .entry)) e)) ⌝ }
+    ensures { λ r. ⌜ Ran r (now (path .exit)) (otherRun (now (sub .entry)) measures (now (buses .entry)) (now (ends .entry)) (now (blocks .entry)) (now (frames .entry)) e (kindOf (now (sub .entry)) (now (from .entry)) (now (to .entry)) (now (service .entry)) e)) ⌝ }
 {
     let ra = at(ends, 4 * e);
     let rb = at(ends, 4 * e + 1);
     match kind_of(sub, from, to, service, e) {
         Kind::Undrawn => 0,
-        Kind::Open(a, b) => run_open(sub, unit, buses, blocks, frames, a, b, path),
-        Kind::Internal(a, b) => run_internal(sub, unit, buses, blocks, frames, a, b, ra, rb, path),
+        Kind::Open(a, b) => run_open(sub, measures, buses, blocks, frames, a, b, path),
+        Kind::Internal(a, b) => run_internal(
+            sub,
+            measures,
+            buses,
+            blocks,
+            frames,
+            a,
+            b,
+            ra,
+            rb,
+            path,
+        ),
         Kind::Line(_, _) => 0,
     }
 }

@@ -14,6 +14,7 @@ use Rattle.order.specs.Table.{tableFrom, table}
 use Rattle.order.proofs.Tables.{length-table, getD-table, table-suc, table-ext}
 use Rattle.order.proofs.Strides.{table-push, length-strided, getD-strided}
 use Rattle.network.specs.Views.{countsIn}
+use Rattle.network.specs.declared.options.Gaps.{Gaps}
 use Rattle.network.specs.declared.words.Kind.{Kind}
 use Rattle.stations.specs.Row.{rowsIn}
 use Rattle.units.specs.Size.{Size, widthFor, heightFor, sizeFor, sizesFor, sizes}
@@ -77,40 +78,40 @@ rows-at : (k s : ℕ) (st : List ℕ) → s < k → getD (rowCountsIn k st) s 0 
 rows-at k s st h = getD-strided 2 1 0 k s st 0 h
 
 -- ---- the loop that fills in the sizes
-module _ (k : ℕ) (st : List ℕ) where
+module _ (G : Gaps) (k : ℕ) (st : List ℕ) where
   abbrev pub sized : ℕ → List Size
-  sized s = table (λ i. sizeFor (getD (countsIn k st) i 0) (getD (rowCountsIn k st) i 0)) s
+  sized s = table (λ i. sizeFor G (getD (countsIn k st) i 0) (getD (rowCountsIn k st) i 0)) s
 
   pub sizes-start : (l : List Float) → sizesIn 0 l ≡ sized 0
   unfolding sizesIn tableFrom
   sizes-start l = refl
 
   pub sizes-step : (s : ℕ) (l : List Float) (a b : Float) → s < k → 3 * k ≤ length l → sizesIn s l ≡ sized s
-      → a ≡ widthFor (getD st (2 * s) 0) → b ≡ heightFor (getD st (2 * s + 1) 0) → sizesIn (s + 1) (putSize l s a b) ≡ sized (s + 1)
+      → a ≡ widthFor G (getD st (2 * s) 0) → b ≡ heightFor G (getD st (2 * s + 1) 0) → sizesIn (s + 1) (putSize l s a b) ≡ sized (s + 1)
   unfolding sizeFor
   sizes-step s l a b h r e f g =
-      let f' : a ≡ widthFor (getD (countsIn k st) s 0) = f ∙ ap widthFor (sym (count-at k s st h)) in
-      let g' : b ≡ heightFor (getD (rowCountsIn k st) s 0) = g ∙ ap heightFor (sym (rows-at k s st h)) in
+      let f' : a ≡ widthFor G (getD (countsIn k st) s 0) = f ∙ ap (widthFor G) (sym (count-at k s st h)) in
+      let g' : b ≡ heightFor G (getD (rowCountsIn k st) s 0) = g ∙ ap (heightFor G) (sym (rows-at k s st h)) in
       rw add-one
       (sizes-push s l a b (omega arith)
       ∙ ap (λ (t : List Size). t ++ (size a b ∷ [])) e
       ∙ ap (λ (z : Size). sized s ++ (z ∷ [])) (size-cong _ _ _ _ f' g')
-      ∙ sym (table-suc (λ i. sizeFor (getD (countsIn k st) i 0) (getD (rowCountsIn k st) i 0)) s))
+      ∙ sym (table-suc (λ i. sizeFor G (getD (countsIn k st) i 0) (getD (rowCountsIn k st) i 0)) s))
 
-  pub sizes-end : sized k ≡ sizesFor (countsIn k st) (rowCountsIn k st)
+  pub sizes-end : sized k ≡ sizesFor G (countsIn k st) (rowCountsIn k st)
   unfolding sizesFor
   sizes-end = ap sized (sym (length-strided 2 0 0 k st))
 
 -- the sizes of the network, where these are the counts of its stations and their rows
-pub sizes-are : (sub : List ℕ) (ks : List Kind) (counts rows : List ℕ) → rows ≡ table (rowsIn sub ks) (length counts)
-    → sizesFor counts rows ≡ sizes sub ks counts
+pub sizes-are : (G : Gaps) (sub : List ℕ) (ks : List Kind) (counts rows : List ℕ) → rows ≡ table (rowsIn sub ks) (length counts)
+    → sizesFor G counts rows ≡ sizes G sub ks counts
 unfolding sizesFor sizes
-sizes-are sub ks counts rows e =
-    table-ext (λ s. sizeFor (getD counts s 0) (getD rows s 0)) (λ s. sizeFor (getD counts s 0) (rowsIn sub ks s)) (length counts)
-    (λ s h. ap (sizeFor (getD counts s 0)) (ap (λ (t : List ℕ). getD t s 0) e ∙ getD-table (rowsIn sub ks) (length counts) s 0 h))
+sizes-are G sub ks counts rows e =
+    table-ext (λ s. sizeFor G (getD counts s 0) (getD rows s 0)) (λ s. sizeFor G (getD counts s 0) (rowsIn sub ks s)) (length counts)
+    (λ s h. ap (sizeFor G (getD counts s 0)) (ap (λ (t : List ℕ). getD t s 0) e ∙ getD-table (rowsIn sub ks) (length counts) s 0 h))
 
-pub sizes-view : (k : ℕ) (st sub : List ℕ) (ks : List Kind) (counts : List ℕ) → countsIn k st ≡ counts → rowCountsIn k st ≡ table (rowsIn sub ks) k
-    → sizesFor (countsIn k st) (rowCountsIn k st) ≡ sizes sub ks counts
-sizes-view k st sub ks counts e f =
+pub sizes-view : (G : Gaps) (k : ℕ) (st sub : List ℕ) (ks : List Kind) (counts : List ℕ) → countsIn k st ≡ counts → rowCountsIn k st ≡ table (rowsIn sub ks) k
+    → sizesFor G (countsIn k st) (rowCountsIn k st) ≡ sizes G sub ks counts
+sizes-view G k st sub ks counts e f =
     let n : k ≡ length (countsIn k st) = sym (length-strided 2 0 0 k st) in
-    sizes-are sub ks (countsIn k st) (rowCountsIn k st) (f ∙ ap (table (rowsIn sub ks)) n) ∙ ap (sizes sub ks) e
+    sizes-are G sub ks (countsIn k st) (rowCountsIn k st) (f ∙ ap (table (rowsIn sub ks)) n) ∙ ap (sizes G sub ks) e

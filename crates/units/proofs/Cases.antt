@@ -15,6 +15,6 @@ use Rattle.units.specs.Unit.{coordinates, spacingOf, spacing, typical, u
 
 -- No buses: unit 0.45 with the defaults, 0.45 by its pattern.
 pub no-buses : (xy : List Float) (ks : List Kind)
-    → unitFor (defaults .fill) (spacing (seeds [] xy) (busCounts [])) (typical (sizes [] ks (busCounts [])) (busCounts [])) ≡ ofBits binary64 0x3FDC_CCCC_CCCC_CCCD
+    → unitFor (defaults .fill) (spacing (seeds [] xy) (busCounts [])) (typical (sizes (defaults .gaps) [] ks (busCounts [])) (busCounts [])) ≡ ofBits binary64 0x3FDC_CCCC_CCCC_CCCD
 unfolding defaults pastTo stationCount busCounts seeds sizes occupied keep upFrom tableFrom coordinates spacingOf spacing sides typical unitFor medianOf orElse maxOf lt mul div ofBits
 no-buses xy ks = refl

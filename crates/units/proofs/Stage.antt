@@ -4,6 +4,7 @@ use mathlib.Core.List.{List}
 use Prim.Native.Nat.{ℕ, _*_}
 use lib.ListN.{length, take}
 use lib.Ieee.{Float}
+use Rattle.network.specs.declared.options.Gaps.{Gaps}
 use Rattle.network.specs.declared.options.Options.{Options}
 use Rattle.network.specs.Words.{occupied}
 use Rattle.network.specs.Views.{countsIn, pointsIn}
@@ -17,15 +18,15 @@ module _ (k n : ℕ) (st : List ℕ) (places path : List Float) where
   abbrev cs : List ℕ
   cs = countsIn k st
 
-  abbrev zs : List Size
-  zs = sizesFor cs (rowCountsIn k st)
+  abbrev zs : Gaps → List Size
+  zs G = sizesFor G cs (rowCountsIn k st)
 
   module _ (e : n ≡ length (occupied cs)) (t : take (2 * n) path ≡ coordinates (pointsIn k places) (occupied cs)) (sp : Float) (g : sp ≡ spacingOf path n) where
     sp-is : sp ≡ spacing (pointsIn k places) cs
     sp-is = g ∙ spacing-is path n (pointsIn k places) cs e t
 
-    pub unit-left : (O : Options) (blocks : List Float) (side r : Float) → sizesIn k blocks ≡ zs → side ≡ typical (sizesIn k blocks) cs → r ≡ unitFor (O .fill) sp side
-        → r ≡ unitFor (O .fill) (spacing (pointsIn k places) cs) (typical zs cs)
+    pub unit-left : (O : Options) (blocks : List Float) (side r : Float) → sizesIn k blocks ≡ zs (O .gaps) → side ≡ typical (sizesIn k blocks) cs → r ≡ unitFor (O .fill) sp side
+        → r ≡ unitFor (O .fill) (spacing (pointsIn k places) cs) (typical (zs (O .gaps)) cs)
     unit-left O blocks side r z s u = cc (z, s, u, sp-is)
 
     pub scales-left : (O : Options) (blocks : List Float) → scalesIn k blocks ≡ scalesOf O path n sp cs

@@ -1,4 +1,4 @@
--- 4. Width 2 × (buses − 1) + 2; height max(rows, 2) + 2, in blocks. Definitions only.
+-- 4. Width gap × (buses − 1) + 2 × padding; height max(rows, shortest bar) + 2 × padding, in blocks. Definitions only.
 use Prim.Native.Nat.{ℕ, _-_}
 use mathlib.Core.List.{List, map}
 use lib.ListN.{length, getD}
@@ -7,7 +7,7 @@ use Rattle.float.specs.Small.{maxOf}
 use Rattle.float.specs.Ops.{num, f0, f2, _⊕_, _⊗_}
 use Rattle.order.specs.Table.{table}
 use Rattle.network.specs.declared.words.Kind.{Kind}
-use Rattle.network.specs.Options.{barGap, pad, minBar}
+use Rattle.network.specs.declared.options.Gaps.{Gaps}
 use Rattle.stations.specs.Row.{rowsIn}
 
 -- a width and a height
@@ -15,27 +15,27 @@ pub record Size : Type 0 where
   pub w : Float
   pub h : Float
 
--- the width of so many buses, the height of so many rows: the gap between bars is 2, the padding 1, the shortest bar 2
-unfoldable pub widthFor : ℕ → Float
-widthFor buses = num (buses - 1) ⊗ barGap ⊕ f2 ⊗ pad
+-- the width of so many buses, the height of so many rows
+unfoldable pub widthFor : Gaps → ℕ → Float
+widthFor G buses = G .«bar_gap» ⊗ num (buses - 1) ⊕ f2 ⊗ G .pad
 
-unfoldable pub heightFor : ℕ → Float
+unfoldable pub heightFor : Gaps → ℕ → Float
 unfolding maxOf
-heightFor rows = maxOf (num rows) minBar ⊕ f2 ⊗ pad
+heightFor G rows = maxOf (num rows) (G .«min_bar») ⊕ f2 ⊗ G .pad
 
 -- of a station with so many buses and so many rows
-unfoldable pub sizeFor : ℕ → ℕ → Size
+unfoldable pub sizeFor : Gaps → ℕ → ℕ → Size
 unfolding widthFor heightFor
-sizeFor buses rows = record { w = widthFor buses; h = heightFor rows }
+sizeFor G buses rows = record { w = widthFor G buses; h = heightFor G rows }
 
 -- of each station, by the number of its buses and of its rows
-unfoldable pub sizesFor : List ℕ → List ℕ → List Size
+unfoldable pub sizesFor : Gaps → List ℕ → List ℕ → List Size
 unfolding sizeFor
-sizesFor counts rows = table (λ s. sizeFor (getD counts s 0) (getD rows s 0)) (length counts)
+sizesFor G counts rows = table (λ s. sizeFor G (getD counts s 0) (getD rows s 0)) (length counts)
 
 -- that of the network
-unfoldable pub sizes : List ℕ → List Kind → List ℕ → List Size
-sizes sub ks counts = table (λ s. sizeFor (getD counts s 0) (rowsIn sub ks s)) (length counts)
+unfoldable pub sizes : Gaps → List ℕ → List Kind → List ℕ → List Size
+sizes G sub ks counts = table (λ s. sizeFor G (getD counts s 0) (rowsIn sub ks s)) (length counts)
 
 abbrev pub sizeAt : List Size → ℕ → Size
 sizeAt zs s = getD zs s (record { w = f0; h = f0 })

@@ -7,11 +7,18 @@ ghost use Rattle.units.specs.Size.{sizesFor};
 ghost use Rattle.units.specs.Unit as Unit;
 ghost use Rattle.units.specs.Scale as Scale;
 ghost use Rattle.units.specs.Stages.Views.{sizesIn, scalesIn, rowCountsIn};
+use network::options::Gaps;
 use network::options::Options;
 
 pub mod scale;
 pub mod sizes;
 pub mod unit;
+
+// What interiors are measured by: the unit, and the gaps in blocks.
+pub struct Measures {
+    pub unit: f64,
+    pub gaps: Gaps,
+}
 
 // The unit of the first k stations, and the size and scale of each in blocks. `stations` has the bus count and the row count of each,
 // `places` the seeds. The other lists are work lists.
@@ -28,14 +35,25 @@ pub fn units(
     spare: &mut [u32],
 ) -> f64
     requires { ⌜ (k ≤ 4096) × (2 * k ≤ length (now stations)) × (2 * k ≤ length (now places)) × (3 * k ≤ length (now blocks)) × (k ≤ length (now frames)) × (2 * k ≤ length (now path)) × (k ≤ length (now keys)) × (k ≤ length (now sorted)) × (k ≤ length (now spare)) ⌝ }
-    ensures { λ r. ⌜ r ≡ Unit.unitFor (o .fill) (Unit.spacing (pointsIn k (now (places .entry))) (countsIn k (now (stations .entry)))) (Unit.typical (sizesFor (countsIn k (now (stations .entry))) (rowCountsIn k (now (stations .entry)))) (countsIn k (now (stations .entry)))) ⌝ }
-    ensures { λ _. ⌜ sizesIn k (now (blocks .exit)) ≡ sizesFor (countsIn k (now (stations .entry))) (rowCountsIn k (now (stations .entry))) ⌝ }
+    ensures { λ r. ⌜ r ≡ Unit.unitFor (o .fill) (Unit.spacing (pointsIn k (now (places .entry))) (countsIn k (now (stations .entry)))) (Unit.typical (sizesFor (o .gaps) (countsIn k (now (stations .entry))) (rowCountsIn k (now (stations .entry)))) (countsIn k (now (stations .entry)))) ⌝ }
+    ensures { λ _. ⌜ sizesIn k (now (blocks .exit)) ≡ sizesFor (o .gaps) (countsIn k (now (stations .entry))) (rowCountsIn k (now (stations .entry))) ⌝ }
     ensures { λ _. ⌜ scalesIn k (now (blocks .exit)) ≡ Scale.scales o (pointsIn k (now (places .entry))) (countsIn k (now (stations .entry))) (Unit.spacing (pointsIn k (now (places .entry))) (countsIn k (now (stations .entry)))) ⌝ }
 {
-    sizes::sizes(k, stations, blocks);
+    sizes::sizes(o.gaps, k, stations, blocks);
     let n = unit::coordinates(k, stations, places, path);
     let spacing = unit::spacing(n, path, frames, keys, sorted, spare);
     let side = unit::typical(k, stations, blocks, frames, keys, sorted, spare);
-    scale::scales(o, k, n, spacing, stations, path, blocks, keys, sorted, spare);
+    scale::scales(
+        o,
+        k,
+        n,
+        spacing,
+        stations,
+        path,
+        blocks,
+        keys,
+        sorted,
+        spare,
+    );
     unit::unit_for(o.fill, spacing, side)
 }

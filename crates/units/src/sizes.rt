@@ -7,38 +7,38 @@ ghost use Rattle.network.specs.Views.{countsIn};
 ghost use Rattle.units.specs.Size.{widthFor, heightFor, sizesFor, sides};
 ghost use Rattle.units.specs.Stages.Views.{sizesIn, rowCountsIn};
 use float::small::max;
-use network::options::Options;
+use network::options::Gaps;
 
-// The gaps between so many bars.
-fn gaps(buses: u32) -> u32
+// How many of so many buses stand beside the first.
+fn others(buses: u32) -> u32
     ensures { λ r. ⌜ r ≡ buses - 1 ⌝ }
 {
     if buses == 0 { 0 } else { buses - 1 }
 }
 
 // The width of a station with so many buses.
-fn width(buses: u32) -> f64
-    ensures { λ r. ⌜ r ≡ widthFor buses ⌝ }
+fn width(g: Gaps, buses: u32) -> f64
+    ensures { λ r. ⌜ r ≡ widthFor g buses ⌝ }
 {
-    (gaps(buses) as f64) * Options::BAR_GAP + 2.0 * Options::PAD
+    g.bar_gap * (others(buses) as f64) + 2.0 * g.pad
 }
 
 // The height of a station with so many rows.
-fn height(rows: u32) -> f64
-    ensures { λ r. ⌜ r ≡ heightFor rows ⌝ }
+fn height(g: Gaps, rows: u32) -> f64
+    ensures { λ r. ⌜ r ≡ heightFor g rows ⌝ }
 {
-    max(rows as f64, Options::MIN_BAR) + 2.0 * Options::PAD
+    max(rows as f64, g.min_bar) + 2.0 * g.pad
 }
 
 // The sizes of the first k stations; `stations` has the bus count and the row count of each.
-pub(crate) fn sizes(k: usize, stations: &[u32], blocks: &mut [f64])
+pub(crate) fn sizes(g: Gaps, k: usize, stations: &[u32], blocks: &mut [f64])
     requires { ⌜ (2 * k ≤ length (now stations)) × (3 * k ≤ length (now blocks)) ⌝ }
-    ensures { λ _. ⌜ sizesIn k (now (blocks .exit)) ≡ sizesFor (countsIn k (now (stations .entry))) (rowCountsIn k (now (stations .entry))) ⌝ }
+    ensures { λ _. ⌜ sizesIn k (now (blocks .exit)) ≡ sizesFor g (countsIn k (now (stations .entry))) (rowCountsIn k (now (stations .entry))) ⌝ }
 {
     let mut s = 0;
     while s < k {
-        blocks[3 * s] = width(stations[2 * s]);
-        blocks[3 * s + 1] = height(stations[2 * s + 1]);
+        blocks[3 * s] = width(g, stations[2 * s]);
+        blocks[3 * s + 1] = height(g, stations[2 * s + 1]);
         s += 1;
     }
 }

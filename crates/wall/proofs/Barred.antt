@@ -38,17 +38,17 @@ use Rattle.wall.proofs.Opened.{seeds, blocks, kinds-length, kind-at}
 use Rattle.wall.proofs.Parts.{held-box, block-at, held-bar, held-position}
 
 -- a bar as four numbers
-lengthened-is : (f : Float) (b : Bar) → barNumbers (lengthened f b) ≡ barFrom f (b .x) (b .y0) (b .y1)
+lengthened-is : (o : Options) (f : Float) (b : Bar) → barNumbers (lengthened (o .gaps) f b) ≡ barFrom o f (b .x) (b .y0) (b .y1)
 unfolding lengthened barFrom
-lengthened-is f b = go (lt (b .y1 ⊖ b .y0) (f2 ⊗ f))
+lengthened-is o f b = go (lt (b .y1 ⊖ b .y0) (o .gaps .«min_bar» ⊗ f))
   where
     m : Float
     m = (b .y0 ⊕ b .y1) ⊘ f2
 
     longer : Bar
-    longer = record { x = b .x; y0 = m ⊖ f2 ⊗ f ⊘ f2; y1 = m ⊕ f2 ⊗ f ⊘ f2 }
+    longer = record { x = b .x; y0 = m ⊖ o .gaps .«min_bar» ⊗ f ⊘ f2; y1 = m ⊕ o .gaps .«min_bar» ⊗ f ⊘ f2 }
 
-    go : (c : Bool) → barNumbers (pick c longer b) ≡ pick c (b .x ∷ (m ⊖ f2 ⊗ f ⊘ f2) ∷ b .x ∷ (m ⊕ f2 ⊗ f ⊘ f2) ∷ []) (b .x ∷ b .y0 ∷ b .x ∷ b .y1 ∷ [])
+    go : (c : Bool) → barNumbers (pick c longer b) ≡ pick c (b .x ∷ (m ⊖ o .gaps .«min_bar» ⊗ f ⊘ f2) ∷ b .x ∷ (m ⊕ o .gaps .«min_bar» ⊗ f ⊘ f2) ∷ []) (b .x ∷ b .y0 ∷ b .x ∷ b .y1 ∷ [])
     go true = refl
     go false = refl
 
@@ -74,27 +74,27 @@ module _ (o : Options) (N : Network) (L : Lists) (W : Work) (X : Crossings) (p :
   span-is i h = getD-table (λ j. span j) (length (N .station)) i bare h
 
   bar-is : (i : ℕ) → i < length (N .station)
-      → barAt (drawing o N .bars) i ≡ barFor (boxIn (drawing o N .boxes) (station i)) (blockAt (blocks o N) (station i)) (column (N .station) (N .kv) i) (span i)
+      → barAt (drawing o N .bars) i ≡ barFor (o .gaps) (boxIn (drawing o N .boxes) (station i)) (blockAt (blocks o N) (station i)) (column (N .station) (N .kv) i) (span i)
   unfolding drawing planned BarSpec.bars
   bar-is i h =
       getD-table _ (length (N .station)) i _ h
-      ∙ ap (λ (c : ℕ). barFor (boxIn (drawing o N .boxes) (station i)) (blockAt (blocks o N) (station i)) c (getD allSpans i bare)) (column-is i h)
-      ∙ ap (barFor (boxIn (drawing o N .boxes) (station i)) (blockAt (blocks o N) (station i)) (column (N .station) (N .kv) i)) (span-is i h)
+      ∙ ap (λ (c : ℕ). barFor (o .gaps) (boxIn (drawing o N .boxes) (station i)) (blockAt (blocks o N) (station i)) c (getD allSpans i bare)) (column-is i h)
+      ∙ ap (barFor (o .gaps) (boxIn (drawing o N .boxes) (station i)) (blockAt (blocks o N) (station i)) (column (N .station) (N .kv) i)) (span-is i h)
 
   -- a bus's bar, by its station's box and block as the lists have them, its column and its rows
   bar-by : Patterns N → (i : ℕ) → i < length (N .station) → (s : Span) → span i ≡ s
-      → barIn exit i ≡ barNumbers (barFor (boxAt (exit .boxes) (station i)) (blockIn p exit (station i)) (columnOf N i) s)
+      → barIn exit i ≡ barNumbers (barFor (o .gaps) (boxAt (exit .boxes) (station i)) (blockIn p exit (station i)) (columnOf N i) s)
   bar-by P i h s e =
       let l : station i < Rattle.network.specs.Words.stationCount (N .station) = station-below (N .station) i h in
       held-bar o N L W X p drawn i h ∙ ap (λ (b : Bar). barNumbers b) (bar-is i h)
-      ∙ ap (λ (b : Box). barNumbers (barFor b (blockAt (blocks o N) (station i)) (column (N .station) (N .kv) i) (span i))) (sym (held-box o N L W X p drawn (station i) l))
-      ∙ ap (λ (f : Float). barNumbers (barFor (boxAt (exit .boxes) (station i)) f (column (N .station) (N .kv) i) (span i))) (block-at o N L W X p drawn (station i) l)
-      ∙ ap (λ (c : ℕ). barNumbers (barFor (boxAt (exit .boxes) (station i)) (blockIn p exit (station i)) c (span i))) (column-count (N .station) (N .kv) P i)
-      ∙ ap (λ (z : Span). barNumbers (barFor (boxAt (exit .boxes) (station i)) (blockIn p exit (station i)) (columnOf N i) z)) e
+      ∙ ap (λ (b : Box). barNumbers (barFor (o .gaps) b (blockAt (blocks o N) (station i)) (column (N .station) (N .kv) i) (span i))) (sym (held-box o N L W X p drawn (station i) l))
+      ∙ ap (λ (f : Float). barNumbers (barFor (o .gaps) (boxAt (exit .boxes) (station i)) f (column (N .station) (N .kv) i) (span i))) (block-at o N L W X p drawn (station i) l)
+      ∙ ap (λ (c : ℕ). barNumbers (barFor (o .gaps) (boxAt (exit .boxes) (station i)) (blockIn p exit (station i)) c (span i))) (column-count (N .station) (N .kv) P i)
+      ∙ ap (λ (z : Span). barNumbers (barFor (o .gaps) (boxAt (exit .boxes) (station i)) (blockIn p exit (station i)) (columnOf N i) z)) e
 
-  numbers : (box : Box) (f : Float) (c : ℕ) (s : Span) → barNumbers (barFor box f c s) ≡ barFrom f (reach box f (barX box f c) s .x) (reach box f (barX box f c) s .y0) (reach box f (barX box f c) s .y1)
+  numbers : (box : Box) (f : Float) (c : ℕ) (s : Span) → barNumbers (barFor (o .gaps) box f c s) ≡ barFrom o f (reach (o .gaps) box f (barX (o .gaps) box f c) s .x) (reach (o .gaps) box f (barX (o .gaps) box f c) s .y0) (reach (o .gaps) box f (barX (o .gaps) box f c) s .y1)
   unfolding barFor
-  numbers box f c s = lengthened-is f (reach box f (barX box f c) s)
+  numbers box f c s = lengthened-is o f (reach (o .gaps) box f (barX (o .gaps) box f c) s)
 
   -- ---- a bus's rows
   abbrev Row : ℕ → ℕ → ℕ → Type 0
@@ -129,7 +129,7 @@ module _ (o : Options) (N : Network) (L : Lists) (W : Work) (X : Crossings) (p :
   spanning : (i : ℕ) → SpanIs (Row i) (length (allKinds N)) (span i)
   spanning i = span-law (N .station) (seeds o N) (allKinds N) i
 
-  pub bars-of : Bars N exit p
+  pub bars-of : Bars o N exit p
   unfolding reach barX rowY
   bars-of =
       record {

@@ -1,4 +1,4 @@
--- Numbers without a minus sign: the unit, the scales and every station's block are such, and so is its buffer, which is finite where its box is.
+-- Numbers without a minus sign: the unit, the scales and every station's block are such, and so is its buffer.
 -- Assumes nothing.
 use Prim.Native.Nat.{ℕ, zero, suc, _+_, _-_, _*_, _/_, _^_, _≤_, _<_, compare}
 use mathlib.Core.Path.{_≡_, refl, sym, ap, subst, _∙_}
@@ -10,7 +10,7 @@ use lib.Count.{trailingZeros}
 use lib.IntN.{ℤ, pos}
 use lib.ListN.{length, getD}
 use lib.Ieee.{Float, nan, inf, fin, binary64, up, down, unlike, neg, mul, div, add, sub, sum, lt, le, fits, units, odd, round, size, ofBits, ofFields}
-use lib.Ieee.Fits.{down-pos, round-is, and-l, inf-fits, mul-fits}
+use lib.Ieee.Fits.{down-pos, round-is, and-l, and-r}
 use lib.Ieee.Positive.{positive, above, above-of-le}
 use borrow.Author.Tests.{ltb-true, le-ltb}
 use Rattle.float.specs.Small.{maxOf, minOf, isFinite}
@@ -23,13 +23,14 @@ use Rattle.geometry.specs.declared.Point.{Point}
 use Rattle.geometry.specs.Plane.{pointAt}
 use Rattle.proximity.specs.Near.{distance, nearer, nearestTo, nearest, neighbours}
 use Rattle.network.specs.declared.options.Options.{Options}
-use Rattle.network.specs.Options.{between, buffer}
+use Rattle.network.specs.Options.{between, gapFits}
 use Rattle.network.specs.Words.{isOccupied, occupied}
 use Rattle.units.specs.Size.{Size, sizeAt, sides}
 use Rattle.units.specs.Unit.{coordinates, spacingOf, spacing, typical, unitFor}
 use Rattle.units.specs.Scale.{tier, occupiedBelow, scaleAt, scalesOf, scales}
 use Rattle.placement.specs.Place.{Frame, frameAt, frameFor, frames}
-use Rattle.placement.proofs.Rank.{rank, Number, Plus, lt-rank, sub-down, sub-number}
+use Rattle.placement.proofs.Clear.{Outward}
+use Rattle.drawing.specs.Drawing.{measuresOf}
 use Rattle.wall.proofs.Every.{Every, every-at, every-table}
 
 abbrev pub NoMinus : Float → Type 0
@@ -37,30 +38,34 @@ NoMinus nan = Unit {0}
 NoMinus (inf s) = T (not s)
 NoMinus (fin s m e) = T (not s)
 
-pub plus : (x : Float) → NoMinus x → T (isFinite x) → Plus x
-unfolding isFinite
-plus nan p q = absurd q
-plus (inf s) p q = absurd q
-plus (fin true m e) p q = absurd p
-plus (fin false m e) p q = tt
-
 -- ---- the operations
 
-odd-nm : (d q k l : ℕ) → NoMinus (odd d false q k l)
-unfolding odd
-odd-nm d zero k l = tt
-odd-nm d (suc q) k l = tt
+out-nm : (x : Float) → Outward x → NoMinus x
+out-nm nan p = tt
+out-nm (inf s) p = p
+out-nm (fin s m e) p = p
 
-units-nm : (q k : ℕ) → NoMinus (units binary64 false q k)
+odd-out : (d q k l : ℕ) → Outward (odd d false q k l)
+unfolding odd
+odd-out d zero k l = tt
+odd-out d (suc q) k l = tt
+
+units-out : (q k : ℕ) → Outward (units binary64 false q k)
 unfolding units
-units-nm q k = go (ltb (q * 2 ^ k) (2 ^ 2098))
+units-out q k = go (ltb (q * 2 ^ k) (2 ^ 2098))
   where
-    go : (b : Bool) → NoMinus (cond b (odd 54 false q k 1074) (inf false))
-    go true = odd-nm 54 q k 1074
+    go : (b : Bool) → Outward (cond b (odd 54 false q k 1074) (inf false))
+    go true = odd-out 54 q k 1074
     go false = tt
 
+units-nm : (q k : ℕ) → NoMinus (units binary64 false q k)
+units-nm q k = out-nm (units binary64 false q k) (units-out q k)
+
+round-out : (n c : ℕ) → Outward (round binary64 false n c)
+round-out n c = subst Outward (sym (round-is binary64 false n c)) (units-out _ _)
+
 round-nm : (n c : ℕ) → NoMinus (round binary64 false n c)
-round-nm n c = subst NoMinus (sym (round-is binary64 false n c)) (units-nm _ _)
+round-nm n c = out-nm (round binary64 false n c) (round-out n c)
 
 cond-nm : (b : Bool) (x y : Float) → NoMinus x → NoMinus y → NoMinus (cond b x y)
 cond-nm true x y p q = p
@@ -148,6 +153,26 @@ pub scale-nm : (x : Float) → T (between (ofBits binary64 0x3F90_0000_0000_0000
 unfolding between
 scale-nm x h =
     above-nm x (above-of-le (ofBits binary64 0x3F90_0000_0000_0000) x least-scale (and-l (le (ofBits binary64 0x3F90_0000_0000_0000) x) (le x f1) h))
+
+-- 0.5
+least-gap : T (positive (ofBits binary64 0x3FE0_0000_0000_0000))
+unfolding ofBits ofFields odd trailingZeros
+least-gap = tt
+
+below-finite : (x : Float) → NoMinus x → T (le x (ofBits binary64 0x4020_0000_0000_0000)) → T (isFinite x)
+unfolding le isFinite ofBits ofFields odd
+below-finite nan p h = h
+below-finite (inf true) p h = absurd p
+below-finite (inf false) p h = h
+below-finite (fin s m e) p h = tt
+
+pub gap-range : (x : Float) → T (gapFits x) → NoMinus x × T (isFinite x)
+unfolding gapFits between
+gap-range x h =
+    let l = le (ofBits binary64 0x3FE0_0000_0000_0000) x in
+    let u = le x (ofBits binary64 0x4020_0000_0000_0000) in
+    let n : NoMinus x = above-nm x (above-of-le (ofBits binary64 0x3FE0_0000_0000_0000) x least-gap (and-l l u h)) in
+    (n, below-finite x n (and-r l u h))
 
 -- a maximum with 1
 part : (p d : ℕ) → 0 < d → 0 < p + 1 * 1 * d
@@ -294,82 +319,40 @@ finite-add (fin s m e) nan h = absurd h
 finite-add (fin s m e) (inf t) h = absurd h
 finite-add (fin s m e) (fin t n d) h = tt
 
--- ---- a number without minus sign times 1 is finite where it is
+-- ---- the product of two finite numbers without minus sign, which may be infinite
 
-finite-of : (r : Float) → NoMinus r → Number r → rank r < rank (inf false) → T (isFinite r)
-unfolding isFinite
-finite-of nan p q h = absurd q
-finite-of (inf true) p q h = absurd p
-finite-of (inf false) p q h = absurd (never (rank (inf false)) h)
-  where
-    never : (n : ℕ) → n < n → ⊥
-    never n h = omega arith
-finite-of (fin s m e) p q h = tt
+product-out : (x y : Float) → NoMinus x → NoMinus y → T (isFinite x) → T (isFinite y) → Outward (mul binary64 x y)
+unfolding mul isFinite
+product-out nan y p q f g = absurd f
+product-out (inf s) y p q f g = absurd f
+product-out (fin true m e) y p q f g = absurd p
+product-out (fin false m e) nan p q f g = absurd g
+product-out (fin false m e) (inf t) p q f g = absurd g
+product-out (fin false m e) (fin true n d) p q f g = absurd q
+product-out (fin false m e) (fin false n d) p q f g = round-out (m * up e * (n * up d)) (down e * down d)
 
-one-is : f1 ≡ fin false 1 (pos 0)
-unfolding ofBits ofFields odd trailingZeros
-one-is = refl
-
-less-nothing : (m : ℕ) (e : ℤ) → sub binary64 (fin false m e) (fin false 0 (pos 0)) ≡ round binary64 false (m * up e * 1) (down e * 1)
-unfolding sub neg add sum
-less-nothing m e =
-    let z : 0 * 1 * down e ≡ 0 = omega arith in
-    let l : ltb (m * up e * 1) (0 * 1 * down e) ≡ false = le-ltb (m * up e * 1) (0 * 1 * down e) (omega (arith, z)) in
-    let k : m * up e * 1 - 0 * 1 * down e ≡ m * up e * 1 = omega (arith, z) in
-    ap (λ (b : Bool). cond b (round binary64 true (0 * 1 * down e - m * up e * 1) (down e * 1)) (round binary64 false (m * up e * 1 - 0 * 1 * down e) (down e * 1))) l
-    ∙ ap (λ (n : ℕ). round binary64 false n (down e * 1)) k
-
-kept-finite : (m : ℕ) (e : ℤ) → T (fits binary64 (fin false m e)) → T (isFinite (round binary64 false (m * up e * 1) (down e * 1)))
-kept-finite m e f =
-    let x = fin false m e in
-    let r = sub binary64 (fin false m e) (fin false 0 (pos 0)) in
-    let u : rank (sub binary64 (fin false m e) (fin false 0 (pos 0))) ≤ rank (fin false m e) = sub-down (fin false m e) (fin false 0 (pos 0)) f (unfold isFinite in tt) tt in
-    let v : ltb (rank (fin false m e)) (rank (inf false)) ≡ true = sym (lt-rank (fin false m e) (inf false) f (inf-fits binary64 false) tt tt) ∙ (unfold lt in refl) in
-    subst (λ (z : Float). T (isFinite z)) (less-nothing m e)
-    (finite-of r (subst NoMinus (sym (less-nothing m e)) (round-nm (m * up e * 1) (down e * 1))) (sub-number (fin false m e) (fin false 0 (pos 0)) (unfold isFinite in tt) (unfold isFinite in tt))
-    (omega (arith, u, ltb-true (rank (fin false m e)) (rank (inf false)) v)))
-
-times-one : (x : Float) → T (fits binary64 x) → Plus x → T (isFinite (mul binary64 x (fin false 1 (pos 0))))
-unfolding mul
-times-one nan f p = absurd p
-times-one (inf s) f p = absurd p
-times-one (fin true m e) f p = absurd p
-times-one (fin false m e) f p =
-    let k : m * up e * (1 * 1) ≡ m * up e * 1 = omega arith in
-    subst (λ (n : ℕ). T (isFinite (round binary64 false n (down e * 1)))) (sym k) (kept-finite m e f)
-
-plus-nm : (x : Float) → Plus x → NoMinus x
-plus-nm nan p = absurd p
-plus-nm (inf s) p = absurd p
-plus-nm (fin true m e) p = absurd p
-plus-nm (fin false m e) p = tt
-
-plus-one : (x : Float) → T (fits binary64 x) → Plus x → Plus (x ⊗ buffer)
-plus-one x f p =
-    subst (λ (o : Float). Plus (x ⊗ o)) (sym one-is)
-    (plus (mul binary64 x (fin false 1 (pos 0))) (mul-nm x (fin false 1 (pos 0)) (plus-nm x p) tt) (times-one x f p))
-
--- a block has no minus sign, is of the format, and is finite if the half width is
+-- a block has no minus sign, and is finite if the half width is; a buffer has none and is finite
 abbrev pub Block : Frame → Type 0
-Block r = NoMinus (r .f) × T (fits binary64 (r .f)) × (T (isFinite (r .half .w)) → T (isFinite (r .f)))
+Block r = NoMinus (r .f) × (T (isFinite (r .half .w)) → T (isFinite (r .f))) × NoMinus (r .buffer) × T (isFinite (r .buffer))
 
 f0-finite : T (isFinite f0)
 unfolding isFinite ofBits ofFields odd
 f0-finite = tt
 
 pub block : (O : Options) (seeds : List Point) (counts : List ℕ) (gap unit : Float) (zs : List Size) → NoMinus unit → NoMinus (O .«tier_scale_1») → NoMinus (O .«tier_scale_2»)
-    → (s : ℕ) → Block (frameAt (frames unit (scales O seeds counts gap) zs) s)
+    → NoMinus (O .gaps .buffer) → T (isFinite (O .gaps .buffer)) → (s : ℕ) → Block (frameAt (frames (measuresOf O unit) (scales O seeds counts gap) zs) s)
 unfolding frames frameFor
-block O seeds counts gap unit zs h p q s =
+block O seeds counts gap unit zs h p q b c s =
     every-at Block _ _ s
-    (every-table Block (λ s. frameFor unit (getD (scales O seeds counts gap) s f1) (sizeAt zs s)) 0 (length zs)
+    (every-table Block (λ s. frameFor (measuresOf O unit) (getD (scales O seeds counts gap) s f1) (sizeAt zs s)) 0 (length zs)
     (λ s. (
       mul-nm unit (getD (scales O seeds counts gap) s f1) h (scales-nm O seeds counts gap s p q),
-      mul-fits binary64 unit (getD (scales O seeds counts gap) s f1),
       λ k. finite-mul (sizeAt zs s .w) (unit ⊗ getD (scales O seeds counts gap) s f1) (finite-div (sizeAt zs s .w ⊗ (unit ⊗ getD (scales O seeds counts gap) s f1)) f2 k),
+      b,
+      c,
     )))
-    (f0-nm, lib.Ieee.Bits.ofBits-fits binary64 0, λ k. f0-finite)
+    (f0-nm, (λ k. f0-finite), f0-nm, f0-finite)
 
 -- the buffer of a station whose half width is finite
-pub buffer-plus : (r : Frame) → Block r → T (isFinite (r .half .w)) → Plus (r .f ⊗ buffer)
-buffer-plus r b h = plus-one (r .f) (b .1) (plus (r .f) (b .0) (b .2 h))
+pub buffer-out : (r : Frame) → Block r → T (isFinite (r .half .w)) → Outward (r .f ⊗ r .buffer)
+buffer-out r b h = product-out (r .f) (r .buffer) (b .0) (b .2) (b .1 h) (b .3)

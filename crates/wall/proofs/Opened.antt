@@ -16,8 +16,9 @@ use Rattle.order.specs.Table.{table}
 use Rattle.order.proofs.Tables.{length-table, getD-table}
 use Rattle.geometry.specs.declared.Point.{Point}
 use Rattle.geometry.specs.declared.Box.{Box}
+use Rattle.network.specs.declared.options.Gaps.{Gaps}
 use Rattle.network.specs.declared.options.Options.{Options}
-use Rattle.network.specs.Options.{searchOf, minBar}
+use Rattle.network.specs.Options.{searchOf}
 use Rattle.network.specs.declared.words.Kind.{Kind}
 use Rattle.network.specs.declared.words.Kind.the-variants.{Undrawn, Open, Internal, Line}
 use Rattle.network.specs.Words.{stationOf, busCounts, isOccupied, occupied, kinds, kindAt}
@@ -45,7 +46,7 @@ use Rattle.runs.specs.Run.{Scene, slot, ledPath, linePoints, runFor, runOf, all
 use Rattle.drawing.specs.Network.{Network}
 use Rattle.crossings.specs.Gap.{gapOf}
 use Rattle.routes.specs.Routes.{crossingsOf}
-use Rattle.drawing.specs.Drawing.{drawing, planned, straightScene, ledScene, sceneOf, routedOf, routedScene, waysOf}
+use Rattle.drawing.specs.Drawing.{measuresOf, drawing, planned, straightScene, ledScene, sceneOf, routedOf, routedScene, waysOf}
 use Rattle.wall.specs.Wall.{kind, allKinds, rowNumber, order}
 use Rattle.wall.proofs.Every.{Every, every-at, every-table, every-append, every-map}
 use Rattle.wall.proofs.Detours.{FitsPoint, detour-fits}
@@ -61,24 +62,24 @@ FitsBar b = T (fits binary64 (b .x))
 f0-fits : T (fits binary64 f0)
 f0-fits = ofBits-fits binary64 0
 
-reach-fits : (box : Box) (f x : Float) (s : Span) → T (fits binary64 x) → FitsBar (reach box f x s)
+reach-fits : (G : Gaps) (box : Box) (f x : Float) (s : Span) → T (fits binary64 x) → FitsBar (reach G box f x s)
 unfolding reach
-reach-fits box f x bare h = h
-reach-fits box f x (rows a b) h = h
+reach-fits G box f x bare h = h
+reach-fits G box f x (rows a b) h = h
 
 pick-bar : (u : Bool) (a b : Bar) → FitsBar a → FitsBar b → FitsBar (pick u a b)
 pick-bar true a b h k = h
 pick-bar false a b h k = k
 
-lengthened-fits : (f : Float) (b : Bar) → FitsBar b → FitsBar (lengthened f b)
+lengthened-fits : (G : Gaps) (f : Float) (b : Bar) → FitsBar b → FitsBar (lengthened G f b)
 unfolding lengthened
-lengthened-fits f b h =
-    pick-bar (lt (b .y1 ⊖ b .y0) (minBar ⊗ f)) (record { x = b .x; y0 = barMiddle b ⊖ minBar ⊗ f ⊘ f2; y1 = barMiddle b ⊕ minBar ⊗ f ⊘ f2 }) b h h
+lengthened-fits G f b h =
+    pick-bar (lt (b .y1 ⊖ b .y0) (G .«min_bar» ⊗ f)) (record { x = b .x; y0 = barMiddle b ⊖ G .«min_bar» ⊗ f ⊘ f2; y1 = barMiddle b ⊕ G .«min_bar» ⊗ f ⊘ f2 }) b h h
 
-bars-fit : (sub columns : List ℕ) (spans : List Span) (fs : List Float) (bs : List Box) (i : ℕ) → FitsBar (barAt (Bars.bars sub columns spans fs bs) i)
+bars-fit : (G : Gaps) (sub columns : List ℕ) (spans : List Span) (fs : List Float) (bs : List Box) (i : ℕ) → FitsBar (barAt (Bars.bars G sub columns spans fs bs) i)
 unfolding Bars.bars barFor Bars.barX
-bars-fit sub columns spans fs bs i =
-    every-at FitsBar _ _ i (every-table FitsBar _ 0 (length sub) (λ j. lengthened-fits _ _ (reach-fits _ _ _ _ (add-fits binary64 _ _)))) f0-fits
+bars-fit G sub columns spans fs bs i =
+    every-at FitsBar _ _ i (every-table FitsBar _ 0 (length sub) (λ j. lengthened-fits _ _ _ (reach-fits _ _ _ _ _ (add-fits binary64 _ _)))) f0-fits
 
 boxes-fit : (fs : List Frame) (counts : List ℕ) (ps : List Point) (s : ℕ) → FitsBox (boxIn (boxes fs counts ps) s)
 unfolding boxes boxOf boxOn
@@ -161,7 +162,7 @@ module _ (o : Options) (N : Network) where
   seeds = Seed.seeds (N .station) (N .xy)
 
   abbrev pub sizes : List Size
-  sizes = Sizes.sizes (N .station) (allKinds N) counts
+  sizes = Sizes.sizes (o .gaps) (N .station) (allKinds N) counts
 
   abbrev pub gap : Float
   gap = spacing seeds counts
@@ -173,7 +174,7 @@ module _ (o : Options) (N : Network) where
   scales = Scale.scales o seeds counts gap
 
   abbrev pub fs : List Frame
-  fs = frames unit scales sizes
+  fs = frames (measuresOf o unit) scales sizes
 
   abbrev pub os : List Offset
   os = Offset.offsets (searchOf (o .search))
@@ -206,7 +207,7 @@ module _ (o : Options) (N : Network) where
 
   -- the row end of bus i
   abbrev pub slotAt : ℕ → ℕ → Point
-  slotAt i r = rowEnd (N .station) blocks (drawing o N .boxes) (drawing o N .bars) i r
+  slotAt i r = rowEnd (o .gaps) (N .station) blocks (drawing o N .boxes) (drawing o N .bars) i r
 
   abbrev pub stationList : List ℕ
   stationList = occupied counts
@@ -302,7 +303,7 @@ module _ (o : Options) (N : Network) where
 
   bars-good : (i : ℕ) → FitsBar (barAt (drawing o N .bars) i)
   unfolding drawing planned
-  bars-good i = bars-fit (N .station) _ _ _ _ i
+  bars-good i = bars-fit (o .gaps) (N .station) _ _ _ _ i
 
   boxes-good : (s : ℕ) → FitsBox (boxIn (drawing o N .boxes) s)
   unfolding drawing planned

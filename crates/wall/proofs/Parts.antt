@@ -30,7 +30,7 @@ use Rattle.figures.proofs.Reading.{boxes-read}
 use Rattle.drawing.specs.declared.answer.Plot.{Plot}
 use Rattle.drawing.specs.declared.answer.Answer.the-variants.{Drawn}
 use Rattle.drawing.specs.Network.{Network, Lists, Work, Crossings}
-use Rattle.drawing.specs.Drawing.{drawing}
+use Rattle.drawing.specs.Drawing.{measuresOf, drawing}
 use Rattle.drawing.specs.Answer.{layoutOf}
 use Rattle.drawing.proofs.Written.{Written, lists-written}
 use Rattle.wall.specs.Wall.{kind, rowCount, positionIn, barIn, rowEndIn, frameIn, piecesIn}
@@ -106,22 +106,22 @@ module _ (o : Options) (N : Network) (L : Lists) (W : Work) (X : Crossings) (p :
   unfolding Sizes.sizes
   sizes-length = length-table _ (length (counts o N)) ∙ counts-length N
 
-  frame-at : (s : ℕ) → s < k → frameAt (fs o N) s ≡ frameFor (unit o N) (getD (scales o N) s f1) (sizeAt (sizes o N) s)
+  frame-at : (s : ℕ) → s < k → frameAt (fs o N) s ≡ frameFor (measuresOf o (unit o N)) (getD (scales o N) s f1) (sizeAt (sizes o N) s)
   unfolding frames
   frame-at s h = getD-table _ (length (sizes o N)) s _ (subst (λ (n : ℕ). s < n) (sym sizes-length) h)
 
-  size-at : (s : ℕ) → s < k → sizeAt (sizes o N) s ≡ sizeFor (busesIn (N .station) s) (rowCount N s)
+  size-at : (s : ℕ) → s < k → sizeAt (sizes o N) s ≡ sizeFor (o .gaps) (busesIn (N .station) s) (rowCount N s)
   unfolding Sizes.sizes busCounts
   size-at s h =
       getD-table _ (length (counts o N)) s _ (subst (λ (n : ℕ). s < n) (sym (counts-length N)) h)
-      ∙ ap (λ (c : ℕ). sizeFor c (rowCount N s)) (getD-table (busesIn (N .station)) k s 0 h)
+      ∙ ap (λ (c : ℕ). sizeFor (o .gaps) c (rowCount N s)) (getD-table (busesIn (N .station)) k s 0 h)
 
-  pub held-frame : (s : ℕ) → s < k → frameAt (fs o N) s ≡ frameIn N p exit s
+  pub held-frame : (s : ℕ) → s < k → frameAt (fs o N) s ≡ frameIn o N p exit s
   unfolding frameIn frameFor sizeFor widthFor heightFor
   held-frame s h =
-      frame-at s h ∙ ap (frameFor (unit o N) (getD (scales o N) s f1)) (size-at s h)
-      ∙ ap (λ (x : Float). frameFor (unit o N) x (sizeFor (busesIn (N .station) s) (rowCount N s))) (sym (held-scale s h))
-      ∙ ap (λ (u : Float). frameFor u (getD (exit .scales) s nan) (sizeFor (busesIn (N .station) s) (rowCount N s))) (sym unit-of)
+      frame-at s h ∙ ap (frameFor (measuresOf o (unit o N)) (getD (scales o N) s f1)) (size-at s h)
+      ∙ ap (λ (x : Float). frameFor (measuresOf o (unit o N)) x (sizeFor (o .gaps) (busesIn (N .station) s) (rowCount N s))) (sym (held-scale s h))
+      ∙ ap (λ (u : Float). frameFor (measuresOf o u) (getD (exit .scales) s nan) (sizeFor (o .gaps) (busesIn (N .station) s) (rowCount N s))) (sym unit-of)
 
   pub block-at : (s : ℕ) → s < k → blockAt (blocks o N) s ≡ p .unit ⊗ getD (exit .scales) s nan
   unfolding frameIn
@@ -146,12 +146,12 @@ module _ (o : Options) (N : Network) (L : Lists) (W : Work) (X : Crossings) (p :
       let l : e < length (drawing o N .roles) = subst (λ (n : ℕ). e < n) (sym (roles-length o N)) h in
       ap (λ (m : List ℕ). getD m e 3) (written .roles) ∙ read-one (drawing o N .roles) _ e 3 (role Undrawn) l ∙ role-at o N e h
 
-  pub held-end : (i r : ℕ) → i < length (N .station) → rowEndIn N p exit i r ≡ slotAt o N i r
+  pub held-end : (i r : ℕ) → i < length (N .station) → rowEndIn o N p exit i r ≡ slotAt o N i r
   unfolding rowEndIn rowEnd
   held-end i r h =
       let s = stationOf (N .station) i in
       let l : stationOf (N .station) i < k = station-below (N .station) i h in
       unfold rowY in
-      ap (λ (x : Float). point x (rowY (boxAt (exit .boxes) s) (p .unit ⊗ getD (exit .scales) s nan) r)) (bar-at i h)
-      ∙ ap (λ (b : Box). point (barAt (drawing o N .bars) i .x) (rowY b (p .unit ⊗ getD (exit .scales) s nan) r)) (held-box s l)
-      ∙ ap (λ (f : Float). point (barAt (drawing o N .bars) i .x) (rowY (boxIn (drawing o N .boxes) s) f r)) (sym (block-at s l))
+      ap (λ (x : Float). point x (rowY (o .gaps) (boxAt (exit .boxes) s) (p .unit ⊗ getD (exit .scales) s nan) r)) (bar-at i h)
+      ∙ ap (λ (b : Box). point (barAt (drawing o N .bars) i .x) (rowY (o .gaps) b (p .unit ⊗ getD (exit .scales) s nan) r)) (held-box s l)
+      ∙ ap (λ (f : Float). point (barAt (drawing o N .bars) i .x) (rowY (o .gaps) (boxIn (drawing o N .boxes) s) f r)) (sym (block-at s l))

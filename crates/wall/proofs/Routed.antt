@@ -82,31 +82,31 @@ module _ (o : Options) (N : Network) (L : Lists) (W : Work) (X : Crossings) (p :
   exit-is s t y h = ap (λ (b : Box). point (pick (le (at s .x) (at t .x)) (b .right) (b .left)) y) (sym (held-box o N L W X p drawn s h))
 
   exit-of : (e i j : ℕ) → i < length (N .station)
-      → Exit.exit (drawing o N .boxes) (end o N) (stationOf (N .station) i) (stationOf (N .station) j) (slotAt o N i (rowNumber N (stationOf (N .station) i) e) .y) ≡ exitAt N p exit at e i j
+      → Exit.exit (drawing o N .boxes) (end o N) (stationOf (N .station) i) (stationOf (N .station) j) (slotAt o N i (rowNumber N (stationOf (N .station) i) e) .y) ≡ exitAt o N p exit at e i j
   exit-of e i j h =
       let s = stationOf (N .station) i in
       let t = stationOf (N .station) j in
       ap (λ (q : Point). Exit.exit (drawing o N .boxes) (end o N) s t (q .y)) (sym (held-end o N L W X p drawn i (rowNumber N s e) h))
-      ∙ exit-is s t (endIn N p exit e i .y) (station-below (N .station) i h)
+      ∙ exit-is s t (endIn o N p exit e i .y) (station-below (N .station) i h)
 
   -- ---- what lines are routed through
   abbrev straight : Rattle.runs.specs.Run.Scene
   straight = planned o N .scene
 
   line-by : (e : ℕ) (c : Kind) → Safe (N .station) c
-      → Drawing.lineFor straight (fromRow (N .station) (seeds o N) (allKinds N) e c) (toRow (N .station) (seeds o N) (allKinds N) e c) c ≡ lineOf N p exit at e c
+      → Drawing.lineFor straight (fromRow (N .station) (seeds o N) (allKinds N) e c) (toRow (N .station) (seeds o N) (allKinds N) e c) c ≡ lineOf o N p exit at e c
   unfolding Drawing.lineFor lineOf fromRow toRow Safe planned straightScene slot drawing
   line-by e Undrawn s = refl
   line-by e (Open a b) s = refl
   line-by e (Internal a b) s = refl
   line-by e (Line a b) s =
       ap (λ (q : Point). some (line q (Exit.exit (drawing o N .boxes) (end o N) (stationOf (N .station) b) (stationOf (N .station) a) (slotAt o N b (rowNumber N (stationOf (N .station) b) e) .y)))) (exit-of e a b (s .0))
-      ∙ ap (λ (q : Point). some (line (exitAt N p exit at e a b) q)) (exit-of e b a (s .1))
+      ∙ ap (λ (q : Point). some (line (exitAt o N p exit at e a b) q)) (exit-of e b a (s .1))
     where
       line : Point → Point → Route.Line
       line u w = record { sa = stationOf (N .station) a; sb = stationOf (N .station) b; exit0 = u; exit1 = w }
 
-  line-at : (e : ℕ) → e < length (N .from) → Drawing.lineOf straight e ≡ lineOf N p exit at e (kind N e)
+  line-at : (e : ℕ) → e < length (N .from) → Drawing.lineOf straight e ≡ lineOf o N p exit at e (kind N e)
   unfolding Drawing.lineOf planned straightScene
   line-at e h =
       let ks = allKinds N in
@@ -117,9 +117,9 @@ module _ (o : Options) (N : Network) (L : Lists) (W : Work) (X : Crossings) (p :
       ∙ ap (λ (c : Kind). Drawing.lineFor straight (F c) (G c) c) (kind-at o N e h)
       ∙ line-by e (kind N e) (kind-safe (N .station) (N .from) (N .to) (N .service) e)
 
-  lines-are : table (Drawing.lineOf straight) (length (allKinds N)) ≡ table (λ e. lineOf N p exit at e (kind N e)) (length (N .from))
+  lines-are : table (Drawing.lineOf straight) (length (allKinds N)) ≡ table (λ e. lineOf o N p exit at e (kind N e)) (length (N .from))
   lines-are =
-      ap (table (Drawing.lineOf straight)) (kinds-length o N) ∙ table-ext (Drawing.lineOf straight) (λ e. lineOf N p exit at e (kind N e)) (length (N .from)) line-at
+      ap (table (Drawing.lineOf straight)) (kinds-length o N) ∙ table-ext (Drawing.lineOf straight) (λ e. lineOf o N p exit at e (kind N e)) (length (N .from)) line-at
 
   scene : List Float → List Box → List Float → Float → List (Option Route.Line) → Route.Scene
   scene centres boxes scales gap lines =
@@ -151,15 +151,15 @@ module _ (o : Options) (N : Network) (L : Lists) (W : Work) (X : Crossings) (p :
     R = routedIn o N p exit at
 
     abbrev line : Route.Line
-    line = record { sa = stationOf (N .station) a; sb = stationOf (N .station) b; exit0 = exitAt N p exit at e a b; exit1 = exitAt N p exit at e b a }
+    line = record { sa = stationOf (N .station) a; sb = stationOf (N .station) b; exit0 = exitAt o N p exit at e a b; exit1 = exitAt o N p exit at e b a }
 
     in-lines : e < length (R .lines)
     unfolding routedIn
-    in-lines = subst (λ (n : ℕ). e < n) (sym (length-table (λ i. lineOf N p exit at i (kind N i)) (length (N .from)))) h
+    in-lines = subst (λ (n : ℕ). e < n) (sym (length-table (λ i. lineOf o N p exit at i (kind N i)) (length (N .from)))) h
 
     the-line : getD (R .lines) e none ≡ some line
     unfolding routedIn lineOf
-    the-line = getD-table (λ i. lineOf N p exit at i (kind N i)) (length (N .from)) e none h ∙ ap (lineOf N p exit at e) K
+    the-line = getD-table (λ i. lineOf o N p exit at i (kind N i)) (length (N .from)) e none h ∙ ap (lineOf o N p exit at e) K
 
     crossings-are : via o N e ≡ crossingPoints R (o .«route_iterations») e (stationOf (N .station) a) (stationOf (N .station) b)
     unfolding crossingPoints
@@ -212,11 +212,11 @@ module _ (o : Options) (N : Network) (L : Lists) (W : Work) (X : Crossings) (p :
     way = crossingPoints (routedIn o N p exit at) (o .«route_iterations») e s t
 
     pub line-points : u ∷ (ledWay o N s t (E ∷ (via o N e ++ (F ∷ []))) ++ (w ∷ []))
-        ≡ endIn N p exit e a ∷ (detoured o N p exit s t (exitAt N p exit at e a b ∷ (way ++ (exitAt N p exit at e b a ∷ []))) ++ (endIn N p exit e b ∷ []))
+        ≡ endIn o N p exit e a ∷ (detoured o N p exit s t (exitAt o N p exit at e a b ∷ (way ++ (exitAt o N p exit at e b a ∷ []))) ++ (endIn o N p exit e b ∷ []))
     line-points =
         ap (λ (q : Point). u ∷ (ledWay o N s t (q ∷ (via o N e ++ (F ∷ []))) ++ (w ∷ []))) (exit-of e a b f)
-        ∙ ap (λ (q : Point). u ∷ (ledWay o N s t (exitAt N p exit at e a b ∷ (via o N e ++ (q ∷ []))) ++ (w ∷ []))) (exit-of e b a g)
-        ∙ ap (λ (v : List Point). u ∷ (ledWay o N s t (exitAt N p exit at e a b ∷ (v ++ (exitAt N p exit at e b a ∷ []))) ++ (w ∷ []))) (crossings-are e a b h K)
-        ∙ ap (λ (v : List Point). u ∷ (v ++ (w ∷ []))) (led-is s t (exitAt N p exit at e a b ∷ (way ++ (exitAt N p exit at e b a ∷ []))))
-        ∙ ap (λ (q : Point). q ∷ (detoured o N p exit s t (exitAt N p exit at e a b ∷ (way ++ (exitAt N p exit at e b a ∷ []))) ++ (w ∷ []))) (sym (held-end o N L W X p drawn a (rowNumber N s e) f))
-        ∙ ap (λ (q : Point). endIn N p exit e a ∷ (detoured o N p exit s t (exitAt N p exit at e a b ∷ (way ++ (exitAt N p exit at e b a ∷ []))) ++ (q ∷ []))) (sym (held-end o N L W X p drawn b (rowNumber N t e) g))
+        ∙ ap (λ (q : Point). u ∷ (ledWay o N s t (exitAt o N p exit at e a b ∷ (via o N e ++ (q ∷ []))) ++ (w ∷ []))) (exit-of e b a g)
+        ∙ ap (λ (v : List Point). u ∷ (ledWay o N s t (exitAt o N p exit at e a b ∷ (v ++ (exitAt o N p exit at e b a ∷ []))) ++ (w ∷ []))) (crossings-are e a b h K)
+        ∙ ap (λ (v : List Point). u ∷ (v ++ (w ∷ []))) (led-is s t (exitAt o N p exit at e a b ∷ (way ++ (exitAt o N p exit at e b a ∷ []))))
+        ∙ ap (λ (q : Point). q ∷ (detoured o N p exit s t (exitAt o N p exit at e a b ∷ (way ++ (exitAt o N p exit at e b a ∷ []))) ++ (w ∷ []))) (sym (held-end o N L W X p drawn a (rowNumber N s e) f))
+        ∙ ap (λ (q : Point). endIn o N p exit e a ∷ (detoured o N p exit s t (exitAt o N p exit at e a b ∷ (way ++ (exitAt o N p exit at e b a ∷ []))) ++ (q ∷ []))) (sym (held-end o N L W X p drawn b (rowNumber N t e) g))

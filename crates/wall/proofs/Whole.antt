@@ -23,8 +23,9 @@ use Rattle.geometry.specs.declared.Point.{Point}
 use Rattle.geometry.specs.declared.Box.{Box}
 use Rattle.geometry.specs.Plane.{boxAt, shrunk}
 use Rattle.proximity.specs.Overlap.{overlap}
+use Rattle.network.specs.declared.options.Gaps.{Gaps}
 use Rattle.network.specs.declared.options.Options.{Options}
-use Rattle.network.specs.Options.{inRange, between, searchFits, searchOf}
+use Rattle.network.specs.Options.{inRange, between, searchFits, gapFits, gapsFit, searchOf}
 use Rattle.network.specs.declared.words.Known.the-variants.{Bus, Unknown}
 use Rattle.network.specs.declared.words.Kind.{Kind}
 use Rattle.network.specs.declared.words.Kind.the-variants.{Undrawn, Open, Internal, Line}
@@ -47,7 +48,7 @@ use Rattle.offsets.specs.Complete.{Complete}
 use Rattle.offsets.proofs.OffsetLaw.{offsets-complete}
 use Rattle.turns.proofs.OrderLaw.{bus-occupied, occupied-bus, tops, order-law}
 use Rattle.placement.proofs.NoOverlap.{order-covers, Finite, box-at, no-overlap}
-use Rattle.placement.proofs.Rank.{Plus}
+use Rattle.placement.proofs.Clear.{Outward}
 use Rattle.bars.specs.Bar.{position, barAt}
 use Rattle.runs.specs.Run.{Piece, pieces, isLine, allPieces, role}
 use Rattle.runs.specs.Finite.{allOf, finitePoint, finiteBox}
@@ -65,7 +66,7 @@ use Rattle.findings.proofs.Accepted.{accepted-apart}
 use Rattle.wall.specs.Wall.{Joins, kind, allKinds, roleOf, Kinds, HasRow, rowNumber, Rows, seed, Units, order, searched, frameIn, earlier, isFree, Boxes, positionIn, rowEndIn, pieceIn, piecesIn, coincide, joining, pointsBy, pointsOf, runOf, lineRun, otherRun, Runs, auditParts, audited, Wall}
 use Rattle.wall.proofs.Joins.{AllGood, joins, unbroken, absent}
 use Rattle.wall.proofs.Every.{Every, every-at, every-table, every-append, every-joined, every-within, pick-every}
-use Rattle.wall.proofs.NoMinus.{NoMinus, block, buffer-plus, unit-nm, scale-nm, finite-add}
+use Rattle.wall.proofs.NoMinus.{NoMinus, block, buffer-out, unit-nm, scale-nm, gap-range, finite-add}
 use Rattle.wall.proofs.Detours.{FitsPoint}
 use Rattle.wall.proofs.Opened.{counts, seeds, sizes, gap, unit, fs, os, end, slotAt, drawnPoints, Ended, kinds-length, kind-at, run-points, points-fit, pieces-is, boxes-is}
 use Rattle.wall.proofs.Call.{in-range, boxes-finite, runs-finite}
@@ -98,6 +99,16 @@ record Ranges (o : Options) : Type 0 where
   first : NoMinus (o .«tier_scale_1»)
   second : NoMinus (o .«tier_scale_2»)
   search : T (searchFits (o .search))
+  buffer : NoMinus (o .gaps .buffer) × T (isFinite (o .gaps .buffer))
+
+buffer-range : (G : Gaps) → T (gapsFit G) → NoMinus (G .buffer) × T (isFinite (G .buffer))
+unfolding gapsFit
+buffer-range G h =
+    let q₁ = gapFits (G .«bar_gap») in
+    let q₂ = gapFits (G .pad) in
+    let q₃ = gapFits (G .«min_bar») in
+    let q₄ = gapFits (G .buffer) in
+    gap-range (G .buffer) (and-r q₃ q₄ (and-r q₂ (q₃ && q₄) (and-r q₁ (q₂ && (q₃ && q₄)) h)))
 
 ranges : (o : Options) → T (inRange o) → Ranges o
 unfolding inRange
@@ -107,16 +118,19 @@ ranges o h =
     let q₃ = between f0 (o .«tier_radius») (ofBits binary64 0x408F_4000_0000_0000) in
     let q₄ = between (ofBits binary64 0x3F90_0000_0000_0000) (o .«tier_scale_1») f1 in
     let q₅ = between (ofBits binary64 0x3F90_0000_0000_0000) (o .«tier_scale_2») f1 in
-    let q₆ = searchFits (o .search) && leb (o .«route_iterations») 100 in
+    let q₇ = gapsFit (o .gaps) && leb (o .«route_iterations») 100 in
+    let q₆ = searchFits (o .search) && q₇ in
     let h₂ = and-r q₁ (q₂ && (q₃ && (q₄ && (q₅ && q₆)))) h in
     let h₃ = and-r q₂ (q₃ && (q₄ && (q₅ && q₆))) h₂ in
     let h₄ = and-r q₃ (q₄ && (q₅ && q₆)) h₃ in
     let h₅ = and-r q₄ (q₅ && q₆) h₄ in
+    let h₆ = and-r q₅ q₆ h₅ in
     record {
       fill = and-l q₁ (q₂ && (q₃ && (q₄ && (q₅ && q₆)))) h;
       first = scale-nm (o .«tier_scale_1») (and-l q₄ (q₅ && q₆) h₄);
       second = scale-nm (o .«tier_scale_2») (and-l q₅ q₆ h₅);
-      search = and-l (searchFits (o .search)) (leb (o .«route_iterations») 100) (and-r q₅ q₆ h₅);
+      search = and-l (searchFits (o .search)) q₇ h₆;
+      buffer = buffer-range (o .gaps) (and-l (gapsFit (o .gaps)) (leb (o .«route_iterations») 100) (and-r (searchFits (o .search)) q₇ h₆));
     }
 
 search-fits : (z : ℤ) → T (searchFits z) → searchOf z ≤ 20
@@ -282,7 +296,7 @@ module _ (o : Options) (N : Network) (L : Lists) (W : Work) (X : Crossings) (p :
       let ra = rowNumber N (stationOf (N .station) a) e in
       let rb = rowNumber N (stationOf (N .station) b) e in
       h ∙ ap (λ (u : Point). u ∷ slotAt o N b rb ∷ []) (sym (held-end o N L W X p drawn a ra (s .0)))
-      ∙ ap (λ (v : Point). rowEndIn N p exit a ra ∷ v ∷ []) (sym (held-end o N L W X p drawn b rb (s .1)))
+      ∙ ap (λ (v : Point). rowEndIn o N p exit a ra ∷ v ∷ []) (sym (held-end o N L W X p drawn b rb (s .1)))
   points-by e l points (Line a b) q s h = h ∙ line-points o N L W X p drawn e a b l q (s .0) (s .1)
 
   points-are : (e : ℕ) → e < length (N .from) → drawnPoints o N e ≡ pointsOf o N p exit at e
@@ -404,20 +418,20 @@ module _ (o : Options) (N : Network) (L : Lists) (W : Work) (X : Crossings) (p :
         turns = turns-of;
         offsets = offsets-of;
         first = λ i h.
-            first-moved (frameAt (fs o N) (getD (order N) i 0)) (frameIn N p exit (getD (order N) i 0)) (map (boxOf (fs o N) (end o N)) (take i (order N))) (earlier N exit i)
+            first-moved (frameAt (fs o N) (getD (order N) i 0)) (frameIn o N p exit (getD (order N) i 0)) (map (boxOf (fs o N) (end o N)) (take i (order N))) (earlier N exit i)
             (seed N (getD (order N) i 0)) (placeAt (end o N) (getD (order N) i 0)) (os o N)
             (held-frame o N L W X p drawn (getD (order N) i 0) (below (getD (order N) i 0) (at-turn i h))) (earlier-are i h)
             (place-of (fs o N) (os o N) (seeds o N) (order N) turns i h);
       }
 
   -- ---- the audit
-  found : ((i : ℕ) → i < length (order N) → isFree N exit p i (placeAt (end o N) (getD (order N) i 0)) ≡ true)
+  found : ((i : ℕ) → i < length (order N) → isFree o N exit p i (placeAt (end o N) (getD (order N) i 0)) ≡ true)
       → (i : ℕ) → i < length (order N) → foundFree (fs o N) (os o N) (seeds o N) (order N) i ≡ true
   found f i h =
       let s = getD (order N) i 0 in
       found-is (fs o N) (os o N) (seeds o N) (order N) turns i h
       ∙ ap (λ (r : Frame). free (buffered (placeAt (end o N) s) r) (map (boxOf (fs o N) (end o N)) (take i (order N)))) (held-frame o N L W X p drawn s (below s (at-turn i h)))
-      ∙ ap (free (buffered (placeAt (end o N) s) (frameIn N p exit s))) (earlier-are i h) ∙ f i h
+      ∙ ap (free (buffered (placeAt (end o N) s) (frameIn o N p exit s))) (earlier-are i h) ∙ f i h
 
   finite-at : (s : ℕ) → Filled s → Finite (boxOf (fs o N) (end o N) s)
   unfolding finiteBox
@@ -437,20 +451,20 @@ module _ (o : Options) (N : Network) (L : Lists) (W : Work) (X : Crossings) (p :
       no-box : T (finiteBox noBox)
       no-box = unfold isFinite ofBits lib.Ieee.ofFields lib.Ieee.odd in tt
 
-  plus-at : (s : ℕ) → Filled s → Plus (Rattle.float.specs.Ops._⊗_ (frameAt (fs o N) s .f) Rattle.network.specs.Options.buffer)
+  out-at : (s : ℕ) → Filled s → Outward (Rattle.float.specs.Ops._⊗_ (frameAt (fs o N) s .f) (frameAt (fs o N) s .buffer))
   unfolding boxOf boxOn
-  plus-at s h =
+  out-at s h =
       let R = ranges o (in-range o N L W X p drawn) in
-      let B = block o (seeds o N) (counts o N) (gap o N) (unit o N) (sizes o N) (unit-nm (o .fill) (seeds o N) (counts o N) (sizes o N) (R .fill)) (R .first) (R .second) s in
-      buffer-plus (frameAt (fs o N) s) B (finite-add (placeAt (end o N) s .x) (frameAt (fs o N) s .half .w) (finite-at s h .2))
+      let B = block o (seeds o N) (counts o N) (gap o N) (unit o N) (sizes o N) (unit-nm (o .fill) (seeds o N) (counts o N) (sizes o N) (R .fill)) (R .first) (R .second) (R .buffer .0) (R .buffer .1) s in
+      buffer-out (frameAt (fs o N) s) B (finite-add (placeAt (end o N) s .x) (frameAt (fs o N) s .half .w) (finite-at s h .2))
 
-  clean : ((i : ℕ) → i < length (order N) → isFree N exit p i (placeAt (end o N) (getD (order N) i 0)) ≡ true)
+  clean : ((i : ℕ) → i < length (order N) → isFree o N exit p i (placeAt (end o N) (getD (order N) i 0)) ≡ true)
       → (A : Audit.Lists) (Z : Audit.Work) (f : Figures) → auditOf (audited N exit (p .pieces)) A Z .answer ≡ Audited f → f .overlaps ≡ 0
   unfolding audited auditParts boxesOf
   clean free A Z f e =
       accepted-apart (audited N exit (p .pieces)) A Z f (λ s t n h k.
       subst (λ (l : List Box). overlap (shrunk (boxIn l t)) (boxIn l s) ≡ false) (sym (held-boxes o N L W X p drawn))
-      (no-overlap (N .station) (N .kv) (counts o N) (fs o N) (os o N) (seeds o N) (seeds-length N) (found free) plus-at finite-at s t n h k)) e
+      (no-overlap (N .station) (N .kv) (counts o N) (fs o N) (os o N) (seeds o N) (seeds-length N) (found free) out-at finite-at s t n h k)) e
 
   -- THE CLAIM
   pub wall : Wall o N (layoutOf o N L W X .lists) p

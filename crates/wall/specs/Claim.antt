@@ -95,4 +95,4 @@ pub record Claim (o : Options) (N : Network) (L : Lists) (W : Work) (X : Crossin
   pub wall : (p : Plot) → Plots (B .answer) p → Wall o N (B .lists) p
   -- Figures count no overlap if every station found a free place.
   pub clean : (p : Plot) (f : Figures) (drawn : Plots (B .answer) p) → B .answer ≡ Checks.Audited p f
-      → ((i : ℕ) → i < length (order N) → isFree N (B .lists) p i (wall p drawn .boxes .places (getD (order N) i 0)) ≡ true) → f .overlaps ≡ 0
+      → ((i : ℕ) → i < length (order N) → isFree o N (B .lists) p i (wall p drawn .boxes .places (getD (order N) i 0)) ≡ true) → f .overlaps ≡ 0

@@ -142,8 +142,8 @@ pub record Rows (N : Network) (s : ℕ) : Type 0 where
 abbrev pub allSeeds : Network → List Point
 allSeeds N = seeds (N .station) (N .xy)
 
-abbrev pub allSizes : Network → List Size
-allSizes N = sizes (N .station) (allKinds N) (busCounts (N .station))
+abbrev pub allSizes : Options → Network → List Size
+allSizes o N = sizes (o .gaps) (N .station) (allKinds N) (busCounts (N .station))
 
 abbrev pub spacingOf : Network → Float
 spacingOf N = spacing (allSeeds N) (busCounts (N .station))
@@ -152,7 +152,7 @@ pub record Units (o : Options) (N : Network) (L : Lists) (p : Plot) : Type 0 whe
   -- A station's seed is the mean of its bus points, summed in bus order (`network` specs Seed).
   pub seeds : (s : ℕ) → s < stationCount (N .station) → seed N s ≡ mean (busesIn (N .station) s) (sumTo (N .station) (N .xy) s (length (N .station)))
   -- The unit is fill × spacing / typical (`units` specs Unit).
-  pub unit : p .unit ≡ unitFor (o .fill) (spacingOf N) (typical (allSizes N) (busCounts (N .station)))
+  pub unit : p .unit ≡ unitFor (o .fill) (spacingOf N) (typical (allSizes o N) (busCounts (N .station)))
   -- Each station's scale is that of its tier (`units` specs Scale).
   pub scale : (s : ℕ) → s < stationCount (N .station) → getD (L .scales) s nan ≡ getD (scales o (allSeeds N) (busCounts (N .station)) (spacingOf N)) s f1
 
@@ -200,34 +200,34 @@ pub record Turns (N : Network) : Type 0 where
 abbrev pub searched : Options → List Offset
 searched o = offsets (searchOf (o .search))
 
--- what station s's interior is drawn in: half its sides, 2 × (buses − 1) + 2 and max(rows, 2) + 2 blocks, and its block, unit × scale
-unfoldable pub frameIn : Network → Plot → Lists → ℕ → Frame
-frameIn N p L s =
+-- what station s's interior is drawn in: half its sides, gap × (buses − 1) + 2 × padding and max(rows, shortest bar) + 2 × padding blocks, its block, unit × scale, and its buffer
+unfoldable pub frameIn : Options → Network → Plot → Lists → ℕ → Frame
+frameIn o N p L s =
     let f = p .unit ⊗ getD (L .scales) s nan in
-    let w = num (busesIn (N .station) s - 1) ⊗ f2 ⊕ f2 ⊗ f1 in
-    let h = maxOf (num (rowCount N s)) f2 ⊕ f2 ⊗ f1 in
-    record { half = record { w = w ⊗ f ⊘ f2; h = h ⊗ f ⊘ f2 }; f = f }
+    let w = o .gaps .«bar_gap» ⊗ num (busesIn (N .station) s - 1) ⊕ f2 ⊗ o .gaps .pad in
+    let h = maxOf (num (rowCount N s)) (o .gaps .«min_bar») ⊕ f2 ⊗ o .gaps .pad in
+    record { half = record { w = w ⊗ f ⊘ f2; h = h ⊗ f ⊘ f2 }; f = f; buffer = o .gaps .buffer }
 
 -- the boxes of the stations placed before the i-th
 abbrev pub earlier : Network → Lists → ℕ → List Box
 earlier N L i = map (boxAt (L .boxes)) (take i (order N))
 
 -- At c the i-th station's box with its buffer strictly overlaps no earlier box.
-abbrev pub isFree : Network → Lists → Plot → ℕ → Point → Bool
-isFree N L p i c = free (buffered c (frameIn N p L (getD (order N) i 0))) (earlier N L i)
+abbrev pub isFree : Options → Network → Lists → Plot → ℕ → Point → Bool
+isFree o N L p i c = free (buffered c (frameIn o N p L (getD (order N) i 0))) (earlier N L i)
 
 pub record Boxes (o : Options) (N : Network) (L : Lists) (p : Plot) : Type 0 where
   -- the stations' places
   pub places : ℕ → Point
   -- The four numbers of an occupied station's box are those of its box centred at its place.
-  pub stands : (s : ℕ) → Occupied N s → boxAt (L .boxes) s ≡ boxOn (places s) (frameIn N p L s .half)
+  pub stands : (s : ℕ) → Occupied N s → boxAt (L .boxes) s ≡ boxOn (places s) (frameIn o N p L s .half)
   -- Stations are placed one after another, in this order.
   pub turns : Turns N
   -- Offsets are those within the search, each once, in their order.
   pub offsets : Complete (searchOf (o .search)) (searched o)
   -- The i-th station's place is the first free one of the search, or its seed if none is free.
   pub first : (i : ℕ) → i < length (order N)
-      → FirstOf (isFree N L p i) (tries (seed N (turn N i)) (frameIn N p L (turn N i) .half) (searched o)) (seed N (turn N i)) (places (turn N i))
+      → FirstOf (isFree o N L p i) (tries (seed N (turn N i)) (frameIn o N p L (turn N i) .half) (searched o)) (seed N (turn N i)) (places (turn N i))
 
 -- ---- bars (01, 2 and 6)
 
@@ -250,21 +250,22 @@ RowAt N i r =
 abbrev pub blockIn : Plot → Lists → ℕ → Float
 blockIn p L s = p .unit ⊗ getD (L .scales) s nan
 
--- A bar's x is left + (1 + 2 × column) × f.
-abbrev pub barXIn : Network → Plot → Lists → ℕ → Float
-barXIn N p L i =
+-- A bar's x is left + (padding + gap × column) × f.
+abbrev pub barXIn : Options → Network → Plot → Lists → ℕ → Float
+barXIn o N p L i =
     let s = stationOf (N .station) i in
-    boxAt (L .boxes) s .left ⊕ (f1 ⊕ num (columnOf N i) ⊗ f2) ⊗ blockIn p L s
+    boxAt (L .boxes) s .left ⊕ (o .gaps .pad ⊕ o .gaps .«bar_gap» ⊗ num (columnOf N i)) ⊗ blockIn p L s
 
--- A row's y is top + (1 + row + 0.5) × f.
-abbrev pub rowYIn : Plot → Lists → ℕ → ℕ → Float
-rowYIn p L s r = boxAt (L .boxes) s .top ⊕ (f1 ⊕ num r ⊕ f½) ⊗ blockIn p L s
+-- A row's y is top + (padding + row + 0.5) × f.
+abbrev pub rowYIn : Options → Plot → Lists → ℕ → ℕ → Float
+rowYIn o p L s r = boxAt (L .boxes) s .top ⊕ (o .gaps .pad ⊕ num r ⊕ f½) ⊗ blockIn p L s
 
--- the four numbers of a bar at x from y0 to y1: if shorter than 2 × f it gets that length about its middle
-unfoldable pub barFrom : Float → Float → Float → Float → List Float
-barFrom f x y0 y1 =
+-- the four numbers of a bar at x from y0 to y1: if shorter than shortest bar × f it gets that length about its middle
+unfoldable pub barFrom : Options → Float → Float → Float → Float → List Float
+barFrom o f x y0 y1 =
     let m = (y0 ⊕ y1) ⊘ f2 in
-    pick (lt (y1 ⊖ y0) (f2 ⊗ f)) (x ∷ (m ⊖ f2 ⊗ f ⊘ f2) ∷ x ∷ (m ⊕ f2 ⊗ f ⊘ f2) ∷ []) (x ∷ y0 ∷ x ∷ y1 ∷ [])
+    let least = o .gaps .«min_bar» ⊗ f in
+    pick (lt (y1 ⊖ y0) least) (x ∷ (m ⊖ least ⊘ f2) ∷ x ∷ (m ⊕ least ⊘ f2) ∷ []) (x ∷ y0 ∷ x ∷ y1 ∷ [])
 
 -- those of bus i in the list of bars, and its two in the list of positions
 abbrev pub barIn : Lists → ℕ → List Float
@@ -273,19 +274,19 @@ barIn L i = getD (L .bars) (4 * i) nan ∷ getD (L .bars) (4 * i + 1) nan ∷ ge
 abbrev pub positionIn : Lists → ℕ → Point
 positionIn L i = pointAt (L .positions) i
 
-pub record Bars (N : Network) (L : Lists) (p : Plot) : Type 0 where
-  -- A bar without rows runs from top + f to top + 3 × f.
+pub record Bars (o : Options) (N : Network) (L : Lists) (p : Plot) : Type 0 where
+  -- A bar without rows runs from top + padding × f to top + (padding + shortest bar) × f.
   pub bare : Patterns N → (i : ℕ) → i < length (N .station) → ((r : ℕ) → RowAt N i r → ⊥)
       → barIn L i
-      ≡ barFrom (blockIn p L (stationOf (N .station) i)) (barXIn N p L i)
-      (boxAt (L .boxes) (stationOf (N .station) i) .top ⊕ f1 ⊗ blockIn p L (stationOf (N .station) i))
-      (boxAt (L .boxes) (stationOf (N .station) i) .top ⊕ (f1 ⊕ f2) ⊗ blockIn p L (stationOf (N .station) i))
+      ≡ barFrom o (blockIn p L (stationOf (N .station) i)) (barXIn o N p L i)
+      (boxAt (L .boxes) (stationOf (N .station) i) .top ⊕ o .gaps .pad ⊗ blockIn p L (stationOf (N .station) i))
+      (boxAt (L .boxes) (stationOf (N .station) i) .top ⊕ (o .gaps .pad ⊕ o .gaps .«min_bar») ⊗ blockIn p L (stationOf (N .station) i))
   -- Another runs from its first row's y − 0.5 × f to its last row's y + 0.5 × f.
   pub spanned : Patterns N → (i a b : ℕ) → i < length (N .station) → RowAt N i a → RowAt N i b → ((r : ℕ) → RowAt N i r → (a ≤ r) × (r ≤ b))
       → barIn L i
-      ≡ barFrom (blockIn p L (stationOf (N .station) i)) (barXIn N p L i)
-      (rowYIn p L (stationOf (N .station) i) a ⊖ f½ ⊗ blockIn p L (stationOf (N .station) i))
-      (rowYIn p L (stationOf (N .station) i) b ⊕ f½ ⊗ blockIn p L (stationOf (N .station) i))
+      ≡ barFrom o (blockIn p L (stationOf (N .station) i)) (barXIn o N p L i)
+      (rowYIn o p L (stationOf (N .station) i) a ⊖ f½ ⊗ blockIn p L (stationOf (N .station) i))
+      (rowYIn o p L (stationOf (N .station) i) b ⊕ f½ ⊗ blockIn p L (stationOf (N .station) i))
   -- `positions` holds its x and middle.
   pub positions : (i : ℕ) → i < length (N .station)
       → positionIn L i ≡ point (getD (L .bars) (4 * i) nan) ((getD (L .bars) (4 * i + 1) nan ⊕ getD (L .bars) (4 * i + 3) nan) ⊘ f2)
@@ -293,33 +294,33 @@ pub record Bars (N : Network) (L : Lists) (p : Plot) : Type 0 where
 -- ---- routes (01, 7)
 
 -- A row end of bus i has its bar's x and its row's y.
-unfoldable pub rowEndIn : Network → Plot → Lists → ℕ → ℕ → Point
-rowEndIn N p L i r = point (getD (L .bars) (4 * i) nan) (rowYIn p L (stationOf (N .station) i) r)
+unfoldable pub rowEndIn : Options → Network → Plot → Lists → ℕ → ℕ → Point
+rowEndIn o N p L i r = point (getD (L .bars) (4 * i) nan) (rowYIn o p L (stationOf (N .station) i) r)
 
 -- that of branch e
-abbrev pub endIn : Network → Plot → Lists → ℕ → ℕ → Point
-endIn N p L e i = rowEndIn N p L i (rowNumber N (stationOf (N .station) i) e)
+abbrev pub endIn : Options → Network → Plot → Lists → ℕ → ℕ → Point
+endIn o N p L e i = rowEndIn o N p L i (rowNumber N (stationOf (N .station) i) e)
 
 -- The exit of station s towards station t, at the height y: on the box's right side if t's place isn't left of its own, else on its left side.
 abbrev pub exitIn : Lists → (ℕ → Point) → ℕ → ℕ → Float → Point
 exitIn L places s t y = point (pick (le (places s .x) (places t .x)) (boxAt (L .boxes) s .right) (boxAt (L .boxes) s .left)) y
 
 -- the exit of a branch's end at bus i towards the station of bus j
-abbrev pub exitAt : Network → Plot → Lists → (ℕ → Point) → ℕ → ℕ → ℕ → Point
-exitAt N p L places e i j = exitIn L places (stationOf (N .station) i) (stationOf (N .station) j) (endIn N p L e i .y)
+abbrev pub exitAt : Options → Network → Plot → Lists → (ℕ → Point) → ℕ → ℕ → ℕ → Point
+exitAt o N p L places e i j = exitIn L places (stationOf (N .station) i) (stationOf (N .station) j) (endIn o N p L e i .y)
 
 -- what is routed of branch e: a line's stations and exits
-unfoldable pub lineOf : Network → Plot → Lists → (ℕ → Point) → ℕ → Kind → Option Route.Line
-lineOf N p L places e Undrawn = none
-lineOf N p L places e (Open a b) = none
-lineOf N p L places e (Internal a b) = none
-lineOf N p L places e (Line a b) =
+unfoldable pub lineOf : Options → Network → Plot → Lists → (ℕ → Point) → ℕ → Kind → Option Route.Line
+lineOf o N p L places e Undrawn = none
+lineOf o N p L places e (Open a b) = none
+lineOf o N p L places e (Internal a b) = none
+lineOf o N p L places e (Line a b) =
     some
     (record {
       sa = stationOf (N .station) a;
       sb = stationOf (N .station) b;
-      exit0 = exitAt N p L places e a b;
-      exit1 = exitAt N p L places e b a;
+      exit0 = exitAt o N p L places e a b;
+      exit1 = exitAt o N p L places e b a;
     })
 
 -- the boxes of all stations, and the occupied ones' numbers
@@ -344,7 +345,7 @@ routedIn o N p L places =
       gap = gapOf (p .unit);
       corners = ifUsed o N (N .corners);
       twins = ifUsed o N (N .twins);
-      lines = table (λ e. lineOf N p L places e (kind N e)) (length (N .from));
+      lines = table (λ e. lineOf o N p L places e (kind N e)) (length (N .from));
     }
 
 -- A line from station s to station t crosses the mesh edges that `route_lines` walks over (`walk` specs Trace).
@@ -423,13 +424,13 @@ OnePoint (p ∷ ps) = AllAt p ps
 unfoldable pub pointsBy : Options → Network → Plot → Lists → (ℕ → Point) → ℕ → Kind → List Point
 pointsBy o N p L places e Undrawn = []
 pointsBy o N p L places e (Open a b) = positionIn L a ∷ positionIn L b ∷ []
-pointsBy o N p L places e (Internal a b) = endIn N p L e a ∷ endIn N p L e b ∷ []
+pointsBy o N p L places e (Internal a b) = endIn o N p L e a ∷ endIn o N p L e b ∷ []
 pointsBy o N p L places e (Line a b) =
     let s = stationOf (N .station) a in
     let t = stationOf (N .station) b in
     let crossings = crossingPoints (routedIn o N p L places) (o .«route_iterations») e s t in
-    let path = exitAt N p L places e a b ∷ (crossings ++ (exitAt N p L places e b a ∷ [])) in
-    endIn N p L e a ∷ (detoured o N p L s t path ++ (endIn N p L e b ∷ []))
+    let path = exitAt o N p L places e a b ∷ (crossings ++ (exitAt o N p L places e b a ∷ [])) in
+    endIn o N p L e a ∷ (detoured o N p L s t path ++ (endIn o N p L e b ∷ []))
 
 abbrev pub pointsOf : Options → Network → Plot → Lists → (ℕ → Point) → ℕ → List Point
 pointsOf o N p L places e = pointsBy o N p L places e (kind N e)
@@ -474,8 +475,8 @@ pub record Wall (o : Options) (N : Network) (L : Lists) (p : Plot) : Type 0 wher
   pub rows : (s : ℕ) → Rows N s
   pub units : Units o N L p
   pub boxes : Boxes o N L p
-  pub bars : Bars N L p
+  pub bars : Bars o N L p
   pub runs : Runs o N L p (boxes .places)
   -- If every station found a free place, every audit that accepts the drawing, whatever lists are lent to it, counts 0 overlaps.
-  pub audit : ((i : ℕ) → i < length (order N) → isFree N L p i (boxes .places (getD (order N) i 0)) ≡ true)
+  pub audit : ((i : ℕ) → i < length (order N) → isFree o N L p i (boxes .places (getD (order N) i 0)) ≡ true)
       → (A : Audit.Lists) (W : Audit.Work) (f : Figures) → auditOf (audited N L (p .pieces)) A W .answer ≡ Audited f → f .overlaps ≡ 0

@@ -195,6 +195,10 @@ impl Settings {
             "--tier-radius" => self.options.tier_radius = radius(name, value)?,
             "--tier-counts" => self.options.tier_counts = counts(name, value)?,
             "--tier-scales" => self.options.tier_scales = scales(name, value)?,
+            "--bar-gap" => self.options.bar_gap = gap(name, value)?,
+            "--padding" => self.options.pad = gap(name, value)?,
+            "--shortest-bar" => self.options.min_bar = gap(name, value)?,
+            "--buffer" => self.options.buffer = gap(name, value)?,
             _ => self.options.route_iterations = whole(name, value, 100)?,
         }
         Ok(())
@@ -238,6 +242,13 @@ fn radius(name: &str, value: &str) -> Result<f64, Fault> {
     match ratio(value).filter(|x| (0.0..=1000.0).contains(x)) {
         Some(x) => Ok(x),
         None => out_of_range(name, value, "a number from 0 to 1000"),
+    }
+}
+
+fn gap(name: &str, value: &str) -> Result<f64, Fault> {
+    match ratio(value).filter(|x| (0.5..=8.0).contains(x)) {
+        Some(x) => Ok(x),
+        None => out_of_range(name, value, "a number from 0.5 to 8"),
     }
 }
 
@@ -304,6 +315,14 @@ mod tests {
     }
 
     #[test]
+    fn the_four_gaps() {
+        let s = run("audit a --bar-gap 3 --padding=1/2 --shortest-bar 8 --buffer 0.75").unwrap().options;
+        assert_eq!((s.bar_gap, s.pad, s.min_bar, s.buffer), (3.0, 0.5, 8.0, 0.75));
+        let s = run("audit a").unwrap().options;
+        assert_eq!((s.bar_gap, s.pad, s.min_bar, s.buffer), (2.0, 1.0, 2.0, 1.0));
+    }
+
+    #[test]
     fn list_has_the_options_of_drawlist() {
         let s = run("list -- -odd").unwrap();
         assert_eq!((s.options.fill, s.options.route_iterations, s.network.as_str()), (0.5, 0, "-odd"));
@@ -330,6 +349,9 @@ mod tests {
             ("audit a --tier-radius -1", "--tier-radius: expected a number from 0 to 1000, found '-1' (refused 5: an option is out of range)"),
             ("audit a --tier-counts 3", "--tier-counts: expected two whole numbers from 0 to 4294967295 with a comma between, such as 12,30, found '3' (refused 5: an option is out of range)"),
             ("audit a --tier-scales 1,2", "--tier-scales: expected two numbers from 1/64 to 1 with a comma between, such as 2/3,4/9, found '1,2' (refused 5: an option is out of range)"),
+            ("audit a --bar-gap 0.4", "--bar-gap: expected a number from 0.5 to 8, found '0.4' (refused 5: an option is out of range)"),
+            ("audit a --buffer 8.000000000000002", "--buffer: expected a number from 0.5 to 8, found '8.000000000000002' (refused 5: an option is out of range)"),
+            ("check a b --padding 1", "--padding isn't an option of check"),
             ("draw a -o b --tiles A4", "--tiles: expected -o FILE.pdf: tiles are pages of a PDF file"),
             ("audit a --tiles A4", "--tiles isn't an option of audit"),
             ("draw a -o b --paper A5", "--paper: expected A0, A1, A2, A3 or A4, found 'A5'"),

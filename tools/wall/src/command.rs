@@ -13,7 +13,7 @@ pub const COMMANDS: &str = "expected a command: draw, audit, list, compare or ch
 
 /// Options without and with a value.
 const FLAGS: [&str; 4] = ["--strict", "--y-up", "--allow-empty", "--anyway"];
-const VALUES: [&str; 14] = [
+const VALUES: [&str; 18] = [
     "-o",
     "--output",
     "--csv",
@@ -28,6 +28,10 @@ const VALUES: [&str; 14] = [
     "--tier-radius",
     "--tier-counts",
     "--tier-scales",
+    "--bar-gap",
+    "--padding",
+    "--shortest-bar",
+    "--buffer",
 ];
 
 impl Command {

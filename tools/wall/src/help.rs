@@ -52,6 +52,13 @@ Options of the drawing:
       --tier-counts A,B  from A (B) neighbours up a substation is drawn at
                          the first (second) scale                           [12,30]
       --tier-scales A,B  the two scales: 1/64 to 1                        [2/3,4/9]
+      --bar-gap G        from one bar to the next, in rows of a box: 0.5 to 8   [2]
+      --padding P        from each side of a box to its bars and rows:
+                         0.5 to 8                                               [1]
+      --shortest-bar S   the least length of a bar: 0.5 to 8; a bar can leave its
+                         box where half of it is above the padding and half a row
+                         more, and a note names such bars                       [2]
+      --buffer B         kept free around each box: 0.5 to 8                    [1]
       --y-up             y grows upwards, as northings do; without it, downwards
 
 list has drawlist's defaults: --fill 0.5 --iterations 0 --tier-radius 3.

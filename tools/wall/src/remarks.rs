@@ -1,4 +1,5 @@
-//! Remarks, by name, on what a reader of the sheet might take for a fault: buses without a branch, lines through boxes.
+//! Remarks, by name, on what a reader of the sheet might take for a fault: buses without a branch, lines through boxes, bars
+//! that leave their boxes.
 use crate::drawing::Drawing;
 use crate::network::Network;
 use crate::number::thousands;
@@ -9,10 +10,17 @@ const SHOWN: usize = 20;
 
 pub fn all(network: &Network, drawing: &Drawing) -> Vec<String> {
     let through = if drawing.quality.lines_through_boxes > 0 { through(network, drawing) } else { Vec::new() };
-    [remark("buses without a branch", &isolated(network, drawing)), remark("lines through boxes", &through)]
-        .into_iter()
-        .flatten()
-        .collect()
+    [
+        remark("buses without a branch", &isolated(network, drawing)),
+        remark("lines through boxes", &through),
+        remark(
+            "bars that leave their boxes, the shortest bar being long beside the padding",
+            &outside(network, drawing),
+        ),
+    ]
+    .into_iter()
+    .flatten()
+    .collect()
 }
 
 fn remark(what: &str, names: &[String]) -> Option<String> {
@@ -31,6 +39,17 @@ fn isolated(network: &Network, drawing: &Drawing) -> Vec<String> {
     }
     let buses = network.buses.iter().zip(joined).filter(|(_, joined)| !joined);
     buses.map(|(bus, _)| format!("'{}'", bus.name)).collect()
+}
+
+/// The buses whose bars reach above or below their boxes.
+fn outside(network: &Network, drawing: &Drawing) -> Vec<String> {
+    let layout = &drawing.layout;
+    let bars = layout.busbars.chunks_exact(4).zip(&network.buses);
+    let leaves = bars.filter(|(bar, bus)| {
+        let s = 4 * bus.station as usize;
+        bar[1] < layout.boxes[s + 1] || layout.boxes[s + 3] < bar[3]
+    });
+    leaves.map(|(_, bus)| format!("'{}'", bus.name)).collect()
 }
 
 /// Boxes by their left edges.

@@ -8,7 +8,7 @@ use Rattle.bars.proofs.lengthened.Lts as lts
 
 returns : tie.Need-returns
 unfolding lengthened
-returns c = rw (c .before .if1 .taken)
+returns c = rw (c .before .before .before .if1 .taken)
 
 returns-2 : tie.Need-returns-2
 unfolding lengthened

@@ -19,7 +19,7 @@ use Rattle.pieces.specs.Stages.Pieces.{runsIn}
 use Rattle.results.specs.Stages.Bars.{barsIn}
 use Rattle.crossings.specs.Gap.{gapOf}
 use Rattle.drawing.specs.Network.{Network}
-use Rattle.drawing.specs.Drawing.{drawing}
+use Rattle.drawing.specs.Drawing.{measuresOf, drawing}
 use Rattle.drawing.specs.Answer.{routedBy}
 
 -- The late refusal of a drawing up to its routes: 8, 9 or 10, where the crossing list holds so many.
@@ -33,10 +33,10 @@ pub record Charted (o : Options) (N : Network) (k room : ℕ) (unit : Float) (fi
   pub counts : countsIn k stations ≡ drawing o N .counts
   pub scales : scalesIn k blocks ≡ drawing o N .scales
   pub boxes : boxesIn k frames ≡ drawing o N .boxes
-  pub bars : barsIn (N .station) unit buses blocks frames ≡ drawing o N .bars
+  pub bars : barsIn (N .station) (measuresOf o unit) buses blocks frames ≡ drawing o N .bars
   pub lateIs : late ≡ routedLate o N room
   pub finiteIs : late ≡ 0 → finite ≡ (allOf finitePoint (drawing o N .seeds) && allOf isFinite (drawing o N .crossings))
   pub runs : late ≡ 0 → (cell : Float) → cell ≡ cellSize (boxesIn k frames) (occupied (countsIn k stations))
-      → runsIn (held (N .station) unit buses ends blocks places frames (lead (ltb 0 (o .«route_iterations»)) cell (gapOf unit) k stations ways)) (N .from) (N .to) (N .service)
+      → runsIn (held (N .station) (measuresOf o unit) buses ends blocks places frames (lead (ltb 0 (o .«route_iterations»)) cell (gapOf unit) k stations ways)) (N .from) (N .to) (N .service)
       ≡ drawing o N .runs
   pub fits : late ≡ 0 → (e : ℕ) → e < length (N .from) → Fits ends path e

@@ -16,7 +16,7 @@ use Rattle.results.specs.Stages.Bars.{barsIn}
 use Rattle.crossings.specs.Stages.Views.{grid}
 use Rattle.exits.specs.Stages.Exits.{Exited}
 use Rattle.drawing.specs.Network.{Network}
-use Rattle.drawing.specs.Drawing.{planned, straightScene}
+use Rattle.drawing.specs.Drawing.{measuresOf, planned, straightScene}
 
 -- Every part of the plan is what results are written from: the unit, sizes and boxes, and the scene that runs are drawn from.
 pub record Holds (o : Options) (N : Network) (k : ℕ) (unit : Float) (buses ends : List ℕ) (blocks places frames : List Float) : Type 0 where
@@ -24,17 +24,18 @@ pub record Holds (o : Options) (N : Network) (k : ℕ) (unit : Float) (buses end
   pub unitIs : unit ≡ planned o N .unit
   pub scales : scalesIn k blocks ≡ planned o N .scales
   pub boxes : boxesIn k frames ≡ planned o N .boxes
-  pub bars : barsIn (N .station) unit buses blocks frames ≡ planned o N .bars
+  pub bars : barsIn (N .station) (measuresOf o unit) buses blocks frames ≡ planned o N .bars
   pub scene :
       straightScene
       (N .station)
       (kinds (N .station) (N .from) (N .to) (N .service))
       (fromRowsIn (length (N .from)) ends)
       (toRowsIn (length (N .from)) ends)
-      (map (λ (r : Frame). r .f) (framesIn unit k blocks))
+      (o .gaps)
+      (map (λ (r : Frame). r .f) (framesIn (measuresOf o unit) k blocks))
       (boxesIn k frames)
       (pointsIn k places)
-      (barsIn (N .station) unit buses blocks frames)
+      (barsIn (N .station) (measuresOf o unit) buses blocks frames)
       ≡ planned o N .scene
 
 -- The same with the stations' bus counts and every line's exits; `finite` says whether all seeds are finite.
@@ -42,4 +43,4 @@ pub record Laid (o : Options) (N : Network) (k : ℕ) (unit : Float) (finite : B
   pub holds : Holds o N k unit buses ends blocks places frames
   pub counts : countsIn k stations ≡ busCounts (N .station)
   pub finiteIs : finite ≡ allOf finitePoint (planned o N .seeds)
-  pub exits : Exited (grid (N .station) (N .from) (N .to) (N .service) unit ends blocks places frames)
+  pub exits : Exited (grid (N .station) (N .from) (N .to) (N .service) (measuresOf o unit) ends blocks places frames)

@@ -14,6 +14,7 @@ use Rattle.network.specs.declared.words.Kind.{Kind}
 use Rattle.network.specs.declared.words.Kind.the-variants.{Undrawn, Open, Internal, Line}
 use Rattle.network.specs.Words.{stationOf, kindOf}
 use Rattle.network.specs.Views.{orderIn, boxesIn}
+use Rattle.units.specs.declared.Measures.{Measures}
 use Rattle.units.specs.Stages.Views.{scalesIn}
 use Rattle.bars.specs.Bar.{rowY}
 use Rattle.runs.specs.Stages.Views.{blockOf, exitOf}
@@ -21,24 +22,24 @@ use Rattle.crossings.specs.Route as Route
 use Rattle.crossings.specs.Route.{Scene, Routing, Keyed, Crossing, Path, noChannel}
 use Rattle.crossings.specs.Gap.{gapOf}
 
--- The network's lists, the unit, and the work lists that a line's exits are read from.
+-- The network's lists, the unit with the gaps, and the work lists that a line's exits are read from.
 pub record Grid : Type 0 where
   pub sub : List ℕ
   pub from : List ℤ
   pub to : List ℤ
   pub service : List ℕ
-  pub unit : Float
+  pub measures : Measures
   pub ends : List ℕ
   pub blocks : List Float
   pub places : List Float
   pub frames : List Float
 
-abbrev pub grid : List ℕ → List ℤ → List ℤ → List ℕ → Float → List ℕ → List Float → List Float → List Float → Grid
-grid a b c d e f g h i = record { sub = a; from = b; to = c; service = d; unit = e; ends = f; blocks = g; places = h; frames = i }
+abbrev pub grid : List ℕ → List ℤ → List ℤ → List ℕ → Measures → List ℕ → List Float → List Float → List Float → Grid
+grid a b c d e f g h i = record { sub = a; from = b; to = c; service = d; measures = e; ends = f; blocks = g; places = h; frames = i }
 
 -- the exit of station s towards t, at the height of a row
 unfoldable pub exitAt : Grid → ℕ → ℕ → ℕ → Point
-exitAt G s t row = exitOf (G .places) (G .frames) s t (rowY (boxAt (G .frames) s) (blockOf (G .unit) (G .blocks) s) row)
+exitAt G s t row = exitOf (G .places) (G .frames) s t (rowY (G .measures .gaps) (boxAt (G .frames) s) (blockOf (G .measures .unit) (G .blocks) s) row)
 
 -- a line between the buses a and b, whose ends have the rows ra and rb
 unfoldable pub lineBetween : Grid → ℕ → ℕ → ℕ → ℕ → Route.Line
@@ -68,7 +69,7 @@ sceneIn G k c stations centres corners twins =
       centres = take (2 * c) centres;
       boxes = boxesIn k (G .frames);
       scales = scalesIn k (G .blocks);
-      gap = gapOf (G .unit);
+      gap = gapOf (G .measures .unit);
       corners = corners;
       twins = twins;
       lines = linesIn G;

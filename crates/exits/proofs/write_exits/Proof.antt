@@ -8,10 +8,10 @@ use Rattle.exits.proofs.write_exits.Statement.{statement}
 use Rattle.exits.proofs.write_exits.Tie as tie
 
 abbrev Inv-loop : tie.InvT-loop
-Inv-loop sub from to service unit ends blocks frames places₀ n e₀ places e = (e ≤ length from) × ExitedTo sub from to service unit ends blocks frames places₀ places e
+Inv-loop sub from to service measures ends blocks frames places₀ n e₀ places e = (e ≤ length from) × ExitedTo sub from to service measures ends blocks frames places₀ places e
 
 abbrev μ-loop : tie.MeasureT-loop
-μ-loop sub from to service unit ends blocks frames places₀ n e₀ places e = length from - e
+μ-loop sub from to service measures ends blocks frames places₀ n e₀ places e = length from - e
 
 loop-holds : tie.Need-loop-holds Inv-loop μ-loop
 loop-holds c = (omega arith, exited-none _ _ _ _ _ _ _ _ (c .before .before .before .before .before .before .pre .1) _)

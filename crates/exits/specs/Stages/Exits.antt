@@ -8,6 +8,7 @@ use lib.Ieee.{Float, nan}
 use Rattle.geometry.specs.declared.Point.{Point}
 use Rattle.geometry.specs.Plane.{point, boxAt}
 use Rattle.network.specs.Words.{stationOf}
+use Rattle.units.specs.declared.Measures.{Measures}
 use Rattle.bars.specs.Bar.{rowY}
 use Rattle.runs.specs.Stages.Views.{blockOf, exitOf, firstExit, secondExit}
 use Rattle.crossings.specs.Route as Route
@@ -35,12 +36,12 @@ pub record Exited (G : Grid) : Type 0 where
 -- ---- the steps of the code to that
 
 -- the exit of station s towards t, at the height of a row
-unfoldable pub exitFrom : Float → List Float → List Float → List Float → ℕ → ℕ → ℕ → Point
-exitFrom unit blocks places frames s t row = exitOf places frames s t (rowY (boxAt frames s) (blockOf unit blocks s) row)
+unfoldable pub exitFrom : Measures → List Float → List Float → List Float → ℕ → ℕ → ℕ → Point
+exitFrom measures blocks places frames s t row = exitOf places frames s t (rowY (measures .gaps) (boxAt frames s) (blockOf (measures .unit) blocks s) row)
 
 -- the exits of a line between the buses a and b, whose ends have the rows ra and rb
-unfoldable pub lineExits : List ℕ → Float → List Float → List Float → List Float → ℕ → ℕ → ℕ → ℕ → Exits
-lineExits sub unit blocks places frames a b ra rb =
+unfoldable pub lineExits : List ℕ → Measures → List Float → List Float → List Float → ℕ → ℕ → ℕ → ℕ → Exits
+lineExits sub measures blocks places frames a b ra rb =
     let s = stationOf sub a in
     let t = stationOf sub b in
-    record { first = exitFrom unit blocks places frames s t ra; second = exitFrom unit blocks places frames t s rb }
+    record { first = exitFrom measures blocks places frames s t ra; second = exitFrom measures blocks places frames t s rb }

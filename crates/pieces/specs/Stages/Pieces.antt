@@ -10,6 +10,7 @@ use Rattle.order.specs.Order.{pick}
 use Rattle.order.specs.Table.{table, joined}
 use Rattle.geometry.specs.declared.Point.{Point}
 use Rattle.network.specs.Words.{kindOf}
+use Rattle.units.specs.declared.Measures.{Measures}
 use Rattle.runs.specs.Run.{Piece, pieces, isLine}
 use Rattle.runs.specs.Lists.{flat, pieceNumbers}
 use Rattle.runs.specs.Finite.{allOf, finitePoint}
@@ -47,13 +48,13 @@ unfoldable pub passFinite : Bool → Held → List ℤ → List ℤ → List ℕ
 passFinite lines H from to service = allOf (allOf finitePoint) (table (passRun lines H from to service) (length from))
 
 -- those of the branches that are no lines, by the lists that they are drawn from
-unfoldable pub othersIn : List ℕ → Float → List ℕ → List ℕ → List Float → List Float → List ℤ → List ℤ → List ℕ → List Piece
-othersIn sub unit buses ends blocks frames from to service =
-    joined (λ e. pieces e (otherRun sub unit buses ends blocks frames e (kindOf sub from to service e))) (length from)
+unfoldable pub othersIn : List ℕ → Measures → List ℕ → List ℕ → List Float → List Float → List ℤ → List ℤ → List ℕ → List Piece
+othersIn sub measures buses ends blocks frames from to service =
+    joined (λ e. pieces e (otherRun sub measures buses ends blocks frames e (kindOf sub from to service e))) (length from)
 
-unfoldable pub othersFinite : List ℕ → Float → List ℕ → List ℕ → List Float → List Float → List ℤ → List ℤ → List ℕ → Bool
-othersFinite sub unit buses ends blocks frames from to service =
-    allOf (allOf finitePoint) (table (λ e. otherRun sub unit buses ends blocks frames e (kindOf sub from to service e)) (length from))
+unfoldable pub othersFinite : List ℕ → Measures → List ℕ → List ℕ → List Float → List Float → List ℤ → List ℤ → List ℕ → Bool
+othersFinite sub measures buses ends blocks frames from to service =
+    allOf (allOf finitePoint) (table (λ e. otherRun sub measures buses ends blocks frames e (kindOf sub from to service e)) (length from))
 
 -- those of the lines among 16 branches from `start` on
 unfoldable pub blockIn : Held → List ℤ → List ℤ → List ℕ → ℕ → List Piece

@@ -15,6 +15,7 @@ use Rattle.network.specs.Refusal.{everyFinite}
 use Rattle.network.specs.Views.{countsIn, columnsIn, fromRowsIn, toRowsIn, pointsIn, boxesIn}
 use Rattle.stations.specs.Column as Column
 use Rattle.stations.specs.Row as Row
+use Rattle.units.specs.declared.Measures.{Measures}
 use Rattle.units.specs.Size as Size
 use Rattle.units.specs.Unit as Unit
 use Rattle.units.specs.Scale as Scale
@@ -32,16 +33,16 @@ pub record Interiors (o : Options) (sub kv : List ℕ) (from to : List ℤ) (ser
   pub fromRows : fromRowsIn (length from) ends ≡ Row.fromRows sub (Seed.seeds sub xy) (kinds sub from to service)
   pub toRows : toRowsIn (length from) ends ≡ Row.toRows sub (Seed.seeds sub xy) (kinds sub from to service)
   pub seeds : pointsIn k places ≡ Seed.seeds sub xy
-  pub sizes : sizesIn k blocks ≡ Size.sizes sub (kinds sub from to service) (busCounts sub)
+  pub sizes : sizesIn k blocks ≡ Size.sizes (o .gaps) sub (kinds sub from to service) (busCounts sub)
   pub scales : scalesIn k blocks ≡ Scale.scales o (Seed.seeds sub xy) (busCounts sub) (Unit.spacing (Seed.seeds sub xy) (busCounts sub))
   pub unitIs :
       unit
       ≡ Unit.unitFor (o .fill) (Unit.spacing (Seed.seeds sub xy) (busCounts sub))
-      (Unit.typical (Size.sizes sub (kinds sub from to service) (busCounts sub)) (busCounts sub))
+      (Unit.typical (Size.sizes (o .gaps) sub (kinds sub from to service) (busCounts sub)) (busCounts sub))
   pub finiteIs : finite ≡ everyFinite (2 * k) places
 
 -- The stations' places and boxes, by their frames and seeds.
-pub record Settled (sub kv : List ℕ) (k : ℕ) (unit : Float) (search : ℕ) (blocks : List Float) (seeds : List Point) (stations : List ℕ) (places frames : List Float) : Type 0 where
+pub record Settled (sub kv : List ℕ) (k : ℕ) (measures : Measures) (search : ℕ) (blocks : List Float) (seeds : List Point) (stations : List ℕ) (places frames : List Float) : Type 0 where
   pub counts : countsIn k stations ≡ busCounts sub
-  pub placed : pointsIn k places ≡ Place.places (framesIn unit k blocks) (offsets search) seeds (placementOrder sub kv (busCounts sub))
-  pub boxes : boxesIn k frames ≡ Place.boxes (framesIn unit k blocks) (busCounts sub) (pointsIn k places)
+  pub placed : pointsIn k places ≡ Place.places (framesIn measures k blocks) (offsets search) seeds (placementOrder sub kv (busCounts sub))
+  pub boxes : boxesIn k frames ≡ Place.boxes (framesIn measures k blocks) (busCounts sub) (pointsIn k places)

@@ -14,7 +14,7 @@ mesh-used-requires : tie.Need-mesh-used-requires
 mesh-used-requires c κs = search needs
 
 clear-paths-requires : tie.Need-clear-paths-requires
-clear-paths-requires c κs = search needs
+clear-paths-requires c κs = (c .before .before .before .before .before .before .before .before .before .before .before .before .before .before .before .before .before .before .before .before .before .before .before .before .before .before .pre .0 .0, omega (arith, c .before .before .before .before .before .before .before .before .before .before .before .before .before .before .before .before .before .before .before .before .before .before .before .before .before .before .pre .1 .1 .0))
 
 same-length : tie.Need-same-length
 same-length c = c .before .before .before .before .before .before .before .before .before .before .occupied-corners .kept .1 .0

@@ -24,7 +24,7 @@ pub record Settled (m : ℕ) (corners twins : List ℕ) (points : List Float) (r
 
 -- work lists with this network
 abbrev pub lined : List ℕ → List ℤ → List ℤ → List ℕ → Grid → Grid
-lined sub from to service G = grid sub from to service (G .unit) (G .ends) (G .blocks) (G .places) (G .frames)
+lined sub from to service G = grid sub from to service (G .measures) (G .ends) (G .blocks) (G .places) (G .frames)
 
 -- What tracing answers, whatever k, the unit and the exits of a scene are: the number of its crossings; refusal 10, where they outnumber the room for them; and, where not, its routing in the lists and the number of its channels. The rows are as before.
 pub record Traced (scene : ℕ → Grid → Scene) (m : ℕ) (corners : List ℕ) (room : ℕ) (before : List ℕ) (r : Routed) (ends numbers : List ℕ) (places : List Float) : Type 0 where

@@ -15,6 +15,7 @@ use Rattle.network.specs.Views.{countsIn, pointsIn, boxesIn}
 use Rattle.detour.specs.Detour.{detour}
 use Rattle.cells.specs.Index.{Indexed}
 use Rattle.detour.specs.Stages.Paths.{pathIn}
+use Rattle.units.specs.declared.Measures.{Measures}
 use Rattle.bars.specs.declared.Bar.{Bar}
 use Rattle.bars.specs.Bar.{rowY, barFor, spanOf, position}
 use Rattle.bars.specs.Exit.{exitX}
@@ -31,10 +32,10 @@ pub record Lead : Type 0 where
 abbrev pub lead : Bool → Float → Float → ℕ → List ℕ → List Float → Lead
 lead a b c d e f = record { led = a; cell = b; gap = c; k = d; stations = e; ways = f }
 
--- the station numbers, the unit, and the work lists of buses, branches' ends, blocks, places and boxes; what leads lines
+-- the station numbers, the unit with the gaps, and the work lists of buses, branches' ends, blocks, places and boxes; what leads lines
 pub record Held : Type 0 where
   pub sub : List ℕ
-  pub unit : Float
+  pub measures : Measures
   pub buses : List ℕ
   pub ends : List ℕ
   pub blocks : List Float
@@ -42,21 +43,21 @@ pub record Held : Type 0 where
   pub frames : List Float
   pub lead : Lead
 
-abbrev pub held : List ℕ → Float → List ℕ → List ℕ → List Float → List Float → List Float → Lead → Held
-held a b c d e f g h = record { sub = a; unit = b; buses = c; ends = d; blocks = e; places = f; frames = g; lead = h }
+abbrev pub held : List ℕ → Measures → List ℕ → List ℕ → List Float → List Float → List Float → Lead → Held
+held a b c d e f g h = record { sub = a; measures = b; buses = c; ends = d; blocks = e; places = f; frames = g; lead = h }
 
 -- the block of station s, unit × scale
 unfoldable pub blockOf : Float → List Float → ℕ → Float
 blockOf unit blocks s = unit ⊗ getD blocks (3 * s + 2) nan
 
 -- the bar of bus i of station s
-unfoldable pub barOf : Float → List ℕ → List Float → List Float → ℕ → ℕ → Bar
-barOf unit buses blocks frames s i =
-    barFor (boxAt frames s) (blockOf unit blocks s) (getD buses (3 * i) 0) (spanOf (getD buses (3 * i + 1) 0) (getD buses (3 * i + 2) 0))
+unfoldable pub barOf : Measures → List ℕ → List Float → List Float → ℕ → ℕ → Bar
+barOf measures buses blocks frames s i =
+    barFor (measures .gaps) (boxAt frames s) (blockOf (measures .unit) blocks s) (getD buses (3 * i) 0) (spanOf (getD buses (3 * i + 1) 0) (getD buses (3 * i + 2) 0))
 
 -- the row end of bus i of station s
-unfoldable pub slotOf : Float → List ℕ → List Float → List Float → ℕ → ℕ → ℕ → Point
-slotOf unit buses blocks frames s i row = point (barOf unit buses blocks frames s i .x) (rowY (boxAt frames s) (blockOf unit blocks s) row)
+unfoldable pub slotOf : Measures → List ℕ → List Float → List Float → ℕ → ℕ → ℕ → Point
+slotOf measures buses blocks frames s i row = point (barOf measures buses blocks frames s i .x) (rowY (measures .gaps) (boxAt frames s) (blockOf (measures .unit) blocks s) row)
 
 -- the exit of station s towards t, at the height y
 unfoldable pub exitOf : List Float → List Float → ℕ → ℕ → Float → Point
@@ -70,13 +71,13 @@ abbrev pub secondExit : ℕ → List Float → ℕ → Point
 secondExit n places e = pointAt places (n + 2 * e + 1)
 
 -- the points of a run between the buses a and b: of an open branch, and of an internal one, whose ends have the rows ra and rb
-unfoldable pub openFrom : List ℕ → Float → List ℕ → List Float → List Float → ℕ → ℕ → List Point
-openFrom sub unit buses blocks frames a b =
-    position (barOf unit buses blocks frames (stationOf sub a) a) ∷ position (barOf unit buses blocks frames (stationOf sub b) b) ∷ []
+unfoldable pub openFrom : List ℕ → Measures → List ℕ → List Float → List Float → ℕ → ℕ → List Point
+openFrom sub measures buses blocks frames a b =
+    position (barOf measures buses blocks frames (stationOf sub a) a) ∷ position (barOf measures buses blocks frames (stationOf sub b) b) ∷ []
 
-unfoldable pub internalFrom : List ℕ → Float → List ℕ → List Float → List Float → ℕ → ℕ → ℕ → ℕ → List Point
-internalFrom sub unit buses blocks frames a b ra rb =
-    slotOf unit buses blocks frames (stationOf sub a) a ra ∷ slotOf unit buses blocks frames (stationOf sub b) b rb ∷ []
+unfoldable pub internalFrom : List ℕ → Measures → List ℕ → List Float → List Float → ℕ → ℕ → ℕ → ℕ → List Point
+internalFrom sub measures buses blocks frames a b ra rb =
+    slotOf measures buses blocks frames (stationOf sub a) a ra ∷ slotOf measures buses blocks frames (stationOf sub b) b rb ∷ []
 
 -- the path between the slots of a line from station s to station t, led round boxes where there are iterations
 unfoldable pub ledIn : Bool → Float → Float → ℕ → List ℕ → List Float → ℕ → ℕ → List Point → List Point
@@ -89,19 +90,19 @@ ledRun L frames s t p q x y w n =
     p ∷ (ledIn (L .led) (L .cell) (L .gap) (L .k) (L .stations) frames s t (x ∷ (pathIn w n (L .ways) ++ (y ∷ []))) ++ (q ∷ []))
 
 -- that of line e between the buses a and b, whose ends have the rows ra and rb; its exits stand behind the places of as many stations as there are buses
-unfoldable pub lineFrom : List ℕ → Float → List ℕ → List Float → List Float → List Float → Lead → ℕ → ℕ → ℕ → ℕ → ℕ → ℕ → ℕ → List Point
-lineFrom sub unit buses blocks places frames L e a b ra rb w n =
+unfoldable pub lineFrom : List ℕ → Measures → List ℕ → List Float → List Float → List Float → Lead → ℕ → ℕ → ℕ → ℕ → ℕ → ℕ → ℕ → List Point
+lineFrom sub measures buses blocks places frames L e a b ra rb w n =
     let s = stationOf sub a in
     let t = stationOf sub b in
-    let p = slotOf unit buses blocks frames s a ra in
-    let q = slotOf unit buses blocks frames t b rb in
+    let p = slotOf measures buses blocks frames s a ra in
+    let q = slotOf measures buses blocks frames t b rb in
     ledRun L frames s t p q (firstExit (length sub) places e) (secondExit (length sub) places e) w n
 
 unfoldable pub runFrom : Held → ℕ → ℕ → ℕ → ℕ → ℕ → Kind → List Point
 runFrom H e ra rb w n Undrawn = []
-runFrom H e ra rb w n (Open a b) = openFrom (H .sub) (H .unit) (H .buses) (H .blocks) (H .frames) a b
-runFrom H e ra rb w n (Internal a b) = internalFrom (H .sub) (H .unit) (H .buses) (H .blocks) (H .frames) a b ra rb
-runFrom H e ra rb w n (Line a b) = lineFrom (H .sub) (H .unit) (H .buses) (H .blocks) (H .places) (H .frames) (H .lead) e a b ra rb w n
+runFrom H e ra rb w n (Open a b) = openFrom (H .sub) (H .measures) (H .buses) (H .blocks) (H .frames) a b
+runFrom H e ra rb w n (Internal a b) = internalFrom (H .sub) (H .measures) (H .buses) (H .blocks) (H .frames) a b ra rb
+runFrom H e ra rb w n (Line a b) = lineFrom (H .sub) (H .measures) (H .buses) (H .blocks) (H .places) (H .frames) (H .lead) e a b ra rb w n
 
 -- the first waypoint of branch e, and how many it has
 abbrev pub wayOf : List ℕ → ℕ → ℕ
@@ -114,11 +115,11 @@ unfoldable pub runIn : Held → ℕ → Kind → List Point
 runIn H e kind = runFrom H e (getD (H .ends) (4 * e) 0) (getD (H .ends) (4 * e + 1) 0) (wayOf (H .ends) e) (wayCount (H .ends) e) kind
 
 -- the run of branch e where it is no line, else no points
-unfoldable pub otherRun : List ℕ → Float → List ℕ → List ℕ → List Float → List Float → ℕ → Kind → List Point
-otherRun sub unit buses ends blocks frames e Undrawn = []
-otherRun sub unit buses ends blocks frames e (Open a b) = openFrom sub unit buses blocks frames a b
-otherRun sub unit buses ends blocks frames e (Internal a b) = internalFrom sub unit buses blocks frames a b (getD ends (4 * e) 0) (getD ends (4 * e + 1) 0)
-otherRun sub unit buses ends blocks frames e (Line a b) = []
+unfoldable pub otherRun : List ℕ → Measures → List ℕ → List ℕ → List Float → List Float → ℕ → Kind → List Point
+otherRun sub measures buses ends blocks frames e Undrawn = []
+otherRun sub measures buses ends blocks frames e (Open a b) = openFrom sub measures buses blocks frames a b
+otherRun sub measures buses ends blocks frames e (Internal a b) = internalFrom sub measures buses blocks frames a b (getD ends (4 * e) 0) (getD ends (4 * e + 1) 0)
+otherRun sub measures buses ends blocks frames e (Line a b) = []
 
 -- a list has room for a run by n waypoints, with two slots, two exits and four points more; for that of branch e, whose waypoints have small numbers
 abbrev pub HasRoom : ℕ → List Float → Type 0

@@ -25,7 +25,7 @@ typical-requires : tie.Need-typical-requires
 typical-requires c κs = let a = c .before .before .before .before .before .before .before .before .before .before .before .before .before .before .before .before .before .before .before .before .before .before .before .before .before .sizes in
     let g = c .before .before .before .before .before .before .before .before .before .before .before .before .before .spacing in
     let z = c .before .before .before .before .before .before .before .before .before .before .before .before .before .before .before .before .before .before .before .before .before .before .before .before .before .before .before .before .before .before .before .before .before .before .before .args in
-    let b : length (a .last .1 .1 .0) ≡ length (z .blocks .now) = a .kept .1 .1 .0 in
+    let b : length (a .last .1 .1 .1 .0) ≡ length (z .blocks .now) = a .kept .1 .1 .1 .0 in
     let f : length (g .last .1 .1 .0) ≡ length (z .frames .now) = g .kept .1 .1 .0 in
     let x : length (g .last .1 .1 .1 .0) ≡ length (z .keys .now) = g .kept .1 .1 .1 .0 in
     let y : length (g .last .1 .1 .1 .1 .0) ≡ length (z .sorted .now) = g .kept .1 .1 .1 .1 .0 in
@@ -40,7 +40,7 @@ scales-requires c κs = let f = c .before .before .before .before .before .befor
     let z = c .before .before .before .before .before .before .before .before .before .before .before .before .before .before .before .before .before .before .before .before .before .before .before .before .before .before .before .before .before .before .before .before .before .before .before .before .before .before .before .before .before .before .before .before .before .before .before .before .before .args in
     let m : f .result ≤ z .k = f .ensures .1 .1 in
     let p : length (f .last .1 .1 .1 .0) ≡ length (z .path .now) = f .kept .1 .1 .1 .0 in
-    let q : length (a .last .1 .1 .0) ≡ length (z .blocks .now) = a .kept .1 .1 .0 in
+    let q : length (a .last .1 .1 .1 .0) ≡ length (z .blocks .now) = a .kept .1 .1 .1 .0 in
     let x : length (t .last .1 .1 .1 .1 .0) ≡ length (z .keys .now) = cc (g .kept .1 .1 .1 .0, t .kept .1 .1 .1 .1 .0) in
     let y : length (t .last .1 .1 .1 .1 .1 .0) ≡ length (z .sorted .now) = cc (g .kept .1 .1 .1 .1 .0, t .kept .1 .1 .1 .1 .1 .0) in
     let w : length (t .last .1 .1 .1 .1 .1 .1 .0) ≡ length (z .spare .now) = cc (g .kept .1 .1 .1 .1 .1 .0, t .kept .1 .1 .1 .1 .1 .1 .0) in
@@ -50,7 +50,7 @@ unit-for-requires : tie.Need-unit-for-requires
 unit-for-requires c κs = search needs
 
 same-length : tie.Need-same-length
-same-length c = cc (c .before .before .before .before .before .before .before .before .before .scales .kept .1 .1 .1 .1 .1 .1 .0, c .before .before .before .before .before .before .before .before .before .before .before .before .before .before .before .before .before .before .before .before .before .before .before .before .before .before .before .before .before .before .before .before .before .before .before .before .before .before .before .before .before .before .before .before .before .before .before .before .before .sizes .kept .1 .1 .0)
+same-length c = cc (c .before .before .before .before .before .before .before .before .before .scales .kept .1 .1 .1 .1 .1 .1 .0, c .before .before .before .before .before .before .before .before .before .before .before .before .before .before .before .before .before .before .before .before .before .before .before .before .before .before .before .before .before .before .before .before .before .before .before .before .before .before .before .before .before .before .before .before .before .before .before .before .before .sizes .kept .1 .1 .1 .0)
 
 same-length-2 : tie.Need-same-length-2
 same-length-2 c = cc (c .before .before .before .before .before .before .before .before .before .before .before .before .before .before .before .before .before .before .before .before .before .before .before .before .before .before .before .before .before .before .before .before .before .before .before .before .before .spacing .kept .1 .1 .0, c .before .before .before .before .before .before .before .before .before .before .before .before .before .before .before .before .before .before .before .before .before .before .before .typical .kept .1 .1 .1 .0)
@@ -73,7 +73,7 @@ returns c = let f = c .before .before .before .before .before .before .before .b
     let g = c .before .before .before .before .before .before .before .before .before .before .before .before .before .before .before .before .before .before .before .before .before .before .before .before .before .before .before .before .before .before .before .before .before .before .before .before .before .spacing in
     let d = c .before .before .before .before .before .before .before .before .before .scales in
     let z = c .before .before .before .before .before .before .before .before .before .before .before .before .before .before .before .before .before .before .before .before .before .before .before .before .before .before .before .before .before .before .before .before .before .before .before .before .before .before .before .before .before .before .before .before .before .before .before .before .before .before .before .before .before .before .before .before .before .before .before .args in
-    let u = unit-left (z .k) (f .result) (z .stations .now) (z .places .now) (f .last .1 .1 .1 .0) (f .ensures .1 .0) (f .ensures .0) (g .result) (g .ensures) (z .o) (a .last .1 .1 .0) (c .before .before .before .before .before .before .before .before .before .before .before .before .before .before .before .before .before .before .before .before .before .before .before .typical .result) (c .unit-for .result) (a .ensures) (c .before .before .before .before .before .before .before .before .before .before .before .before .before .before .before .before .before .before .before .before .before .before .before .typical .ensures) (c .unit-for .ensures) in
+    let u = unit-left (z .k) (f .result) (z .stations .now) (z .places .now) (f .last .1 .1 .1 .0) (f .ensures .1 .0) (f .ensures .0) (g .result) (g .ensures) (z .o) (a .last .1 .1 .1 .0) (c .before .before .before .before .before .before .before .before .before .before .before .before .before .before .before .before .before .before .before .before .before .before .before .typical .result) (c .unit-for .result) (a .ensures) (c .before .before .before .before .before .before .before .before .before .before .before .before .before .before .before .before .before .before .before .before .before .before .before .typical .ensures) (c .unit-for .ensures) in
     let q = scales-left (z .k) (f .result) (z .stations .now) (z .places .now) (f .last .1 .1 .1 .0) (f .ensures .1 .0) (f .ensures .0) (g .result) (g .ensures) (z .o) (d .last .1 .1 .1 .1 .1 .1 .0) (d .ensures .0) in
     (u, (d .ensures .1 ∙ a .ensures, q))
 

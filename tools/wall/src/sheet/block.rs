@@ -10,6 +10,7 @@ use crate::network::Network;
 use crate::number::thousands;
 use crate::plain::one_line;
 use crate::report;
+use tansygate::TxLayoutOptions;
 
 /// How many names the sheet shortens and leaves out, and at how many ends the number of a branch isn't there.
 #[derive(Clone, Copy, Default)]
@@ -152,7 +153,16 @@ impl Block<'_> {
     fn drawn_with(&self) -> String {
         let o = &self.settings.options;
         let turned = if self.settings.y_up { ", y upwards" } else { "" };
-        format!("fill {}, search {}, iterations {}{turned}", o.fill, o.search, o.route_iterations)
+        let usual = TxLayoutOptions::default();
+        let gaps = [
+            ("bar gap", o.bar_gap, usual.bar_gap),
+            ("padding", o.pad, usual.pad),
+            ("shortest bar", o.min_bar, usual.min_bar),
+            ("buffer", o.buffer, usual.buffer),
+        ];
+        let other = gaps.into_iter().filter(|(_, gap, usual)| gap != usual);
+        let gaps: String = other.map(|(name, gap, _)| format!(", {name} {gap}")).collect();
+        format!("fill {}, search {}, iterations {}{gaps}{turned}", o.fill, o.search, o.route_iterations)
     }
 
     fn table(&self, svg: &mut Svg, left: f64, columns: f64, head: &str, rows: &[report::Row]) {

@@ -16,7 +16,7 @@ pub struct BusName {
     pub shortened: bool,
 }
 
-/// The tallest text, in blocks, whose capitals stay inside a strip.
+/// The tallest text, in heights of a strip, whose capitals stay inside it.
 const TALLEST: f64 = 1.3;
 
 /// A name for each bus, in text of at most the given size.
@@ -51,10 +51,11 @@ fn unshared(words: &[Vec<&str>]) -> Vec<String> {
 
 fn of_station(network: &Network, scene: &Scene, station: &Station, largest: f64) -> Vec<BusName> {
     let labels = labels(network, station);
-    let size = (0.9 * station.block).min(largest).max(SMALLEST);
+    let size = (0.9 * station.block.min(station.pad)).min(largest).max(SMALLEST);
     let gap = 0.35 * size;
     let bars: Vec<&Bar> = station.buses.iter().map(|&bus| &scene.bars[bus]).collect();
-    let column = 2.0 * station.block - gap;
+    let apart = if bars.len() > 1 { bars[1].x - bars[0].x } else { station.rect.width() };
+    let column = apart - gap;
     let one_strip = labels.iter().all(|label| width(label, size, false) <= column);
     let below: Vec<bool> = (0..bars.len()).map(|i| goes_below(station, bars[i], !one_strip && i % 2 == 1)).collect();
     let strip = Strip { station, bars: &bars, below: &below, size, gap };
@@ -70,7 +71,7 @@ fn goes_below(station: &Station, bar: &Bar, would: bool) -> bool {
 
 /// Whether a bar reaches into the upper and into the lower strip.
 fn reaches(station: &Station, bar: &Bar) -> (bool, bool) {
-    let free = 0.9 * station.block;
+    let free = 0.9 * station.pad;
     (bar.top - station.rect.top < free, station.rect.bottom - bar.bottom < free)
 }
 
@@ -87,7 +88,7 @@ impl Strip<'_> {
     /// A text for each label: one that stands for no other in the box. Where no short form does, it is its row in the
     /// export.
     fn texts(&self, labels: &[String]) -> Vec<Option<String>> {
-        if self.size > TALLEST * self.station.block {
+        if self.size > TALLEST * self.station.pad {
             return vec![None; labels.len()];
         }
         let wish = |i: usize| {
@@ -132,17 +133,17 @@ impl Strip<'_> {
     fn line(&self, i: usize, text: String) -> Line {
         let (left, right) = self.room(i);
         let wide = width(&text, self.size, false);
-        let (rect, half) = (self.station.rect, 0.5 * self.station.block);
+        let (rect, half) = (self.station.rect, 0.5 * self.station.pad);
         let middle = if self.below[i] { rect.bottom - half } else { rect.top + half };
         let x = (self.bars[i].x - wide / 2.0).min(right - wide).max(left);
         Line { text, x, y: middle + 0.36 * self.size, size: self.size, bold: false, anchor: Anchor::Middle }
     }
 
     fn guide(&self, i: usize) -> Option<[Point; 2]> {
-        let (rect, block, bar) = (self.station.rect, self.station.block, self.bars[i]);
-        let (near, far) = if self.below[i] { (rect.bottom - block, bar.bottom) } else { (rect.top + block, bar.top) };
+        let (rect, pad, bar) = (self.station.rect, self.station.pad, self.bars[i]);
+        let (near, far) = if self.below[i] { (rect.bottom - pad, bar.bottom) } else { (rect.top + pad, bar.top) };
         let apart = if self.below[i] { near - far } else { far - near };
-        (apart > 0.3 * block).then_some([[bar.x, near], [bar.x, far]])
+        (apart > 0.3 * self.station.block).then_some([[bar.x, near], [bar.x, far]])
     }
 }
 
@@ -163,7 +164,7 @@ mod tests {
             notes: Vec::new(),
         };
         let rect = Rect::new(0.0, 0.0, 9.0, 9.0);
-        labels(&network, &Station { number: 0, rect, block: 1.0, buses: (0..names.len()).collect() })
+        labels(&network, &Station { number: 0, rect, block: 1.0, pad: 1.0, buses: (0..names.len()).collect() })
     }
 
     #[test]

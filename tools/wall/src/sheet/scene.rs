@@ -12,6 +12,8 @@ pub struct Station {
     pub rect: Rect,
     /// The side of a block of its grid.
     pub block: f64,
+    /// From a side of the box to its bars and rows.
+    pub pad: f64,
     /// Its buses, from left to right.
     pub buses: Vec<usize>,
 }
@@ -44,10 +46,10 @@ pub struct Scene {
     pub runs: Vec<Run>,
 }
 
-/// What the drawing takes up: boxes and pieces.
+/// What the drawing takes up: boxes, bars and pieces.
 pub fn extent(layout: &TxLayout) -> Rect {
     let b = layout.bounds;
-    let ends = layout.segments.chunks_exact(2);
+    let ends = layout.segments.chunks_exact(2).chain(layout.busbars.chunks_exact(2));
     ends.fold(Rect::new(b[0], b[1], b[2], b[3]), |r, p| r.with([p[0], p[1]]))
 }
 
@@ -111,7 +113,7 @@ impl Scene {
 impl Station {
     /// A height half a block towards another, or downwards, where it is a row's.
     fn between_rows(&self, y: f64, other: f64) -> f64 {
-        let rows = (y - self.rect.top) / self.block - 1.5;
+        let rows = (y - self.rect.top - self.pad) / self.block - 0.5;
         if (rows - rows.round()).abs() > 0.25 {
             return y;
         }
@@ -130,7 +132,8 @@ fn stations(network: &Network, layout: &TxLayout, view: &View) -> Vec<Station> {
         .map(|(number, mut buses)| {
             buses.sort_by(|a, b| left(a).total_cmp(&left(b)));
             let rect = view.rect(&layout.boxes[4 * number..4 * number + 4]);
-            Station { number, rect, block: layout.unit * layout.scale[number] * view.scale, buses }
+            let pad = (layout.busbars[4 * buses[0]] - layout.boxes[4 * number]) * view.scale;
+            Station { number, rect, block: layout.unit * layout.scale[number] * view.scale, pad, buses }
         })
         .collect()
 }

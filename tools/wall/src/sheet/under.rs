@@ -75,7 +75,7 @@ mod tests {
     use tansygate::TX_ROLE_OPEN;
 
     fn station(number: usize, left: f64, right: f64) -> Station {
-        Station { number, rect: Rect::new(left, 0.0, right, 10.0), block: 1.0, buses: Vec::new() }
+        Station { number, rect: Rect::new(left, 0.0, right, 10.0), block: 1.0, pad: 1.0, buses: Vec::new() }
     }
 
     #[test]

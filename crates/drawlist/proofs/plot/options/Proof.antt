@@ -12,7 +12,7 @@ default-requires c κs = search needs
 
 returns : tie.Need-returns
 unfolding listOptions
-returns c = rw (c .before .default .ensures)
+returns c = rw (c .before .before .default .ensures)
 
 pub options-spec : {M : Type 1} → statement M
 options-spec = tie.close (tie.spec default-requires returns)

@@ -21,7 +21,7 @@ is-led-requires : tie.Need-is-led-requires
 is-led-requires c κs = search needs
 
 cell-size-requires : tie.Need-cell-size-requires
-cell-size-requires c κs = (c .before .before .before .before .before .before .before .before .before .before .before .before .before .before .before .before .pre .0 .3, c .before .before .before .before .before .before .before .before .before .before .before .before .before .before .before .before .pre .0 .4)
+cell-size-requires c κs = (c .before .before .before .before .before .before .before .before .before .before .before .before .before .before .before .before .before .pre .0 .3, c .before .before .before .before .before .before .before .before .before .before .before .before .before .before .before .before .before .pre .0 .4)
 
 index-boxes-requires : tie.Need-index-boxes-requires
 index-boxes-requires c κs = search needs
@@ -30,22 +30,22 @@ gap-of-requires : tie.Need-gap-of-requires
 gap-of-requires c κs = search needs
 
 survey-requires : tie.Need-survey-requires
-survey-requires c κs = ((c .before .before .before .before .before .before .before .before .before .before .before .before .before .before .before .before .before .before .before .before .before .before .before .before .pre .0 .1, c .before .before .before .before .before .before .before .before .before .before .before .before .before .before .before .before .before .before .before .before .before .before .before .before .pre .0 .0), (c .before .before .before .before .before .before .before .before .before .before .before .before .before .before .before .before .before .before .before .before .before .before .before .before .pre .1 .0 .fits (c .before .before .before .before .before .before .before .before .before .before .before .before .before .before .before .before .before .before .before .before .before .before .before .before .pre .1 .1), (c .before .before .before .before .before .before .before .before .before .before .before .before .before .before .before .before .before .before .before .before .before .before .before .before .pre .0 .3, c .before .before .before .before .before .before .before .before .before .before .before .before .before .before .before .before .before .before .before .before .before .before .before .before .pre .0 .4, c .before .before .before .before .before .before .before .before .before .before .before .before .before .before .before .before .before .before .before .before .before .before .before .before .pre .0 .2, c .before .before .before .before .before .index-boxes .ensures)))
+survey-requires c κs = ((c .before .before .before .before .before .before .before .before .before .before .before .before .before .before .before .before .before .before .before .before .before .before .before .before .before .pre .0 .1, c .before .before .before .before .before .before .before .before .before .before .before .before .before .before .before .before .before .before .before .before .before .before .before .before .before .pre .0 .0), (c .before .before .before .before .before .before .before .before .before .before .before .before .before .before .before .before .before .before .before .before .before .before .before .before .before .pre .1 .0 .fits (c .before .before .before .before .before .before .before .before .before .before .before .before .before .before .before .before .before .before .before .before .before .before .before .before .before .pre .1 .1), (c .before .before .before .before .before .before .before .before .before .before .before .before .before .before .before .before .before .before .before .before .before .before .before .before .before .pre .0 .3, c .before .before .before .before .before .before .before .before .before .before .before .before .before .before .before .before .before .before .before .before .before .before .before .before .before .pre .0 .4, c .before .before .before .before .before .before .before .before .before .before .before .before .before .before .before .before .before .before .before .before .before .before .before .before .before .pre .0 .2, c .before .before .before .before .before .index-boxes .ensures)))
 
 mul-finite-to : tie.Need-mul-finite-to
-mul-finite-to c = omega (arith, c .before .before .before .before .before .before .before .before .before .before .before .before .before .before .before .before .before .before .before .before .before .before .before .before .before .before .before .pre .0 .2)
+mul-finite-to c = omega (arith, c .before .before .before .before .before .before .before .before .before .before .before .before .before .before .before .before .before .before .before .before .before .before .before .before .before .before .before .before .pre .0 .2)
 
 finite-to-requires : tie.Need-finite-to-requires
 finite-to-requires c κs = search needs
 
 finite-bars-requires : tie.Need-finite-bars-requires
-finite-bars-requires c κs = c .before .before .before .before .before .before .before .before .before .before .before .before .before .before .before .before .before .before .before .before .before .before .before .before .before .before .before .before .pre .0 .0
+finite-bars-requires c κs = c .before .before .before .before .before .before .before .before .before .before .before .before .before .before .before .before .before .before .before .before .before .before .before .before .before .before .before .before .before .pre .0 .0
 
 all-finite-requires : tie.Need-all-finite-requires
 all-finite-requires c κs = search needs
 
 bounds-of-requires : tie.Need-bounds-of-requires
-bounds-of-requires c κs = (c .before .before .before .before .before .before .before .before .before .before .before .before .before .before .before .before .before .before .before .before .before .before .before .before .before .before .before .before .before .before .pre .0 .3, c .before .before .before .before .before .before .before .before .before .before .before .before .before .before .before .before .before .before .before .before .before .before .before .before .before .before .before .before .before .before .pre .0 .4)
+bounds-of-requires c κs = (c .before .before .before .before .before .before .before .before .before .before .before .before .before .before .before .before .before .before .before .before .before .before .before .before .before .before .before .before .before .before .before .pre .0 .3, c .before .before .before .before .before .before .before .before .before .before .before .before .before .before .before .before .before .before .before .before .before .before .before .before .before .before .before .before .before .before .before .pre .0 .4)
 
 late-of-requires : tie.Need-late-of-requires
 late-of-requires c κs = search needs
@@ -57,7 +57,7 @@ same-length-2 : tie.Need-same-length-2
 same-length-2 c = c .before .before .before .before .before .before .before .survey .kept .1 .1 .1 .1 .1 .1 .1 .1 .1 .1 .1 .1 .1 .1 .1 .1 .1 .0
 
 returns : tie.Need-returns
-returns c = (judged _ _ _ _ _ _ _ _ _ _ _ _ _ _ _ (c .before .before .before .before .before .before .before .before .before .before .before .before .before .before .before .before .before .before .before .before .before .before .before .before .before .before .before .before .before .before .before .before .pre .1 .0) (c .before .before .before .before .before .before .before .before .before .before .before .before .before .before .before .before .before .before .before .before .before .before .before .before .before .before .before .before .before .before .before .before .pre .1 .1) _ _ _ (c .before .before .before .before .before .before .before .before .before .before .before .before .before .before .before .cell-size .ensures) (c .before .before .before .before .before .before .before .before .before .before .gap-of .ensures) (c .before .before .before .before .before .before .before .before .before .before .before .before .before .before .before .before .is-led .ensures) _ _ _ _ _ _ _ (c .before .before .before .before .before .before .before .survey .ensures .0) (c .before .before .before .before .before .before .before .survey .ensures .1 .0) (c .before .before .before .before .finite-to .ensures) (c .before .before .before .finite-bars .ensures) (c .before .before .all-finite .ensures) (c .before .bounds-of .ensures) (c .late-of .ensures), (c .before .before .before .before .before .before .before .before .before .before .before .before .before .before .before .cell-size .ensures, c .before .before .before .before .before .before .before .before .before .before .before .before .before .index-boxes .ensures))
+returns c = (judged _ _ _ _ _ _ _ _ _ _ _ _ _ _ _ (c .before .before .before .before .before .before .before .before .before .before .before .before .before .before .before .before .before .before .before .before .before .before .before .before .before .before .before .before .before .before .before .before .before .pre .1 .0) (c .before .before .before .before .before .before .before .before .before .before .before .before .before .before .before .before .before .before .before .before .before .before .before .before .before .before .before .before .before .before .before .before .before .pre .1 .1) _ _ _ (c .before .before .before .before .before .before .before .before .before .before .before .before .before .before .before .cell-size .ensures) (c .before .before .before .before .before .before .before .before .before .before .gap-of .ensures) (c .before .before .before .before .before .before .before .before .before .before .before .before .before .before .before .before .is-led .ensures) _ _ _ _ _ _ _ (c .before .before .before .before .before .before .before .survey .ensures .0) (c .before .before .before .before .before .before .before .survey .ensures .1 .0) (c .before .before .before .before .finite-to .ensures) (c .before .before .before .finite-bars .ensures) (c .before .before .all-finite .ensures) (c .before .bounds-of .ensures) (c .late-of .ensures), (c .before .before .before .before .before .before .before .before .before .before .before .before .before .before .before .cell-size .ensures, c .before .before .before .before .before .before .before .before .before .before .before .before .before .index-boxes .ensures))
 
 pub judge-spec : {M : Type 1} → statement M
 judge-spec =

@@ -10,10 +10,10 @@ use Rattle.placement.proofs.search.first_free.Statement.{statement}
 use Rattle.placement.proofs.search.first_free.Tie as tie
 
 abbrev Inv-loop : tie.InvT-loop
-Inv-loop seed w h f widening a b search frames count j₀ j = (j ≤ length a) × First seed (frame w h f) (boxesIn count frames) widening a b search j
+Inv-loop seed w h f buffer widening a b search frames count j₀ j = (j ≤ length a) × First seed (frame w h f buffer) (boxesIn count frames) widening a b search j
 
 abbrev μ-loop : tie.MeasureT-loop
-μ-loop seed w h f widening a b search frames count j₀ j = length a - j
+μ-loop seed w h f buffer widening a b search frames count j₀ j = length a - j
 
 loop-holds : tie.Need-loop-holds Inv-loop μ-loop
 loop-holds c = (omega arith, first-start _ _ _ _ _ _ _)
@@ -37,7 +37,7 @@ returns : tie.Need-returns Inv-loop μ-loop
 returns c = first-hit _ _ _ _ _ _ _ _ _ _ (c .before .before .before .before .before .before .before .loop-test .taken) (c .before .before .before .before .before .before .pair-at .ensures) (c .before .before .before .before .before .is-inside .ensures) (c .before .before .before .before .if1 .taken) _ _ _ (c .before .before .before .place .ensures) (c .before .before .buffered .ensures) (c .before .is-free .ensures) (c .before .before .before .before .before .before .before .before .loop .inv .1) (c .if2 .taken)
 
 add-j : tie.Need-add-j Inv-loop μ-loop
-add-j c = search needs
+add-j c = let g = c .before .before .before .before .before .before .before .before .before .before .good in let t = c .before .before .before .before .before .before .before .loop-test .taken in search needs
 
 loop-less : tie.Need-loop-less Inv-loop μ-loop
 loop-less c = search needs

@@ -13,10 +13,10 @@ use Rattle.placement.proofs.search.place_all.Statement.{statement}
 use Rattle.placement.proofs.search.place_all.Tie as tie
 
 abbrev Inv-loop : tie.InvT-loop
-Inv-loop k r unit stations blocks a b search places₀ frames₀ p₀ places frames p = (p ≤ r) × (length places ≡ length places₀) × (length frames ≡ length frames₀) × Placed (framesIn unit k blocks) (skipped search (pairsIn a b)) (pointsIn k places₀) (orderIn r stations) k p places frames
+Inv-loop k r m stations blocks a b search places₀ frames₀ p₀ places frames p = (p ≤ r) × (length places ≡ length places₀) × (length frames ≡ length frames₀) × Placed (framesIn m k blocks) (skipped search (pairsIn a b)) (pointsIn k places₀) (orderIn r stations) k p places frames
 
 abbrev μ-loop : tie.MeasureT-loop
-μ-loop k r unit stations blocks a b search places₀ frames₀ p₀ places frames p = r - p
+μ-loop k r m stations blocks a b search places₀ frames₀ p₀ places frames p = r - p
 
 loop-holds : tie.Need-loop-holds Inv-loop μ-loop
 loop-holds c = (omega arith, refl, refl, placed-none _ _ _ _ _ _)
@@ -58,7 +58,7 @@ loop-again c =
       omega arith,
       omega (arith, t .place-station .kept, l .loop .inv .1),
       omega (arith, t .place-station .kept, l .loop .inv .2),
-      placed-more (s .args .unit) (s .args .k) (s .args .blocks .now) _ _ _ (s .pre .1) (l .loop .p) _ h (sym (getD-strided 2 1 0 (s .args .r) (l .loop .p) (s .args .stations .now) 0 (omega arith)))
+      placed-more (s .args .m) (s .args .k) (s .args .blocks .now) _ _ _ (s .pre .1) (l .loop .p) _ h (sym (getD-strided 2 1 0 (s .args .r) (l .loop .p) (s .args .stations .now) 0 (omega arith)))
           _ _ _ _ (omega (arith, s .pre .0, l .loop .inv .1)) (omega (arith, s .pre .0, l .loop .inv .2)) (t .place-station .ensures) (l .loop .inv .3),
     )
 

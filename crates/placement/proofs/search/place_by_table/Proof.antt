@@ -33,7 +33,7 @@ unfolding codes tablePairs offsetOf
 returns c =
     let s = c .before .before .before .before .before .before .before .before .before .before .before .before .before in
     c .before .before .before .before .place-all .ensures
-    ∙ ap (λ (os : List Offset). places (framesIn (s .args .unit) (s .args .k) (s .args .blocks .now)) os (pointsIn (s .args .k) (s .args .places .now)) (orderIn (s .args .r) (s .args .stations .now)))
+    ∙ ap (λ (os : List Offset). places (framesIn (s .args .m) (s .args .k) (s .args .blocks .now)) os (pointsIn (s .args .k) (s .args .places .now)) (orderIn (s .args .r) (s .args .stations .now)))
     (within-held _ _ refl refl (s .args .search) (s .pre .0 .0))
 
 pub place-by-table-spec : {M : Type 1} → statement M

@@ -39,26 +39,26 @@ mul-h-2 c = search needs
 shared-slice-read-h : tie.Need-shared-slice-read-h
 shared-slice-read-h c = search needs
 
-mul-t17 : tie.Need-mul-t17
-mul-t17 c = search needs
-
-mul-t15 : tie.Need-mul-t15
-mul-t15 c = search needs
-
-slice-read-t19 : tie.Need-slice-read-t19
-slice-read-t19 c = search needs
+mul-t18 : tie.Need-mul-t18
+mul-t18 c = search needs
 
 mul-t16 : tie.Need-mul-t16
 mul-t16 c = search needs
 
-add-t24 : tie.Need-add-t24
-add-t24 c = search needs
+slice-read-t20 : tie.Need-slice-read-t20
+slice-read-t20 c = search needs
 
-mul-t25 : tie.Need-mul-t25
-mul-t25 c = search needs
+mul-t17 : tie.Need-mul-t17
+mul-t17 c = search needs
 
-slice-read-t21 : tie.Need-slice-read-t21
-slice-read-t21 c = search needs
+add-t25 : tie.Need-add-t25
+add-t25 c = search needs
+
+mul-t26 : tie.Need-mul-t26
+mul-t26 c = search needs
+
+slice-read-t22 : tie.Need-slice-read-t22
+slice-read-t22 c = search needs
 
 place-for-requires : tie.Need-place-for-requires
 place-for-requires c κs = search needs
@@ -99,7 +99,7 @@ same-length-2 c = search needs
 returns : tie.Need-returns
 unfolding frameFor
 returns c =
-    let s = c .before .before .before .before .before .before .before .before .before .before .before .before .before .before .before in
+    let s = c .before .before .before .before .before .before .before .before .before .before .before .before .before .before .before .before in
     record {
       at = c .before .before .before .before .before .place-for .result;
       chosen = c .before .before .before .before .before .place-for .ensures;
@@ -122,13 +122,13 @@ place-station-spec =
     add-h
     mul-h-2
     shared-slice-read-h
-    mul-t17
-    mul-t15
-    slice-read-t19
+    mul-t18
     mul-t16
-    add-t24
-    mul-t25
-    slice-read-t21
+    slice-read-t20
+    mul-t17
+    add-t25
+    mul-t26
+    slice-read-t22
     place-for-requires
     mul-places
     mul-places-2

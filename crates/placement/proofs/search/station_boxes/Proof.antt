@@ -11,10 +11,10 @@ use Rattle.placement.proofs.search.station_boxes.Statement.{statement}
 use Rattle.placement.proofs.search.station_boxes.Tie as tie
 
 abbrev Inv-loop : tie.InvT-loop
-Inv-loop k unit stations blocks places frames₀ s₀ frames s = (s ≤ k) × (length frames ≡ length frames₀) × (boxesIn s frames ≡ table (boxFor unit k stations blocks places) s)
+Inv-loop k m stations blocks places frames₀ s₀ frames s = (s ≤ k) × (length frames ≡ length frames₀) × (boxesIn s frames ≡ table (boxFor m k stations blocks places) s)
 
 abbrev μ-loop : tie.MeasureT-loop
-μ-loop k unit stations blocks places frames₀ s₀ frames s = k - s
+μ-loop k m stations blocks places frames₀ s₀ frames s = k - s
 
 loop-holds : tie.Need-loop-holds Inv-loop μ-loop
 loop-holds c = (omega arith, refl, boxes-none _ _ _ _ _ _)
@@ -46,7 +46,7 @@ loop-again c =
     let s = c .before .before .before .before .before .before .before .before .before .before .before .before .before in (
       omega arith,
       omega (arith, c .before .before .put-box .kept, l .loop .inv .1),
-      ap (boxesIn (l .loop .s + 1)) (c .before .before .put-box .ensures) ∙ boxes-yes (s .args .unit) (s .args .k) (s .args .stations .now) (s .args .blocks .now) (s .args .places .now) (l .loop .s) (l .loop .frames) _ (c .before .before .before .before .before .before .before .loop-test .taken)
+      ap (boxesIn (l .loop .s + 1)) (c .before .before .put-box .ensures) ∙ boxes-yes (s .args .m) (s .args .k) (s .args .stations .now) (s .args .blocks .now) (s .args .places .now) (l .loop .s) (l .loop .frames) _ (c .before .before .before .before .before .before .before .loop-test .taken)
           (omega (arith, s .pre, l .loop .inv .1)) (c .before .before .before .before .before .if1 .taken) (c .before .before .before .station-box .ensures) (l .loop .inv .2),
     )
 
@@ -65,7 +65,7 @@ loop-again-2 c =
     let s = c .before .before .before .before .before .before .before .before .before .before .before .before in (
       omega arith,
       omega (arith, c .before .before .put-box2 .kept, l .loop .inv .1),
-      ap (boxesIn (l .loop .s + 1)) (c .before .before .put-box2 .ensures) ∙ boxes-no (s .args .unit) (s .args .k) (s .args .stations .now) (s .args .blocks .now) (s .args .places .now) (l .loop .s) (l .loop .frames) (c .before .before .before .before .before .before .loop-test .taken)
+      ap (boxesIn (l .loop .s + 1)) (c .before .before .put-box2 .ensures) ∙ boxes-no (s .args .m) (s .args .k) (s .args .stations .now) (s .args .blocks .now) (s .args .places .now) (l .loop .s) (l .loop .frames) (c .before .before .before .before .before .before .loop-test .taken)
           (omega (arith, s .pre, l .loop .inv .1)) (c .before .before .before .before .if1 .left) (l .loop .inv .2),
     )
 

@@ -14,10 +14,10 @@ use Rattle.requests.proofs.request.nothing_at.Reads as nothing-at-reads
 use Rattle.requests.proofs.request.request_of.Reads as request-of-reads
 
 abbrev Inv-loop : tie.InvT-loop
-Inv-loop sub from to service unit buses ends blocks places frames start list₀ i₀ list i = (i ≤ 16) × (length list ≡ 16) × FilledTo (lists sub unit buses ends blocks places frames) from to service start i list
+Inv-loop sub from to service measures buses ends blocks places frames start list₀ i₀ list i = (i ≤ 16) × (length list ≡ 16) × FilledTo (lists sub measures buses ends blocks places frames) from to service start i list
 
 abbrev μ-loop : tie.MeasureT-loop
-μ-loop sub from to service unit buses ends blocks places frames start list₀ i₀ list i = 16 - i
+μ-loop sub from to service measures buses ends blocks places frames start list₀ i₀ list i = 16 - i
 
 nothing-at-requires : tie.Need-nothing-at-requires Inv-loop μ-loop
 nothing-at-requires c κs = search needs

@@ -16,10 +16,10 @@ use Rattle.results.proofs.buses.finite_bar.Reads as finite-bar-reads
 use Rattle.runs.proofs.run.bar_of.Reads as bar-of-reads
 
 abbrev Inv-loop : tie.InvT-loop
-Inv-loop sub unit buses blocks frames i₀ i = (i ≤ length sub) × Left finiteBar (busBar sub unit buses blocks frames) (length sub) i
+Inv-loop sub measures buses blocks frames i₀ i = (i ≤ length sub) × Left finiteBar (busBar sub measures buses blocks frames) (length sub) i
 
 abbrev μ-loop : tie.MeasureT-loop
-μ-loop sub unit buses blocks frames i₀ i = length sub - i
+μ-loop sub measures buses blocks frames i₀ i = length sub - i
 
 loop-holds : tie.Need-loop-holds Inv-loop μ-loop
 loop-holds c = (omega arith, all-start _ _ _)

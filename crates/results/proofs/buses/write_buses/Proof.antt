@@ -21,10 +21,10 @@ use Rattle.results.proofs.lists.put_numbers.Reads as put-numbers-reads
 use Rattle.runs.proofs.run.bar_of.Reads as bar-of-reads
 
 abbrev Inv-loop : tie.InvT-loop
-Inv-loop l sub unit buses blocks frames positions₀ bars₀ i₀ positions bars i = (i ≤ length sub) × Drawn sub unit buses blocks frames positions₀ bars₀ i positions bars
+Inv-loop l sub measures buses blocks frames positions₀ bars₀ i₀ positions bars i = (i ≤ length sub) × Drawn sub measures buses blocks frames positions₀ bars₀ i positions bars
 
 abbrev μ-loop : tie.MeasureT-loop
-μ-loop l sub unit buses blocks frames positions₀ bars₀ i₀ positions bars i = length sub - i
+μ-loop l sub measures buses blocks frames positions₀ bars₀ i₀ positions bars i = length sub - i
 
 returns : tie.Need-returns Inv-loop μ-loop
 returns c = (after-refusal _ _ _ (c .if1 .taken), after-refusal _ _ _ (c .if1 .taken))
@@ -64,7 +64,7 @@ same-length-2 c = c .before .loop .inv .1 .bars .room
 
 returns-2 : tie.Need-returns-2 Inv-loop μ-loop
 unfolding barsIn
-returns-2 c = let e : c .before .loop .i ≡ length (c .before .before .before .before .before .before .before .before .before .args .sub .now) = omega arith in (after-none _ _ _ _ _ _ (c .before .before .if1 .left) (ap (λ n. flat (λ b. pointNumbers (position b)) (table (busBar (c .before .before .before .before .before .before .before .before .before .args .sub .now) (c .before .before .before .before .before .before .before .before .before .args .unit) (c .before .before .before .before .before .before .before .before .before .args .buses .now) (c .before .before .before .before .before .before .before .before .before .args .blocks .now) (c .before .before .before .before .before .before .before .before .before .args .frames .now)) n)) e) (c .before .loop .inv .1 .points), after-none _ _ _ _ _ _ (c .before .before .if1 .left) (ap (λ n. flat barNumbers (table (busBar (c .before .before .before .before .before .before .before .before .before .args .sub .now) (c .before .before .before .before .before .before .before .before .before .args .unit) (c .before .before .before .before .before .before .before .before .before .args .buses .now) (c .before .before .before .before .before .before .before .before .before .args .blocks .now) (c .before .before .before .before .before .before .before .before .before .args .frames .now)) n)) e) (c .before .loop .inv .1 .bars))
+returns-2 c = let e : c .before .loop .i ≡ length (c .before .before .before .before .before .before .before .before .before .args .sub .now) = omega arith in (after-none _ _ _ _ _ _ (c .before .before .if1 .left) (ap (λ n. flat (λ b. pointNumbers (position b)) (table (busBar (c .before .before .before .before .before .before .before .before .before .args .sub .now) (c .before .before .before .before .before .before .before .before .before .args .measures) (c .before .before .before .before .before .before .before .before .before .args .buses .now) (c .before .before .before .before .before .before .before .before .before .args .blocks .now) (c .before .before .before .before .before .before .before .before .before .args .frames .now)) n)) e) (c .before .loop .inv .1 .points), after-none _ _ _ _ _ _ (c .before .before .if1 .left) (ap (λ n. flat barNumbers (table (busBar (c .before .before .before .before .before .before .before .before .before .args .sub .now) (c .before .before .before .before .before .before .before .before .before .args .measures) (c .before .before .before .before .before .before .before .before .before .args .buses .now) (c .before .before .before .before .before .before .before .before .before .args .blocks .now) (c .before .before .before .before .before .before .before .before .before .args .frames .now)) n)) e) (c .before .loop .inv .1 .bars))
 
 pub write-buses-spec : {M : Type 1} → statement M
 write-buses-spec =

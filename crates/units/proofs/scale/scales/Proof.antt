@@ -92,7 +92,7 @@ add-blocks-2 : tie.Need-add-blocks-2 Inv-loop μ-loop
 add-blocks-2 c = search needs
 
 mul-blocks-4 : tie.Need-mul-blocks-4 Inv-loop μ-loop
-mul-blocks-4 c = search needs
+mul-blocks-4 c = omega (arith, c .before .before .before .before .before .before .before .before .before .before .before .before .before .before .before .before .before .before .before .before .before .good .1 .1 .1 .1 .1 .1 .0, c .before .before .before .before .before .before .before .before .before .before .before .before .before .before .before .before .before .before .before .before .before .pre .3, c .before .before .loop-test .taken)
 
 slice-write-blocks-2 : tie.Need-slice-write-blocks-2 Inv-loop μ-loop
 slice-write-blocks-2 c = search needs

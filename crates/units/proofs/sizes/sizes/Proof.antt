@@ -11,13 +11,13 @@ use Rattle.units.proofs.sizes.sizes.Statement.{statement}
 use Rattle.units.proofs.sizes.sizes.Tie as tie
 
 abbrev Inv-loop : tie.InvT-loop
-Inv-loop k stations blocks₀ s₀ blocks s = (s ≤ k) × (length blocks ≡ length blocks₀) × (sizesIn s blocks ≡ sized k stations s)
+Inv-loop g k stations blocks₀ s₀ blocks s = (s ≤ k) × (length blocks ≡ length blocks₀) × (sizesIn s blocks ≡ sized g k stations s)
 
 abbrev μ-loop : tie.MeasureT-loop
-μ-loop k stations blocks₀ s₀ blocks s = k - s
+μ-loop g k stations blocks₀ s₀ blocks s = k - s
 
 loop-holds : tie.Need-loop-holds Inv-loop μ-loop
-loop-holds c = (omega arith, refl, sizes-start _ _ _)
+loop-holds c = (omega arith, refl, sizes-start _ _ _ _)
 
 mul-width : tie.Need-mul-width Inv-loop μ-loop
 mul-width c = search needs
@@ -82,7 +82,7 @@ loop-again c =
     let s = at .before .before .before .args in
     let h : at .loop .s < s .k = omega arith in
     let l : 3 * s .k ≤ length (at .loop .blocks) = omega arith in
-    (omega arith, simp length-set (at .loop .inv .1), sizes-step (s .k) (s .stations .now) (at .loop .s) (at .loop .blocks) _ _ h l (at .loop .inv .2) (c .before .before .width .ensures) (c .height .ensures))
+    (omega arith, simp length-set (at .loop .inv .1), sizes-step (s .g) (s .k) (s .stations .now) (at .loop .s) (at .loop .blocks) _ _ h l (at .loop .inv .2) (c .before .before .width .ensures) (c .height .ensures))
 
 same-length : tie.Need-same-length Inv-loop μ-loop
 same-length c = search needs
@@ -90,7 +90,7 @@ same-length c = search needs
 returns : tie.Need-returns Inv-loop μ-loop
 returns c =
     let e : c .before .loop .s ≡ c .before .before .before .before .args .k = omega arith in
-    cc (e, c .before .loop .inv .2, sizes-end (c .before .before .before .before .args .k) (c .before .before .before .before .args .stations .now))
+    cc (e, c .before .loop .inv .2, sizes-end (c .before .before .before .before .args .g) (c .before .before .before .before .args .k) (c .before .before .before .before .args .stations .now))
 
 pub sizes-spec : {M : Type 1} → statement M
 sizes-spec =

@@ -4,8 +4,8 @@ use borrow.Author.Needs.{needs}
 use Rattle.units.proofs.sizes.width.Statement.{statement}
 use Rattle.units.proofs.sizes.width.Tie as tie
 
-gaps-requires : tie.Need-gaps-requires
-gaps-requires c κs = search needs
+others-requires : tie.Need-others-requires
+others-requires c κs = search needs
 
 int-to-float-result : tie.Need-int-to-float-result
 int-to-float-result c = search needs
@@ -15,4 +15,4 @@ unfolding widthFor
 returns c = cc
 
 pub width-spec : {M : Type 1} → statement M
-width-spec = tie.close (tie.spec gaps-requires int-to-float-result returns)
+width-spec = tie.close (tie.spec others-requires int-to-float-result returns)

@@ -51,9 +51,16 @@ returns-6 : tie.Need-returns-6
 unfolding inRange
 returns-6 c = let b : toZ w32 (ofZ w32 (c .before .before .before .before .before .before .before .before .before .before .before .before .before .args .self .search)) ≡ c .before .before .before .before .before .before .before .before .before .before .before .before .before .args .self .search = toZ-ofZ {w = w32} {z = c .before .before .before .before .before .before .before .before .before .before .before .before .before .args .self .search} (record { sfits = c .before .before .struct-told .given .1 .1 .1 .1 .1 .1 .0 .1 }) in rw (not-false (lt f0 (c .before .before .before .before .before .before .before .before .before .before .before .before .before .args .self .fill)) (c .before .before .before .before .before .before .before .before .before .before .before .if1 .left), not-false (le (c .before .before .before .before .before .before .before .before .before .before .before .before .before .args .self .fill) f16) (c .before .before .before .before .before .before .before .before .before .if2 .left), sym (c .before .before .before .before .before .before .before .before .between .ensures) ∙ not-false (c .before .before .before .before .before .before .before .before .between .result) (c .before .before .before .before .before .before .before .if3 .left), sym (c .before .before .before .before .before .before .between2 .ensures) ∙ not-false (c .before .before .before .before .before .before .between2 .result) (c .before .before .before .before .before .if4 .left), sym (c .before .before .before .before .between3 .ensures) ∙ not-false (c .before .before .before .before .between3 .result) (c .before .before .before .if5 .left), ap searchFits (sym b) ∙ sym (c .before .search-fits .ensures) ∙ not-true (c .before .search-fits .result) (c .if6 .taken))
 
+gaps-fit-requires : tie.Need-gaps-fit-requires
+gaps-fit-requires c κs = search needs
+
 returns-7 : tie.Need-returns-7
 unfolding inRange
-returns-7 c = let b : toZ w32 (ofZ w32 (c .before .before .before .before .before .before .before .before .before .before .before .before .before .before .args .self .search)) ≡ c .before .before .before .before .before .before .before .before .before .before .before .before .before .before .args .self .search = toZ-ofZ {w = w32} {z = c .before .before .before .before .before .before .before .before .before .before .before .before .before .before .args .self .search} (record { sfits = c .before .before .before .struct-told .given .1 .1 .1 .1 .1 .1 .0 .1 }) in rw (not-false (lt f0 (c .before .before .before .before .before .before .before .before .before .before .before .before .before .before .args .self .fill)) (c .before .before .before .before .before .before .before .before .before .before .before .before .if1 .left), not-false (le (c .before .before .before .before .before .before .before .before .before .before .before .before .before .before .args .self .fill) f16) (c .before .before .before .before .before .before .before .before .before .before .if2 .left), sym (c .before .before .before .before .before .before .before .before .before .between .ensures) ∙ not-false (c .before .before .before .before .before .before .before .before .before .between .result) (c .before .before .before .before .before .before .before .before .if3 .left), sym (c .before .before .before .before .before .before .before .between2 .ensures) ∙ not-false (c .before .before .before .before .before .before .before .between2 .result) (c .before .before .before .before .before .before .if4 .left), sym (c .before .before .before .before .before .between3 .ensures) ∙ not-false (c .before .before .before .before .before .between3 .result) (c .before .before .before .before .if5 .left), ap searchFits (sym b) ∙ sym (c .before .before .search-fits .ensures) ∙ not-false (c .before .before .search-fits .result) (c .before .if6 .left))
+returns-7 c = let b : toZ w32 (ofZ w32 (c .before .before .before .before .before .before .before .before .before .before .before .before .before .before .before .args .self .search)) ≡ c .before .before .before .before .before .before .before .before .before .before .before .before .before .before .before .args .self .search = toZ-ofZ {w = w32} {z = c .before .before .before .before .before .before .before .before .before .before .before .before .before .before .before .args .self .search} (record { sfits = c .before .before .before .before .struct-told .given .1 .1 .1 .1 .1 .1 .0 .1 }) in rw (not-false (lt f0 (c .before .before .before .before .before .before .before .before .before .before .before .before .before .before .before .args .self .fill)) (c .before .before .before .before .before .before .before .before .before .before .before .before .before .if1 .left), not-false (le (c .before .before .before .before .before .before .before .before .before .before .before .before .before .before .before .args .self .fill) f16) (c .before .before .before .before .before .before .before .before .before .before .before .if2 .left), sym (c .before .before .before .before .before .before .before .before .before .before .between .ensures) ∙ not-false (c .before .before .before .before .before .before .before .before .before .before .between .result) (c .before .before .before .before .before .before .before .before .before .if3 .left), sym (c .before .before .before .before .before .before .before .before .between2 .ensures) ∙ not-false (c .before .before .before .before .before .before .before .before .between2 .result) (c .before .before .before .before .before .before .before .if4 .left), sym (c .before .before .before .before .before .before .between3 .ensures) ∙ not-false (c .before .before .before .before .before .before .between3 .result) (c .before .before .before .before .before .if5 .left), ap searchFits (sym b) ∙ sym (c .before .before .before .search-fits .ensures) ∙ not-false (c .before .before .before .search-fits .result) (c .before .before .if6 .left), sym (c .before .gaps-fit .ensures) ∙ not-true (c .before .gaps-fit .result) (c .if7 .taken))
+
+returns-8 : tie.Need-returns-8
+unfolding inRange
+returns-8 c = let b : toZ w32 (ofZ w32 (c .before .before .before .before .before .before .before .before .before .before .before .before .before .before .before .before .args .self .search)) ≡ c .before .before .before .before .before .before .before .before .before .before .before .before .before .before .before .before .args .self .search = toZ-ofZ {w = w32} {z = c .before .before .before .before .before .before .before .before .before .before .before .before .before .before .before .before .args .self .search} (record { sfits = c .before .before .before .before .before .struct-told .given .1 .1 .1 .1 .1 .1 .0 .1 }) in rw (not-false (lt f0 (c .before .before .before .before .before .before .before .before .before .before .before .before .before .before .before .before .args .self .fill)) (c .before .before .before .before .before .before .before .before .before .before .before .before .before .before .if1 .left), not-false (le (c .before .before .before .before .before .before .before .before .before .before .before .before .before .before .before .before .args .self .fill) f16) (c .before .before .before .before .before .before .before .before .before .before .before .before .if2 .left), sym (c .before .before .before .before .before .before .before .before .before .before .before .between .ensures) ∙ not-false (c .before .before .before .before .before .before .before .before .before .before .before .between .result) (c .before .before .before .before .before .before .before .before .before .before .if3 .left), sym (c .before .before .before .before .before .before .before .before .before .between2 .ensures) ∙ not-false (c .before .before .before .before .before .before .before .before .before .between2 .result) (c .before .before .before .before .before .before .before .before .if4 .left), sym (c .before .before .before .before .before .before .before .between3 .ensures) ∙ not-false (c .before .before .before .before .before .before .before .between3 .result) (c .before .before .before .before .before .before .if5 .left), ap searchFits (sym b) ∙ sym (c .before .before .before .before .search-fits .ensures) ∙ not-false (c .before .before .before .before .search-fits .result) (c .before .before .before .if6 .left), sym (c .before .before .gaps-fit .ensures) ∙ not-false (c .before .before .gaps-fit .result) (c .before .if7 .left))
 
 pub in-range-spec : {M : Type 1} → statement M
 in-range-spec =
@@ -69,4 +76,6 @@ in-range-spec =
     returns-5
     search-fits-requires
     returns-6
-    returns-7)
+    gaps-fit-requires
+    returns-7
+    returns-8)

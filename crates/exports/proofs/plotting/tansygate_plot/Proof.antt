@@ -1,10 +1,10 @@
--- `exports::plotting::tansygate_layout` meets its contract. Assumes nothing.
+-- `exports::plotting::tansygate_plot` meets its contract. Assumes nothing.
 use Rattle.exports.proofs.Plains.{layout-plain}
 use borrow.Author.Needs.{needs}
-use Rattle.exports.proofs.plotting.tansygate_layout.Statement.{statement}
-use Rattle.exports.proofs.plotting.tansygate_layout.Tie as tie
-use Rattle.exports.proofs.plotting.tansygate_layout.Reads as reads
-use Rattle.exports.proofs.plotting.tansygate_layout.Lts as lts
+use Rattle.exports.proofs.plotting.tansygate_plot.Statement.{statement}
+use Rattle.exports.proofs.plotting.tansygate_plot.Tie as tie
+use Rattle.exports.proofs.plotting.tansygate_plot.Reads as reads
+use Rattle.exports.proofs.plotting.tansygate_plot.Lts as lts
 use Rattle.records.proofs.plain.options_of.Reads as options-of-reads
 use Rattle.records.proofs.plain.plot_numbers.Reads as plot-numbers-reads
 use Rattle.layout.proofs.call.tx_schematic_layout.Reads as tx-schematic-layout-reads
@@ -81,8 +81,8 @@ same-length-20 c = c .before .before .before .before .before .before .before .be
 returns : tie.Need-returns
 returns c = layout-plain _ _ _ _ _ _ _ _ _ _ _ (c .before .before .before .before .before .before .before .before .before .before .before .before .before .before .before .before .before .before .before .before .before .before .before .before .before .before .before .before .before .before .before .before .before .before .before .before .before .before .before .before .before .before .options-of .ensures) (c .plot-numbers .ensures) (c .before .before .before .before .before .before .before .before .before .before .before .before .before .before .before .before .before .before .before .before .before .before .before .before .before .before .before .before .before .before .before .before .before .before .before .before .before .before .before .before .before .tx-schematic-layout .ensures)
 
-pub tansygate-layout-spec : {M : Type 1} → statement M
-tansygate-layout-spec =
+pub tansygate-plot-spec : {M : Type 1} → statement M
+tansygate-plot-spec =
     tie.close
     (tie.spec
     options-of-requires
