@@ -1,6 +1,6 @@
 //! Names that look alike: what is printed the same can't be told apart on paper.
 use crate::fault::shown;
-use crate::plain::{turns, unseen};
+use crate::plain::{spaced, turns, unseen};
 use std::collections::HashMap;
 
 /// A name with the line of its file.
@@ -34,9 +34,12 @@ const LETTERS: [(&str, &str); 2] =
 
 /// The name as it is printed: without what can't be seen, with single spaces, each letter before its accents.
 fn printed(name: &str) -> String {
+    if name.is_ascii() {
+        return spaced(name);
+    }
     let seen: String = name.chars().filter(|&c| !turns(c) && !unseen(c)).collect();
     let mut out = String::new();
-    for c in seen.split_whitespace().collect::<Vec<_>>().join(" ").chars() {
+    for c in spaced(&seen).chars() {
         match MARKS.iter().find_map(|(mark, from, to)| at(to, from, c).map(|letter| (letter, *mark))) {
             Some((letter, mark)) => out.extend([letter, mark]),
             None => out.push(c),
@@ -53,16 +56,19 @@ fn at(from: &str, to: &str, c: char) -> Option<char> {
     from.chars().position(|x| x == c).and_then(|i| to.chars().nth(i))
 }
 
-/// The printed name in Latin letters with plain dashes, as far as others look like them.
-fn latin(name: &str) -> String {
+/// A printed name in Latin letters with plain dashes, as far as others look like them.
+fn latin(printed: &str) -> String {
+    if printed.is_ascii() {
+        return printed.to_string();
+    }
     let dash = |c: char| matches!(c, '\u{2010}'..='\u{2015}' | '\u{2212}');
     let one = |c: char| if dash(c) { '-' } else { LETTERS.iter().find_map(|(from, to)| at(from, to, c)).unwrap_or(c) };
-    printed(name).chars().map(one).collect()
+    printed.chars().map(one).collect()
 }
 
-/// What names are easily misread by: small letters for capitals; O for 0, and l, I and a stroke for 1.
-fn looks(name: &str) -> [String; 2] {
-    let latin = latin(name);
+/// What printed names are easily misread by: small letters for capitals; O for 0, and l, I and a stroke for 1.
+fn looks(printed: &str) -> [String; 2] {
+    let latin = latin(printed);
     let digit = |c: char| match c {
         'O' => '0',
         'l' | 'I' | '|' => '1',
@@ -76,12 +82,13 @@ fn from_the_right(c: char) -> bool {
     matches!(c, '\u{590}'..='\u{8FF}' | '\u{FB1D}'..='\u{FDFF}' | '\u{FE70}'..='\u{FEFE}' | '\u{10800}'..='\u{10FFF}')
 }
 
-/// The characters of a name with letters that are read from the right, in order: where they stand depends on the viewer.
-fn turned(name: &str) -> Option<String> {
-    if !name.chars().any(from_the_right) {
+/// The characters of a printed name with letters that are read from the right, in order: where they stand depends on the
+/// viewer.
+fn turned(printed: &str) -> Option<String> {
+    if printed.is_ascii() || !printed.chars().any(from_the_right) {
         return None;
     }
-    let mut chars: Vec<char> = latin(name).to_lowercase().chars().collect();
+    let mut chars: Vec<char> = latin(printed).to_lowercase().chars().collect();
     chars.sort_unstable();
     Some(format!("turned {}", chars.into_iter().collect::<String>()))
 }
@@ -98,16 +105,17 @@ pub fn found<'a>(names: &'a [Named<'a>]) -> Found<'a> {
     let mut found = Found { same: None, alike: Vec::new() };
     let (mut by_print, mut by_look) = (HashMap::new(), HashMap::new());
     for named in names {
-        if let Some(&first) = by_print.get(&printed(named.name)) {
+        let printed = printed(named.name);
+        if let Some(&first) = by_print.get(&printed) {
             found.same = found.same.or(Some([first, named]));
             continue;
         }
-        by_print.insert(printed(named.name), named);
         let mut earlier = None;
-        for look in looks(named.name).into_iter().chain(turned(named.name)) {
+        for look in looks(&printed).into_iter().chain(turned(&printed)) {
             earlier = earlier.or(by_look.get(&look).copied());
             by_look.entry(look).or_insert(named);
         }
+        by_print.insert(printed, named);
         found.alike.extend(earlier.map(|first| [first, named]));
     }
     found

@@ -54,7 +54,7 @@ pub fn compare(settings: &Settings) -> Result<ExitCode, Fault> {
             new.turn_over();
         }
         let (sheet, remarks) = marked(&old, &new, &items, settings)?;
-        let (sheets, more) = leaves::files(&sheet, settings);
+        let (sheets, more) = leaves::files(&sheet, leaves::checked(&sheet, &new)?, settings);
         files.extend(sheets);
         notes.extend(remarks.into_iter().chain(more));
     }
@@ -81,7 +81,6 @@ fn marked(
     let colours = leaves::colours(settings)?;
     let (mut sheet, panel) = sheet::drawn_beside(new, &drawing, settings, &colours, &|height| table.width(height));
     marks::mark(&mut sheet.leaves[0].root, items, &table, &panel)?;
-    check::passed(&sheet::svg::file(&sheet.leaves[0].root), new)?;
     let notes = report::notes(new, &drawing).into_iter().chain(remarks::all(new, &drawing)).collect();
     Ok((sheet, notes))
 }

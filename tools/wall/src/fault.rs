@@ -57,12 +57,19 @@ impl fmt::Display for Fault {
     }
 }
 
-/// A text as a message shows it: in quotes, on one line, at most forty characters, what can't be seen as escapes.
+/// A text as a message shows it: in quotes, on one line, at most forty characters, what can't be seen and blanks other than
+/// a space as escapes.
 pub fn shown(text: &str) -> String {
-    let text = visible(text);
-    let plain = |c: char| if c.is_control() { '\u{FFFD}' } else { c };
-    let mut short: String = text.chars().take(40).map(plain).collect();
-    if text.chars().nth(40).is_some() {
+    let mut seen = String::new();
+    for c in visible(text).chars() {
+        match c {
+            _ if c.is_control() => seen.push('\u{FFFD}'),
+            _ if c.is_whitespace() && c != ' ' => seen.push_str(&format!("<U+{:04X}>", c as u32)),
+            _ => seen.push(c),
+        }
+    }
+    let mut short: String = seen.chars().take(40).collect();
+    if seen.chars().nth(40).is_some() {
         short.push('…');
     }
     format!("'{short}'")

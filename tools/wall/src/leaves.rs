@@ -1,8 +1,10 @@
 //! The files of a sheet: one PDF file, or an SVG file for the sheet and one for each page of its index.
 use crate::args::Settings;
+use crate::check;
 use crate::colours::Colours;
 use crate::fault::Fault;
 use crate::load;
+use crate::network::Network;
 use crate::number::thousands;
 use crate::pdf;
 use crate::save;
@@ -17,8 +19,8 @@ pub fn colours(settings: &Settings) -> Result<Colours, Fault> {
     }
 }
 
-/// The files by name, and remarks.
-pub fn files(sheet: &Sheet, settings: &Settings) -> (Vec<(String, Vec<u8>)>, Vec<String>) {
+/// The files by name, and remarks. The sheet's own text is the given one.
+pub fn files(sheet: &Sheet, text: String, settings: &Settings) -> (Vec<(String, Vec<u8>)>, Vec<String>) {
     let name = settings.output.as_deref().unwrap_or("-");
     let mut notes = sheet.notes.clone();
     if settings.pdf() {
@@ -32,14 +34,22 @@ pub fn files(sheet: &Sheet, settings: &Settings) -> (Vec<(String, Vec<u8>)>, Vec
         }));
         return (vec![(name.to_string(), bytes)], notes);
     }
-    let page = |(i, leaf)| (page_name(name, i), svg::file(leaf).into_bytes());
-    (sheet.leaves.iter().map(|leaf| &leaf.root).enumerate().map(page).collect(), notes)
+    let pages = sheet.leaves.iter().skip(1).map(|leaf| svg::file(&leaf.root));
+    let texts = std::iter::once(text).chain(pages).enumerate();
+    (texts.map(|(i, text)| (page_name(name, i), text.into_bytes())).collect(), notes)
+}
+
+/// Checks the sheet; gives its text.
+pub fn checked(sheet: &Sheet, network: &Network) -> Result<String, Fault> {
+    let text = svg::file(&sheet.leaves[0].root);
+    check::passed(&text, network)?;
+    Ok(text)
 }
 
 /// Writes them all, or none; gives remarks.
-pub fn written(sheet: &Sheet, settings: &Settings) -> Result<Vec<String>, Fault> {
+pub fn written(sheet: &Sheet, text: String, settings: &Settings) -> Result<Vec<String>, Fault> {
     let name = settings.output.as_deref().unwrap_or("-");
-    let (files, mut notes) = files(sheet, settings);
+    let (files, mut notes) = files(sheet, text, settings);
     if name == "-" {
         save::written(name, &files[0].1)?;
         notes.extend((files.len() > 1).then(|| {

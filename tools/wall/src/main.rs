@@ -76,8 +76,8 @@ fn obey(settings: &Settings) -> Result<ExitCode, Fault> {
         guard::has_places(&network, settings)?;
         guard::is_legible(&network, &drawing, settings)?;
         let sheet = sheet::drawn(&network, &drawing, settings, &leaves::colours(settings)?);
-        check::passed(&sheet::svg::file(&sheet.leaves[0].root), &network)?;
-        notes.extend(leaves::written(&sheet, settings)?);
+        let text = leaves::checked(&sheet, &network)?;
+        notes.extend(leaves::written(&sheet, text, settings)?);
     } else {
         save::printed(&report::printed(&network, &drawing))?;
     }

@@ -55,6 +55,21 @@ pub fn voltage(kv: f64) -> String {
     }
 }
 
+/// What a text stands by in a list: its small letters, with numbers in it by their size.
+pub fn list_key(text: &str) -> String {
+    let small = text.to_lowercase();
+    let mut key = String::new();
+    let mut rest = small.as_str();
+    while let Some(start) = rest.find(|c: char| c.is_ascii_digit()) {
+        let (before, from) = rest.split_at(start);
+        let (digits, after) = from.split_at(from.find(|c: char| !c.is_ascii_digit()).unwrap_or(from.len()));
+        key.push_str(before);
+        key.push_str(&format!("{digits:0>20}"));
+        rest = after;
+    }
+    key + rest
+}
+
 /// The middle one of the finite numbers, in order.
 pub fn median(list: &[f64]) -> Option<f64> {
     let mut finite: Vec<f64> = list.iter().copied().filter(|x| x.is_finite()).collect();
@@ -79,6 +94,9 @@ mod tests {
     fn shown_numbers() {
         assert_eq!([short(0.0), short(1.234), short(45.67), short(1234.5)], ["0.00", "1.23", "45.7", "1234"]);
         assert_eq!([thousands(7), thousands(4096), thousands(1234567)], ["7", "4,096", "1,234,567"]);
+        let mut names = ["b 10", "B 9", "a10", "A 2", "b 9 x"];
+        names.sort_by_cached_key(|name| list_key(name));
+        assert_eq!(names, ["A 2", "a10", "B 9", "b 9 x", "b 10"]);
         assert_eq!([voltage(66.0), voltage(0.4), voltage(5e-324)], ["66 kV", "0.4 kV", "5e-324 kV"]);
     }
 }

@@ -15,6 +15,9 @@ pub fn unseen(c: char) -> bool {
 
 /// The text with directions and characters that can't be seen written as escapes: `<U+202E>`.
 pub fn visible(text: &str) -> String {
+    if text.is_ascii() {
+        return text.to_string();
+    }
     let mut out = String::with_capacity(text.len());
     for c in text.chars() {
         if turns(c) || unseen(c) {
@@ -28,7 +31,19 @@ pub fn visible(text: &str) -> String {
 
 /// The same on one line: blanks and line breaks become single spaces.
 pub fn one_line(text: &str) -> String {
-    visible(text).split_whitespace().collect::<Vec<_>>().join(" ")
+    spaced(&visible(text))
+}
+
+/// The words of a text with single spaces between them.
+pub fn spaced(text: &str) -> String {
+    let mut out = String::with_capacity(text.len());
+    for word in text.split_whitespace() {
+        if !out.is_empty() {
+            out.push(' ');
+        }
+        out.push_str(word);
+    }
+    out
 }
 
 #[cfg(test)]

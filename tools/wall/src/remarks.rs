@@ -3,6 +3,7 @@
 use crate::drawing::Drawing;
 use crate::network::Network;
 use crate::number::thousands;
+use crate::sheet::shape::Rect;
 use tansygate::TX_ROLE_LINE;
 
 /// How many names a remark has.
@@ -79,20 +80,7 @@ impl<'a> Boxes<'a> {
 
 /// Whether a straight piece meets a box.
 fn meets(piece: &[f64], b: &[f64]) -> bool {
-    let (mut enter, mut leave) = (0.0_f64, 1.0_f64);
-    for axis in [0, 1] {
-        let (from, step) = (piece[axis], piece[axis + 2] - piece[axis]);
-        if step == 0.0 {
-            if from < b[axis] || from > b[axis + 2] {
-                return false;
-            }
-            continue;
-        }
-        let (one, two) = ((b[axis] - from) / step, (b[axis + 2] - from) / step);
-        enter = enter.max(one.min(two));
-        leave = leave.min(one.max(two));
-    }
-    enter <= leave
+    Rect::new(b[0], b[1], b[2], b[3]).meets([piece[0], piece[1]], [piece[2], piece[3]])
 }
 
 /// Each line with each box that it runs through, other than those of its own two stations.

@@ -1,5 +1,6 @@
-// What a browser sees on a sheet and the pages of its index: every run, cross and number is there, nothing lies outside the
-// page, texts keep clear, circuits that run as one stroke are marked, and colours are those of the voltages.
+// What a browser sees on a sheet and the pages of its index: every run, cross and number is there, or its row in a box
+// that is shaded and in the index by row; nothing lies outside the page, texts keep clear, circuits that run as one stroke
+// are marked, and colours are those of the voltages.
 (() => {
     const [svg, ...index] = document.querySelectorAll('svg');
     const wrong = [];
@@ -12,6 +13,21 @@
     const name = (element) => element.textContent || element.id || element.tagName;
     const number = (element, attribute) => parseFloat(element.getAttribute(attribute) || 0);
 
+    // The rows of a file of the export by its header's names; none where the network is a text.
+    const read = (id) => {
+        const rows = [[]], text = document.getElementById(id).textContent.trim().replace(/^\uFEFF/, '');
+        for (const [, quoted, plain, end] of text.matchAll(/(?:"((?:[^"]|"")*)"|([^,\r\n]*))(,|\r?\n|$)/g)) {
+            if (!end && quoted === undefined && !plain && !rows.at(-1).length) break;
+            rows.at(-1).push((quoted === undefined ? plain : quoted.replaceAll('""', '"')).trim());
+            if (!end) break;
+            if (end !== ',') rows.push([]);
+        }
+        const [head, ...lines] = rows.filter((cells) => cells.length > 1);
+        return lines.map((cells) => Object.fromEntries((head || []).map((h, i) => [h.toLowerCase(), cells[i]])));
+    };
+    const buses = read('buses'), branches = read('branches');
+    const names = [...new Set(buses.map((bus) => bus.substation))], busOf = new Map(buses.map((bus) => [bus.name, bus]));
+
     // Pieces as `wall list` gives them: branch and role of each.
     const roles = new Map();
     for (const line of document.getElementById('list').textContent.trim().split('\n').slice(1)) {
@@ -19,7 +35,7 @@
         roles.set(branch, role);
     }
     const by = (attribute) => new Map(Map.groupBy(all(`[${attribute}]`), (element) => element.getAttribute(attribute)));
-    const runs = by('data-branch'), crosses = by('data-cross');
+    const runs = by('data-branch'), crosses = by('data-cross'), bars = by('data-bus');
     for (const [branch, role] of roles) {
         const run = runs.get(branch) || [], cross = crosses.get(branch) || [];
         if (run.length !== 1 || !(run[0].getTotalLength() > 0)) wrong.push(`branch ${branch} has ${run.length} elements`);
@@ -84,7 +100,7 @@
     const ends = [];
     for (const [branch, [run]] of runs) {
         const steps = run.getAttribute('d').split(/[ML]/).filter((step) => step).map((step) => step.split(' ').map(Number));
-        for (const at of [steps[0], steps[steps.length - 1]]) ends.push({ branch, at });
+        [steps[0], steps[steps.length - 1]].forEach((at, end) => ends.push({ branch, end, at }));
     }
     const digits = all('[data-number]');
     for (const element of digits.filter((element) => element.dataset.end !== undefined)) {
@@ -94,36 +110,109 @@
         if (!ends.some((end) => end.branch === element.dataset.number && far(end) <= least + 0.01)) wrong.push(`'${name(element)}' stands at another end`);
     }
     const stations = new Map(all('[data-station]').map((box) => [box.dataset.station, rect(box)]));
+    const has = (r, p) => r.left <= p[0] && p[0] <= r.right && r.top <= p[1] && p[1] <= r.bottom;
+    const boxOf = ({ branch, end, at }) => {
+        const bus = branches.length ? busOf.get(branches[branch][end ? 'to' : 'from']) : undefined;
+        return bus ? String(names.indexOf(bus.substation)) : [...stations].find(([, r]) => has(r, at))[0];
+    };
+    for (const end of ends) end.station = boxOf(end);
+    const ofBranch = Map.groupBy(ends, (end) => end.branch), both = (branch) => ofBranch.get(branch);
     let wanted = 0;
     for (const [branch, role] of roles) {
-        const [a, b] = ends.filter((end) => end.branch === branch).map((end) => end.at);
-        const has = (r, p) => r.left <= p[0] && p[0] <= r.right && r.top <= p[1] && p[1] <= r.bottom;
-        const inside = [...stations.values()].some((r) => has(r, a) && has(r, b));
-        wanted += role !== '2' ? 2 : inside ? 1 : 3;
+        const [a, b] = both(branch);
+        wanted += role !== '2' ? 2 : a.station === b.station ? 1 : 3;
     }
     const block = all('#title-block text').map(name).join('\n');
     const lost = parseInt((block.match(/Numbers left out\n([\d,]+)/) || ['', '0'])[1].replaceAll(',', ''));
     if (digits.length !== wanted - lost) wrong.push(`there are ${digits.length} numbers, wanted ${wanted}, left out ${lost}`);
 
-    // The index has every branch once, with its number as on the sheet, both buses and its squares.
-    const rows = new Map();
-    for (const page of [svg, ...index]) {
-        for (const element of all('[data-index]', page)) {
-            const [branch, column] = element.dataset.index.split(' ');
-            if (!rows.has(branch)) rows.set(branch, []);
-            const cells = rows.get(branch);
+    // The cells of a table of the index by row: lines of one cell are joined.
+    const cellsOf = (key) => {
+        const rows = new Map();
+        for (const element of [svg, ...index].flatMap((page) => all(`[data-${key}]`, page))) {
+            const [row, column] = element.dataset[key].split(' ');
+            if (!rows.has(row)) rows.set(row, []);
+            const cells = rows.get(row);
             cells[column] = (cells[column] ? cells[column] + ' ' : '') + name(element);
         }
+        return rows;
+    };
+    const same = (a, b) => a.replaceAll(/\s/g, '') === b.replaceAll(/\s/g, '');
+
+    // Rows of boxes, counted from the top by where live runs end; an open one ends between two.
+    const live = (end) => roles.get(end.branch) !== '2';
+    for (const [, list] of Map.groupBy(ends, (end) => end.station)) {
+        const heights = [...new Map(list.filter(live).map((end) => [end.branch, end.at[1]])).values()].sort((a, b) => a - b);
+        for (const end of list) {
+            const above = heights.filter((y) => y < end.at[1] - 0.005).length;
+            end.row = live(end) ? `${above + 1}` : `${above}/${above + 1}`;
+            end.heights = heights;
+        }
     }
+
+    // The index has every branch once, with its number as on the sheet, both buses, its squares and rows.
+    const rows = cellsOf('index'), byRow = cellsOf('row');
+    const grid = (letters, at) => {
+        const marks = all('[data-grid]').filter((element) => /[A-H]/.test(name(element)) === letters);
+        const { width, height } = svg.viewBox.baseVal, axis = letters !== height > width ? 1 : 0;
+        const far = (element) => Math.abs(number(element, 'data-grid') - at[axis]);
+        return name(marks.reduce((best, element) => (far(element) < far(best) ? element : best)));
+    };
+    const squares = new Map([...stations].map(([station, r]) => {
+        const middle = [(r.left + r.right) / 2, (r.top + r.bottom) / 2];
+        return [station, grid(true, middle) + grid(false, middle)];
+    }));
     for (const element of digits) {
         if ((rows.get(element.dataset.number) || [])[0] !== name(element)) wrong.push(`'${name(element)}' isn't in the index`);
     }
     for (const [branch, role] of roles) {
-        const cells = rows.get(branch) || [];
-        if (cells.length !== 8 || cells.some((cell) => !cell)) wrong.push(`branch ${branch} isn't whole in the index: ${cells}`);
+        const cells = rows.get(branch) || [], [a, b] = both(branch), row = branches[branch];
+        const two = (one, other) => (a.station === b.station ? one : `${one}–${other}`);
+        if (cells.length !== 9 || cells.some((cell) => !cell)) wrong.push(`branch ${branch} isn't whole in the index: ${cells}`);
         if (cells[6] !== (role === '2' ? 'open' : 'live')) wrong.push(`branch ${branch} is ${cells[6]} in the index`);
-        if (!/^[A-H]\d+(–[A-H]\d+)?$/.test(cells[7])) wrong.push(`branch ${branch} stands in '${cells[7]}'`);
+        if (cells[7] !== two(squares.get(a.station), squares.get(b.station))) wrong.push(`branch ${branch} stands in '${cells[7]}'`);
+        const joined = a.station === b.station && a.row === b.row ? a.row : `${a.row}–${b.row}`;
+        if (cells[8] !== joined) wrong.push(`branch ${branch} has the rows '${cells[8]}', not ${joined}`);
+        if (row && !plain(row, cells)) wrong.push(`branch ${branch} is '${cells}' in the index`);
     }
+    function plain(row, cells) {
+        const odd = [row.name, row.from, row.to].some((text) => /[^\x21-\x7e ]/.test(text));
+        return odd || (same(cells[1], row.name) && same(cells[2], row.from) && same(cells[3], row.to));
+    }
+
+    // Where an end has no number, its box is shaded in fives, and the index has its row.
+    const shown = new Set(digits.map((element) => `${element.dataset.number} ${element.dataset.end ?? ''}`));
+    const counted = new Set(all('[data-counted]').map((box) => box.dataset.station));
+    const needed = new Set();
+    for (const [branch, role] of roles) {
+        const [a, b] = both(branch), inside = a.station === b.station;
+        const without = (key) => !shown.has(`${branch} ${key}`);
+        const atCross = role === '2' && without('');
+        for (const end of [a, b]) {
+            if (!atCross && ((role === '2' && inside) || !without(end.end))) continue;
+            needed.add(end.station);
+            const cells = byRow.get(`${end.station}:${branch}:${role !== '2' && inside ? 0 : end.end}`) || [];
+            if (cells[0] !== end.row || cells[1] !== (rows.get(branch) || [])[0]) wrong.push(`row ${end.row} of station ${end.station} isn't that of branch ${branch} in the index: ${cells}`);
+        }
+    }
+    if (needed.size !== counted.size || [...needed].some((station) => !counted.has(station))) wrong.push(`${counted.size} boxes are marked to be counted, not ${needed.size}`);
+    const fiveOf = by('data-five');
+    const headings = [svg, ...index].flatMap((page) => all('#index text[font-weight]', page)).map(name);
+    const rowsOf = Map.groupBy([...byRow], ([key]) => key.split(':')[0]);
+    for (const [station, list] of Map.groupBy(ends, (end) => end.station)) {
+        const bands = (fiveOf.get(station) || []).map(rect).sort((a, b) => a.top - b.top), { heights } = list[0];
+        if (!counted.has(station)) {
+            if (bands.length) wrong.push(`station ${station} has bands`);
+            continue;
+        }
+        const fives = heights.map((y, i) => [y, Math.floor(i / 5)]);
+        const right = bands.every((band, i) => fives.every(([y, five]) => (band.top < y && y < band.bottom) === (five === 2 * i + 1)));
+        if (!right || bands.length !== Math.floor(Math.ceil(heights.length / 5) / 2)) wrong.push(`the bands of station ${station} aren't its fives`);
+        const listed = (rowsOf.get(station) || []).map(([, cells]) => cells[0]).filter((row) => !row.includes('/'));
+        if (listed.join() !== heights.map((_, i) => i + 1).join()) wrong.push(`the rows of station ${station} in the index are ${listed}`);
+        if (!headings.some((text) => text.endsWith(`, ${squares.get(station)}`))) wrong.push(`no heading in the index for station ${station}`);
+    }
+    if (counted.size && !/by row for shaded boxes|rows are too close to be counted/.test(block)) wrong.push('the sheet does not say how to find what has no number');
 
     // Stretches: steps of a run that lie close to another for five millimetres and more belong to a marked pair.
     const STEP = 0.25, near = new Map(), paths = new Map();
@@ -167,12 +256,18 @@
         }
     }
     for (const pair of seen) if (!marked.has(pair)) wrong.push(`branches ${pair} run as one stroke without a mark`);
-    const counted = (block.match(/Stretches as one stroke\n([\d,]+)/) || ['', ''])[1].replaceAll(',', '');
-    if (counted !== String(all('[data-stretch]').length)) wrong.push(`${counted} stretches are counted`);
+    const said = (block.match(/Stretches as one stroke\n([\d,]+)/) || ['', ''])[1].replaceAll(',', '');
+    if (said !== String(all('[data-stretch]').length)) wrong.push(`${said} stretches are counted`);
+    const together = cellsOf('together');
     for (const band of all('[data-stretch]')) {
         const colours = new Set(band.dataset.branches.split(' ').map((branch) => runs.get(branch)[0].getAttribute('stroke')));
-        const shown = new Set(all(`[data-shared="${band.dataset.stretch}"]`).map((element) => element.getAttribute('stroke')));
-        if (colours.size > 1 && [...colours].some((colour) => !shown.has(colour))) wrong.push(`a colour of ${band.dataset.branches} isn't seen`);
+        const seen = new Set(all(`[data-shared="${band.dataset.stretch}"]`).map((element) => element.getAttribute('stroke')));
+        if (colours.size > 1 && [...colours].some((colour) => !seen.has(colour))) wrong.push(`a colour of ${band.dataset.branches} isn't seen`);
+        const numbers = band.dataset.branches.split(' ').map((branch) => (rows.get(branch) || [])[0]);
+        if (!same((together.get(band.dataset.stretch) || [''])[0], numbers.join(', '))) wrong.push(`the circuits ${numbers} aren't together in the index`);
+        const label = all(`[data-mark="${band.dataset.stretch}"]`).map(name).join(' ');
+        const words = `${numbers.length} circuits ${numbers.slice(0, 4).join(', ')}${numbers.length > 4 ? ', …' : ''}`;
+        if (label && label !== words) wrong.push(`'${label}' stands for '${words}'`);
     }
 
     // Labels of one box differ, and what isn't shown in full is listed.
@@ -182,23 +277,42 @@
         if (labels.has(key)) wrong.push(`two bars of a box are called '${name(element)}'`);
         labels.add(key);
     }
-    const full = new Set([svg, ...index].flatMap((page) => all('[data-full]', page)).map((element) => element.dataset.full.split(' ')[0]));
-    const shown = new Map(all('[data-label]').map((element) => [element.dataset.label, name(element)]));
+    const full = cellsOf('full');
+    const labelled = new Map(all('[data-label]').map((element) => [element.dataset.label, name(element)]));
     for (const bar of all('[data-bus]')) {
-        const label = shown.get(bar.dataset.bus);
-        if ((label === undefined || label.includes('…') || label.startsWith('#')) && !full.has(`b${bar.dataset.bus}`)) wrong.push(`bus ${bar.dataset.bus} isn't listed in full`);
+        const label = labelled.get(bar.dataset.bus), cells = full.get(`b${bar.dataset.bus}`);
+        if ((label === undefined || label.includes('…') || label.startsWith('#')) && !cells) wrong.push(`bus ${bar.dataset.bus} isn't listed in full`);
+        if (cells && !same(cells.at(-1), bar.querySelector('title').textContent)) wrong.push(`bus ${bar.dataset.bus} is listed as '${cells.at(-1)}'`);
+        if (cells && !same(cells[1], label ?? 'left out')) wrong.push(`'${label}' is listed as '${cells[1]}'`);
+    }
+    const named = new Set(all('#station-names text').map((element) => element.dataset.of));
+    for (const box of all('[data-station]')) {
+        const cells = full.get(`s${box.dataset.station}`), title = box.querySelector('title').textContent;
+        if (!named.has(box.dataset.station) && !cells) wrong.push(`station ${box.dataset.station} isn't listed in full`);
+        if (cells && (!same(cells.at(-1), title) || cells[0] !== squares.get(box.dataset.station))) wrong.push(`station ${box.dataset.station} is listed as '${cells}'`);
     }
 
-    // Colours are those of the voltages.
-    const table = { 400: '#1d1a6b', 275: '#0f6e7d', 220: '#7a3320', 132: '#3a0a3f', 110: '#2e7d32', 66: '#17468f', 33: '#6f9a1c', 22: '#5a4a00', 11: '#b45f06', 6.6: '#8a5fa8', 3.3: '#b08d57', 0.4: '#9a8f86' };
-    const csv = document.getElementById('buses').textContent.trim();
-    if (csv && !csv.includes('"')) {
-        const [head, ...lines] = csv.split('\n').map((line) => line.split(','));
-        lines.forEach((cells, i) => {
-            const bar = all(`[data-bus="${i}"]`)[0];
-            if (bar.getAttribute('stroke') !== table[cells[head.indexOf('kv')]]) wrong.push(`bar ${i} hasn't its voltage's colour`);
-        });
+    // Colours are those of the voltages, and two that are as light in greyscale have different cores.
+    const table = { 400: '#1d1a6b', 275: '#0f6e7d', 220: '#7a3320', 132: '#3a0a3f', 110: '#2e7d32', 66: '#17468f', 33: '#6f9a1c', 22: '#5a4a00', 11: '#b45f06', 6.6: '#8a5fa8', 3.3: '#b08d57' };
+    const colourOf = (kv) => table[kv] || (kv < 1 ? '#9a8f86' : '#10352a');
+    const styles = new Map();
+    buses.forEach(({ kv }, i) => {
+        const bar = bars.get(String(i))[0], next = bar.nextElementSibling, colour = bar.getAttribute('stroke');
+        if (colour !== colourOf(parseFloat(kv))) wrong.push(`bar ${i} hasn't its voltage's colour`);
+        const core = next && !next.hasAttribute('data-bus') && next.getAttribute('d') === bar.getAttribute('d') ? next.getAttribute('stroke-dasharray') || 'whole' : 'none';
+        styles.set(parseFloat(kv), { colour, core });
+    });
+    const light = (hex) => {
+        const [r, g, b] = [1, 3, 5].map((i) => parseInt(hex.slice(i, i + 2), 16) / 255).map((c) => (c <= 0.04045 ? c / 12.92 : ((c + 0.055) / 1.055) ** 2.4));
+        return 116 * Math.cbrt(0.2126 * r + 0.7152 * g + 0.0722 * b) - 16;
+    };
+    for (const [kv, { colour, core }] of styles) for (const [other, look] of styles) {
+        if (kv < other && table[kv] && table[other] && core === look.core && Math.abs(light(colour) - light(look.colour)) < 10) wrong.push(`${kv} and ${other} kV look alike in greyscale`);
     }
+    branches.forEach(({ from, to }, i) => {
+        const run = (runs.get(String(i)) || [])[0], kv = [from, to].map((bus) => parseFloat(busOf.get(bus).kv));
+        if (run && run.getAttribute('stroke') !== (kv[0] === kv[1] ? colourOf(kv[0]) : '#1a1a1a')) wrong.push(`run ${i} hasn't its voltage's colour`);
+    });
 
     const source = new DOMParser().parseFromString(document.getElementById('source').textContent.trim(), 'image/svg+xml');
     if (source.querySelector('parsererror')) wrong.push('the sheet is no well-formed XML');
@@ -209,6 +323,6 @@
     }
     if (all('[data-branch], [data-bus], [data-station]').some((element) => !element.querySelector('title'))) wrong.push('a title is missing');
 
-    const counts = `${roles.size} runs, ${all('[data-cross]').length} crosses, ${stations.size} boxes, ${all('[data-bus]').length} bars, ${digits.length} of ${wanted} numbers, ${all('[data-stretch]').length} stretches, ${index.length} pages of the index`;
+    const counts = `${roles.size} runs, ${all('[data-cross]').length} crosses, ${stations.size} boxes, ${all('[data-bus]').length} bars, ${digits.length} of ${wanted} numbers, ${counted.size} boxes by row, ${all('[data-stretch]').length} stretches, ${index.length} pages of the index`;
     document.getElementById('found').textContent = wrong.length ? `${wrong.length} wrong: ${wrong.slice(0, 20).join('; ')}` : `ok: ${counts}`;
 })();

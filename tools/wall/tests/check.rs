@@ -206,7 +206,10 @@ fn numbers() {
     let (p, q) = (points(&sheet()[one]), points(&sheet()[two]));
     let with = |titles: [&str; 2], texts: &[String]| {
         let mut lines = sheet().to_vec();
-        lines.retain(|line| !line.contains(" data-number="));
+        for i in [one, two] {
+            let number = format!(" data-number=\"{}\"", value(&sheet()[i], "data-branch"));
+            lines.retain(|line| !line.contains(&number));
+        }
         for (i, title) in [one, two].into_iter().zip(titles) {
             let at = lines.iter().position(|line| *line == sheet()[i]).unwrap();
             lines[at] = titled(i, title);
@@ -215,7 +218,9 @@ fn numbers() {
         lines.insert(last, texts.join("\n"));
         lines
     };
-    let right = [text(one, 0, "901", p[0]), text(one, 1, "901", p[1]), text(two, 1, "902", q[1])];
+    let right =
+        [(one, "901", &p), (two, "902", &q)].map(|(i, number, at)| [0, 1].map(|end| text(i, end, number, at[end])));
+    let right = right.concat();
     let path = folder.write("right.svg", with(["901", "902"], &right).join("\n").as_bytes());
     let output = wall(&["check", path.to_str().unwrap(), FORTY]);
     assert_eq!(status(&output), 0, "{}", help::text(&output.stdout));

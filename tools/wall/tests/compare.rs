@@ -76,6 +76,8 @@ fn what_differs_is_printed_and_marked() {
         assert!(texts.contains(line), "{line} in {texts}");
     }
     assert!(texts.contains("Removed, not on the drawing branch KES 66 section 1-2: removed"));
+    let place = |id: &str| sheet.find(&format!("<g id=\"{id}\"")).unwrap();
+    assert!(place("boxes") < place("fives") && place("fives") < place("changed") && place("changed") < place("lines"));
 }
 
 /// The other way round, what was added is removed, and what was opened closed.

@@ -59,7 +59,7 @@ fn short_names_are_listed_in_full() {
             continue;
         }
         short += 1;
-        assert_eq!((&rows[key.as_str()][0], &rows[key.as_str()][2]), (label.unwrap_or(&"left out".to_string()), name));
+        assert_eq!((&rows[key.as_str()][1], &rows[key.as_str()][2]), (label.unwrap_or(&"left out".to_string()), name));
     }
     assert!(short > 20, "{short}");
 }
@@ -68,7 +68,7 @@ fn short_names_are_listed_in_full() {
 fn names_that_are_printed_the_same_are_refused() {
     for (a, b, shown) in [
         ("Bay 1", "Bay  1", "'Bay  1'"),
-        ("Bay 1", "Bay\u{A0}1", "'Bay\u{A0}1'"),
+        ("Bay 1", "Bay\u{A0}1", "'Bay<U+00A0>1'"),
         ("Bay1", "Bay\u{200B}1", "'Bay<U+200B>1'"),
         ("Bay12", "Bay\u{202E}12", "'Bay<U+202E>12'"),
     ] {
@@ -80,7 +80,7 @@ fn names_that_are_printed_the_same_are_refused() {
     let stations = folder("A,North Yard,66,0,0\nB,North\u{2009}Yard,66,0,0\n");
     let output = wall_in(&stations.0, &["audit", "."]);
     assert!(text(&output.stderr)
-        .contains("substations 'North Yard', ./buses.csv:2, and 'North\u{2009}Yard', ./buses.csv:3"));
+        .contains("substations 'North Yard', ./buses.csv:2, and 'North<U+2009>Yard', ./buses.csv:3"));
     let branches = folder("A,S,66,0,0\nB,T,66,9,9\n");
     branches.write("branches.csv", b"name,from,to,in_service\nL 1,A,B,1\nL  1,A,B,1\n");
     assert_eq!(status(&wall_in(&branches.0, &["audit", "."])), 2);

@@ -131,7 +131,7 @@ fn names_left_out_are_counted() {
     let output = wall(&["draw", FORTY[0], "-o", "-", "--paper", "A4"]);
     let said = text(&output.stderr);
     for note in [
-        "wall: note: names left out for want of room: 131; a larger paper has more\n",
+        "wall: note: names left out for want of room: 131; the index has them, and a larger paper has more room\n",
         "wall: note: numbers of branches left out for want of room: ",
         "wall: note: pages of the index not written to standard output: ",
     ] {

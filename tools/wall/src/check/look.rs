@@ -2,6 +2,7 @@
 //! whether it is seen.
 use super::plane::{number, Map};
 use super::xml::Element;
+use std::rc::Rc;
 
 /// Less than this isn't seen: opacity, and the width of a stroke in millimetres.
 const FAINT: f64 = 0.2;
@@ -14,18 +15,18 @@ const BRIGHT: u32 = 0xD8;
 pub struct Look {
     /// From its own numbers to millimetres on the page.
     pub map: Map,
-    pub stroke: String,
-    pub fill: String,
+    pub stroke: Rc<str>,
+    pub fill: Rc<str>,
     pub wide: f64,
     pub size: Option<f64>,
     pub dashed: bool,
-    pub anchor: String,
+    pub anchor: Rc<str>,
     /// Whether it or a group around it is hidden, clipped or has no ink.
     pub hidden: bool,
     /// Whether an attribute can't be read.
     pub unread: bool,
     /// The id of the group that it stands in.
-    pub group: String,
+    pub group: Rc<str>,
 }
 
 impl Look {
@@ -33,20 +34,20 @@ impl Look {
     pub fn root(map: Map) -> Look {
         Look {
             map,
-            stroke: "none".to_string(),
-            fill: "#000000".to_string(),
+            stroke: "none".into(),
+            fill: "#000000".into(),
             wide: 1.0,
             size: None,
             dashed: false,
-            anchor: "start".to_string(),
+            anchor: "start".into(),
             hidden: false,
             unread: false,
-            group: String::new(),
+            group: "".into(),
         }
     }
 
     /// The look of an element inside another.
-    pub fn inside(&self, element: &Element) -> Look {
+    pub fn inside(&self, element: &Element<'_>) -> Look {
         let mut look = self.clone();
         for (name, value) in &element.attributes {
             look.take(name, value);
@@ -62,12 +63,12 @@ impl Look {
                 Some(map) => self.map = self.map.after(&map),
                 None => self.unread = true,
             },
-            "stroke" => self.stroke = value.to_string(),
-            "fill" => self.fill = value.to_string(),
+            "stroke" => self.stroke = value.into(),
+            "fill" => self.fill = value.into(),
             "stroke-width" => self.wide = self.length(value),
             "font-size" => self.size = Some(self.length(value)),
             "stroke-dasharray" => self.dashed = value != "none",
-            "text-anchor" => self.anchor = value.to_string(),
+            "text-anchor" => self.anchor = value.into(),
             "style" => self.unread = true,
             "clip-path" | "mask" | "filter" => self.hidden |= value != "none",
             "display" => self.hidden |= value == "none",

@@ -21,7 +21,7 @@ use std::fmt::Display;
 
 /// A sheet that was read, the network that it has to show, and what is wrong.
 struct Check<'a> {
-    reading: &'a Reading,
+    reading: &'a Reading<'a>,
     network: &'a Network,
     found: Vec<String>,
 }
@@ -33,7 +33,7 @@ impl Check<'_> {
 }
 
 /// All that is wrong with a sheet, in words; nothing where it shows the network.
-pub fn findings(reading: &Reading, network: &Network) -> Vec<String> {
+pub fn findings(reading: &Reading<'_>, network: &Network) -> Vec<String> {
     let mut check = Check { reading, network, found: Vec::new() };
     check.page();
     let boxes = check.boxes();
@@ -43,7 +43,7 @@ pub fn findings(reading: &Reading, network: &Network) -> Vec<String> {
     check.rows(&boxes, &runs);
     check.crosses(&runs);
     check.dots(&runs);
-    check.numbers(&runs);
+    check.numbers(&boxes, &runs);
     check.station_labels(&boxes);
     check.bus_labels(&boxes, &bars);
     check.found
@@ -72,7 +72,7 @@ pub fn passed(text: &str, network: &Network) -> Result<(), Fault> {
 }
 
 /// What a sheet that shows its network has on it.
-pub fn summary(reading: &Reading) -> String {
+pub fn summary(reading: &Reading<'_>) -> String {
     let named = |list: &[reading::Part]| {
         list.iter().filter(|part| reading.elements[part.element].attribute("data-unnamed").is_none()).count()
     };

@@ -15,7 +15,7 @@ impl Check<'_> {
     pub fn page(&mut self) {
         let mut ids = HashSet::new();
         for (i, element) in self.reading.elements.iter().enumerate() {
-            let (name, line) = (element.name.as_str(), element.line);
+            let (name, line) = (element.name, element.line);
             if element.attribute("id").is_some_and(|id| !ids.insert(id)) {
                 self.say(format!("line {line}: the id '{}' is given twice", element.attribute("id").unwrap_or("")));
             }
@@ -30,7 +30,7 @@ impl Check<'_> {
     fn shape(&mut self, i: usize, line: usize) {
         let (look, element) = (&self.reading.looks[i], &self.reading.elements[i]);
         let rim =
-            if look.stroke == "none" || element.name == "text" { 0.0 } else { look.wide * look.map.scale() / 2.0 };
+            if &*look.stroke == "none" || element.name == "text" { 0.0 } else { look.wide * look.map.scale() / 2.0 };
         let span = self.reading.points(i).and_then(|points| Span::around(&points));
         match span {
             None => self.say(format!("line {line}: a {} whose shape can't be read", element.name)),
@@ -39,7 +39,7 @@ impl Check<'_> {
             }
             Some(span) if !self.reading.page.grown(0.01).holds(&span.grown(rim)) => {
                 let what =
-                    if element.name == "text" { format!("text '{}'", element.text) } else { element.name.clone() };
+                    if element.name == "text" { format!("text '{}'", element.text) } else { element.name.to_string() };
                 self.say(format!("line {line}: a {what} that reaches outside the page"));
             }
             _ => {}

@@ -4,6 +4,7 @@ use super::plane::{number, stretches, Map, Point, Span};
 use super::xml::{elements, Element};
 use crate::fault::{Fault, Place};
 use std::collections::HashMap;
+use std::rc::Rc;
 
 /// A box, bar, run or cross.
 pub struct Part {
@@ -24,8 +25,8 @@ pub struct Label {
     pub span: Option<Span>,
 }
 
-pub struct Reading {
-    pub elements: Vec<Element>,
+pub struct Reading<'a> {
+    pub elements: Vec<Element<'a>>,
     pub looks: Vec<Look>,
     pub page: Span,
     pub boxes: Vec<Part>,
@@ -35,6 +36,8 @@ pub struct Reading {
     pub bus_labels: Vec<Label>,
     pub station_labels: Vec<Label>,
     pub dots: Vec<Point>,
+    /// Bands of rows: the station that each is of, and where it is.
+    pub fives: Vec<(usize, Span)>,
 }
 
 /// How far text reaches above and below its baseline, in sizes: capitals and descenders.
@@ -52,20 +55,19 @@ fn character(c: char) -> f64 {
     }
 }
 
-pub fn read(text: &str, file: &str) -> Result<Reading, Fault> {
+pub fn read<'a>(text: &'a str, file: &'a str) -> Result<Reading<'a>, Fault> {
     let elements = elements(text, file)?;
     let (page, map) = page(&elements[0], file)?;
     let mut looks: Vec<Look> = Vec::with_capacity(elements.len());
+    // The id of the group around what stands in each element.
+    let mut groups: Vec<Rc<str>> = Vec::with_capacity(elements.len());
     for element in &elements {
         let look = match element.parent {
             None => Look::root(map).inside(element),
-            Some(parent) => {
-                let mut look = looks[parent].inside(element);
-                let around = &elements[parent];
-                look.group = around.attribute("id").filter(|_| around.name == "g").unwrap_or(&look.group).to_string();
-                look
-            }
+            Some(parent) => Look { group: groups[parent].clone(), ..looks[parent].inside(element) },
         };
+        let own = element.attribute("id").filter(|_| element.name == "g").map(Rc::from);
+        groups.push(own.unwrap_or_else(|| look.group.clone()));
         looks.push(look);
     }
     let mut reading = Reading {
@@ -79,13 +81,14 @@ pub fn read(text: &str, file: &str) -> Result<Reading, Fault> {
         bus_labels: Vec::new(),
         station_labels: Vec::new(),
         dots: Vec::new(),
+        fives: Vec::new(),
     };
     reading.sort_out();
     Ok(reading)
 }
 
 /// The page in millimetres, and how its numbers become millimetres.
-fn page(root: &Element, file: &str) -> Result<(Span, Map), Fault> {
+fn page(root: &Element<'_>, file: &str) -> Result<(Span, Map), Fault> {
     let side =
         |name: &str| root.attribute(name).and_then(|v| v.strip_suffix("mm")).and_then(number).filter(|&v| v > 0.0);
     let view = || -> Option<[f64; 4]> {
@@ -93,8 +96,7 @@ fn page(root: &Element, file: &str) -> Result<(Span, Map), Fault> {
             root.attribute("viewBox")?.split([' ', ',']).filter(|s| !s.is_empty()).map(number).collect();
         list?.try_into().ok().filter(|v: &[f64; 4]| v[2] > 0.0 && v[3] > 0.0)
     };
-    let (Some(width), Some(height), Some(v), "svg") = (side("width"), side("height"), view(), root.name.as_str())
-    else {
+    let (Some(width), Some(height), Some(v), "svg") = (side("width"), side("height"), view(), root.name) else {
         let place = Place { line: root.line, column: 1 };
         return Err(Fault::content(file, place, "expected <svg> with a width and a height in mm and a viewBox"));
     };
@@ -102,12 +104,12 @@ fn page(root: &Element, file: &str) -> Result<(Span, Map), Fault> {
     Ok((Span([0.0, 0.0, width, height]), Map([sx, 0.0, 0.0, sy, -v[0] * sx, -v[1] * sy])))
 }
 
-impl Reading {
+impl Reading<'_> {
     fn sort_out(&mut self) {
         let titles = self.titles();
         for i in 0..self.elements.len() {
             let element = &self.elements[i];
-            let (name, id) = (element.name.as_str(), element.attribute("id").unwrap_or(""));
+            let (name, id) = (element.name, element.attribute("id").unwrap_or(""));
             if name == "g" {
                 continue;
             }
@@ -119,7 +121,7 @@ impl Reading {
                 stretches: self.geometry(i),
             };
             if name == "text" {
-                let data = if self.looks[i].group == "station-names" { "data-of" } else { "data-label" };
+                let data = if &*self.looks[i].group == "station-names" { "data-of" } else { "data-label" };
                 let label = self.label(i, data);
                 let list = if data == "data-of" { &mut self.station_labels } else { &mut self.bus_labels };
                 list.extend(label);
@@ -131,7 +133,10 @@ impl Reading {
                 self.runs.push(part("data-branch"));
             } else if element.attribute("data-cross").is_some() {
                 self.crosses.push(part("data-cross"));
-            } else if name == "circle" && self.looks[i].group == "dots" {
+            } else if let Some(station) = element.attribute("data-five") {
+                let span = self.points(i).and_then(|points| Span::around(&points));
+                self.fives.extend(station.parse().ok().zip(span));
+            } else if name == "circle" && &*self.looks[i].group == "dots" {
                 let middle = self.points(i).and_then(|points| Span::around(&points));
                 self.dots.extend(middle.map(|span| span.middle()));
             }
@@ -147,13 +152,13 @@ impl Reading {
     /// The text of each element's title.
     fn titles(&self) -> HashMap<usize, String> {
         let titles = self.elements.iter().filter(|e| e.name == "title");
-        titles.filter_map(|e| Some((e.parent?, e.text.clone()))).collect()
+        titles.filter_map(|e| Some((e.parent?, e.text.to_string()))).collect()
     }
 
     fn label(&self, i: usize, data: &str) -> Option<Label> {
         let number = self.elements[i].attribute(data)?.parse().ok();
         let span = self.points(i).and_then(|points| Span::around(&points));
-        Some(Label { element: i, number, text: self.elements[i].text.clone(), span })
+        Some(Label { element: i, number, text: self.elements[i].text.to_string(), span })
     }
 
     fn numbers<const N: usize>(&self, i: usize, names: [&str; N]) -> Option<[f64; N]> {
@@ -170,7 +175,7 @@ impl Reading {
     /// The stretches of an element's outline, in millimetres; none where they can't be read.
     fn geometry(&self, i: usize) -> Option<Vec<Vec<Point>>> {
         let element = &self.elements[i];
-        let own = match element.name.as_str() {
+        let own = match element.name {
             "path" => stretches(element.attribute("d")?)?,
             "line" => {
                 let [x1, y1, x2, y2] = self.numbers(i, ["x1", "y1", "x2", "y2"])?;
@@ -205,7 +210,7 @@ impl Reading {
             Some(length) => number(length)?,
             None => size * element.text.chars().map(character).sum::<f64>(),
         };
-        let left = match self.looks[i].anchor.as_str() {
+        let left = match &*self.looks[i].anchor {
             "middle" => x - wide / 2.0,
             "end" => x - wide,
             _ => x,

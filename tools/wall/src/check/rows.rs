@@ -51,7 +51,7 @@ impl Check<'_> {
         }
     }
 
-    fn two_stations(&self, branch: usize) -> Option<[usize; 2]> {
+    pub fn two_stations(&self, branch: usize) -> Option<[usize; 2]> {
         Some(self.two_buses(branch)?.map(|bus| self.network.buses[bus].station as usize))
     }
 

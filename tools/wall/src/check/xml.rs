@@ -1,19 +1,20 @@
 //! XML as a list of elements in the order of the text: a reader of its own, which knows nothing of how sheets are written.
 use crate::fault::{shown, Fault, Place};
+use std::borrow::Cow;
 
-pub struct Element {
-    pub name: String,
-    pub attributes: Vec<(String, String)>,
+pub struct Element<'a> {
+    pub name: &'a str,
+    pub attributes: Vec<(&'a str, Cow<'a, str>)>,
     /// The element that it stands in; the root has none.
     pub parent: Option<usize>,
     /// Its own text, without that of elements in it.
-    pub text: String,
+    pub text: Cow<'a, str>,
     pub line: usize,
 }
 
-impl Element {
+impl Element<'_> {
     pub fn attribute(&self, name: &str) -> Option<&str> {
-        self.attributes.iter().find(|(n, _)| n == name).map(|(_, value)| value.as_str())
+        self.attributes.iter().find(|(n, _)| *n == name).map(|(_, value)| value.as_ref())
     }
 }
 
@@ -23,12 +24,12 @@ struct Reader<'a> {
     at: usize,
     /// Up to where lines are counted, and how many there are.
     counted: (usize, usize),
-    elements: Vec<Element>,
+    elements: Vec<Element<'a>>,
     open: Vec<usize>,
 }
 
 /// All elements of a text, the root first; each stands after its parent.
-pub fn elements(text: &str, file: &str) -> Result<Vec<Element>, Fault> {
+pub fn elements<'a>(text: &'a str, file: &'a str) -> Result<Vec<Element<'a>>, Fault> {
     let mut reader = Reader { file, text, at: 0, counted: (0, 1), elements: Vec::new(), open: Vec::new() };
     while reader.at < text.len() {
         reader.step()?;
@@ -67,8 +68,8 @@ impl<'a> Reader<'a> {
             return self.past(inside, "-->").map(|_| ());
         }
         if let Some(inside) = rest.strip_prefix("<![CDATA[") {
-            let text = self.past(inside, "]]>")?.to_string();
-            return self.add(&text);
+            let text = self.past(inside, "]]>")?;
+            return self.add(Cow::Borrowed(text));
         }
         if let Some(inside) = rest.strip_prefix("<?") {
             return self.past(inside, "?>").map(|_| ());
@@ -85,7 +86,7 @@ impl<'a> Reader<'a> {
         let end = rest.find('<').unwrap_or(rest.len());
         let text = self.decoded(&rest[..end])?;
         self.at += end;
-        self.add(&text)
+        self.add(text)
     }
 
     /// Goes past an end mark; gives what stands before it.
@@ -99,9 +100,10 @@ impl<'a> Reader<'a> {
         }
     }
 
-    fn add(&mut self, text: &str) -> Result<(), Fault> {
+    fn add(&mut self, text: Cow<'a, str>) -> Result<(), Fault> {
         match self.open.last() {
-            Some(&i) => self.elements[i].text.push_str(text),
+            Some(&i) if self.elements[i].text.is_empty() => self.elements[i].text = text,
+            Some(&i) => self.elements[i].text.to_mut().push_str(&text),
             None if text.chars().all(blank) => {}
             None => return self.fail("expected text only inside an element"),
         }
@@ -135,7 +137,7 @@ impl<'a> Reader<'a> {
         self.at += 1 + name.len();
         let (line, parent) = (self.counted.1, self.open.last().copied());
         let attributes = self.attributes()?;
-        self.elements.push(Element { name: name.to_string(), attributes, parent, text: String::new(), line });
+        self.elements.push(Element { name, attributes, parent, text: Cow::Borrowed(""), line });
         if self.rest().starts_with("/>") {
             self.at += 2;
         } else {
@@ -146,8 +148,8 @@ impl<'a> Reader<'a> {
     }
 
     /// The attributes up to the end of the tag, which is left.
-    fn attributes(&mut self) -> Result<Vec<(String, String)>, Fault> {
-        let mut list: Vec<(String, String)> = Vec::new();
+    fn attributes(&mut self) -> Result<Vec<(&'a str, Cow<'a, str>)>, Fault> {
+        let mut list: Vec<(&str, Cow<'_, str>)> = Vec::new();
         loop {
             let trimmed = self.rest().trim_start_matches(blank);
             let apart = trimmed.len() < self.rest().len();
@@ -161,19 +163,22 @@ impl<'a> Reader<'a> {
             let (Some(quote), true, false) = (quote, apart, name.is_empty()) else {
                 return self.fail("expected NAME=\"VALUE\", /> or > in the tag");
             };
-            if list.iter().any(|(n, _)| n == name) {
+            if list.iter().any(|(n, _)| *n == name) {
                 return self.fail(&format!("expected each attribute once, found a second {name}"));
             }
             let Some((value, _)) = after[2..].split_once(quote).filter(|(value, _)| !value.contains('<')) else {
                 return self.fail("expected the end of the attribute's value");
             };
-            list.push((name.to_string(), self.decoded(value)?));
+            list.push((name, self.decoded(value)?));
             self.at += name.len() + 3 + value.len();
         }
     }
 
     /// A text with its references resolved.
-    fn decoded(&self, text: &str) -> Result<String, Fault> {
+    fn decoded(&self, text: &'a str) -> Result<Cow<'a, str>, Fault> {
+        if !text.contains('&') {
+            return Ok(Cow::Borrowed(text));
+        }
         let mut out = String::with_capacity(text.len());
         let mut rest = text;
         while let Some(start) = rest.find('&') {
@@ -186,7 +191,7 @@ impl<'a> Reader<'a> {
             rest = after;
         }
         out.push_str(rest);
-        Ok(out)
+        Ok(Cow::Owned(out))
     }
 }
 
@@ -217,7 +222,7 @@ mod tests {
     fn a_small_document() {
         let text = "<?xml version=\"1.0\"?>\n<!-- x > y -->\n<a b='1'>\n <c d=\"&lt;&#10;&quot;\"/>t&amp;<![CDATA[<u>]]></a>\n";
         let list = elements(text, "f").unwrap();
-        assert_eq!((list[0].name.as_str(), list[0].text.as_str(), list[0].line), ("a", "\n t&<u>", 3));
+        assert_eq!((list[0].name, list[0].text.as_ref(), list[0].line), ("a", "\n t&<u>", 3));
         assert_eq!((list[1].attribute("d"), list[1].parent, list[1].line), (Some("<\n\""), Some(0), 4));
     }
 

@@ -1,35 +1,24 @@
 //! Differences of branches.
+use super::rows::{differing, Rows, Words};
 use super::twins::{new_ends, End, Twins};
 use super::{Change, Difference, Item, Kind};
 use crate::network::{Branch, Network};
 
 /// Branches that differ, in the new network's order, then those that are removed.
 pub fn branches(old: &Network, new: &Network, twins: &Twins) -> Vec<Item> {
-    let mut items = Vec::new();
-    for (i, branch) in new.branches.iter().enumerate() {
-        let twin = twins.branches.to_old.get(&i).copied();
-        let differences = match twin {
-            None => vec![Difference::new(Change::Added, "", described(new, branch))],
-            Some(o) => changed(old, new, twins, o, i),
-        };
-        if !differences.is_empty() {
-            let lines = [twin.map(|o| old.branches[o].line), Some(branch.line)];
-            items.push(Item {
-                kind: Kind::Branch,
-                name: branch.name.clone(),
-                old: twin,
-                new: Some(i),
-                lines,
-                differences,
-            });
-        }
-    }
-    for (o, branch) in old.branches.iter().enumerate().filter(|(o, _)| !twins.branches.to_new.contains_key(o)) {
-        let differences = vec![Difference::new(Change::Removed, described(old, branch), "")];
-        let lines = [Some(branch.line), None];
-        items.push(Item { kind: Kind::Branch, name: branch.name.clone(), old: Some(o), new: None, lines, differences });
-    }
-    items
+    let words = Words {
+        old: &|branch| described(old, branch),
+        new: &|branch| described(new, branch),
+        changed: &|o, i| changed(old, new, twins, o, i),
+    };
+    let rows = Rows {
+        kind: Kind::Branch,
+        old: &old.branches,
+        new: &new.branches,
+        pairs: &twins.branches,
+        place: |branch| (&branch.name, branch.line),
+    };
+    differing(&rows, &words)
 }
 
 /// The name of a bus by its number, or the number where there is no such bus.

@@ -1,4 +1,5 @@
 //! Differences of substations and buses.
+use super::rows::{differing, Rows, Words};
 use super::twins::{members, Twins};
 use super::{Change, Difference, Item, Kind};
 use crate::network::{Bus, Network};
@@ -39,24 +40,19 @@ pub fn stations(old: &Network, new: &Network, twins: &Twins) -> Vec<Item> {
 
 /// Buses that differ, in the new network's order, then those that are removed.
 pub fn buses(old: &Network, new: &Network, twins: &Twins) -> Vec<Item> {
-    let mut items = Vec::new();
-    for (i, bus) in new.buses.iter().enumerate() {
-        let twin = twins.buses.to_old.get(&i).copied();
-        let differences = match twin {
-            None => vec![Difference::new(Change::Added, "", described(new, bus))],
-            Some(o) => changed(old, new, twins, &old.buses[o], bus),
-        };
-        if !differences.is_empty() {
-            let lines = [twin.map(|o| old.buses[o].line), Some(bus.line)];
-            items.push(Item { kind: Kind::Bus, name: bus.name.clone(), old: twin, new: Some(i), lines, differences });
-        }
-    }
-    for (o, bus) in old.buses.iter().enumerate().filter(|(o, _)| !twins.buses.to_new.contains_key(o)) {
-        let differences = vec![Difference::new(Change::Removed, described(old, bus), "")];
-        let lines = [Some(bus.line), None];
-        items.push(Item { kind: Kind::Bus, name: bus.name.clone(), old: Some(o), new: None, lines, differences });
-    }
-    items
+    let words = Words {
+        old: &|bus| described(old, bus),
+        new: &|bus| described(new, bus),
+        changed: &|o, i| changed(old, new, twins, &old.buses[o], &new.buses[i]),
+    };
+    let rows = Rows {
+        kind: Kind::Bus,
+        old: &old.buses,
+        new: &new.buses,
+        pairs: &twins.buses,
+        place: |bus| (&bus.name, bus.line),
+    };
+    differing(&rows, &words)
 }
 
 /// A bus's substation and voltage.

@@ -21,7 +21,8 @@ const BROAD: f64 = 1.1;
 
 /// Puts changes on a sheet: broad lines under the runs, marks over the drawing, the table in the panel.
 pub fn mark(sheet: &mut Node, items: &[Item], table: &Table, panel: &Rect) -> Result<(), Fault> {
-    let reading = read(&file(sheet), "the sheet")?;
+    let text = file(sheet);
+    let reading = read(&text, "the sheet")?;
     let mut places = Places::new(&reading, panel);
     let (mut below, mut above) = (Ink::group("changed"), Ink::group("changes"));
     let parts = [Kind::Substation, Kind::Bus, Kind::Branch].map(|kind| by_number(&reading, kind));
@@ -42,18 +43,18 @@ pub fn mark(sheet: &mut Node, items: &[Item], table: &Table, panel: &Rect) -> Re
         above.words(&Words { text, at: place, size: table.size, bold: true, colour: DARK });
     }
     table.draw(&mut above, panel);
-    below.into(sheet, "boxes");
+    below.into(sheet, "fives");
     above.into(sheet, "");
     Ok(())
 }
 
 /// The width of the broad line: a bar has a rim of its own, nearly twice as wide as it is.
-fn broad(reading: &Reading, part: &Part, kind: Kind) -> f64 {
+fn broad(reading: &Reading<'_>, part: &Part, kind: Kind) -> f64 {
     let wide = reading.looks[part.element].wide;
     2.0 * BROAD + if kind == Kind::Bus { 1.8 * wide } else { wide }
 }
 
-fn by_number(reading: &Reading, kind: Kind) -> HashMap<usize, &Part> {
+fn by_number<'a>(reading: &'a Reading<'_>, kind: Kind) -> HashMap<usize, &'a Part> {
     let parts = match kind {
         Kind::Substation => &reading.boxes,
         Kind::Bus => &reading.bars,

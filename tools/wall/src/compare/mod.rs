@@ -4,6 +4,7 @@ mod buses;
 mod ink;
 pub mod marks;
 mod places;
+mod rows;
 pub mod table;
 mod twins;
 pub mod words;

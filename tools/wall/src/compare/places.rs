@@ -8,15 +8,15 @@ use std::collections::HashMap;
 const PARTS: [f64; 5] = [0.5, 0.35, 0.65, 0.2, 0.8];
 const WAYS: [[f64; 2]; 8] =
     [[0.7, -0.7], [-0.7, -0.7], [0.7, 0.7], [-0.7, 0.7], [1.0, 0.0], [-1.0, 0.0], [0.0, -1.0], [0.0, 1.0]];
-const AWAY: [f64; 4] = [4.0, 7.0, 11.0, 16.0];
+const AWAY: [f64; 5] = [4.0, 7.0, 11.0, 16.0, 24.0];
 
 /// The side of a cell, in millimetres, and the paper at its edge that stays free.
 const CELL: f64 = 10.0;
 const EDGE: f64 = 12.0;
 
 /// How much it counts that a mark covers another mark, a name or cross, a bar, a dot, a box or a run.
-const MARK: usize = 30;
-const NAME: usize = 12;
+const MARK: usize = 90;
+const NAME: usize = 60;
 const BAR: usize = 4;
 const DOT: usize = 3;
 const BOX: usize = 2;
@@ -57,12 +57,12 @@ fn along(way: &[Point], part: f64) -> Point {
 
 impl Places {
     /// Marks stay left of the panel.
-    pub fn new(reading: &Reading, panel: &Rect) -> Self {
+    pub fn new(reading: &Reading<'_>, panel: &Rect) -> Self {
         let mut area = rect(&reading.page).grown(-EDGE);
         area.right = area.right.min(panel.left - 1.0);
         let mut places = Places { area, cells: HashMap::new() };
         for (i, element) in reading.elements.iter().enumerate() {
-            let weight = match element.name.as_str() {
+            let weight = match element.name {
                 "text" => NAME,
                 "circle" => DOT,
                 "rect" if element.attribute("data-station").is_some() => BOX,

@@ -70,15 +70,20 @@ impl Block<'_> {
     fn rules(&self, svg: &mut Svg, edges: &[f64]) {
         let b = self.page.block;
         let mut d = path(&[[b.left, b.top], [b.right, b.top]]);
-        for x in [edges[2], edges[4]] {
-            d.push_str(&path(&[[x, b.top], [x, b.bottom]]));
+        let top = b.top + PITCH * self.page.banner * self.page.text;
+        if top > b.top {
+            d.push_str(&path(&[[b.left, top], [b.right, top]]));
+        }
+        let beside = Some(edges[4]).filter(|_| top == b.top);
+        for x in [edges[2]].into_iter().chain(beside) {
+            d.push_str(&path(&[[x, top], [x, b.bottom]]));
         }
         svg.leaf("path", &stroke(d, "#111111", 0.35));
     }
 
-    /// The baseline of a row.
+    /// The baseline of a row of the tables.
     pub fn row(&self, row: f64) -> f64 {
-        self.page.block.top + (PITCH * row + 1.7) * self.page.text
+        self.page.block.top + (PITCH * (row + self.page.banner) + 1.7) * self.page.text
     }
 
     /// A text at a place and row, shortened to a width; gives how wide it is.
@@ -91,6 +96,10 @@ impl Block<'_> {
 
     /// Draws the title and the rows below it; gives where the widest of them ends.
     fn title(&self, svg: &mut Svg, right: f64) -> f64 {
+        if self.page.banner > 0.0 {
+            self.banner(svg);
+            return right;
+        }
         let (t, left) = (self.page.text, self.page.block.left + self.page.text);
         let most = right - left - t;
         let title = one_line(self.settings.title.as_deref().unwrap_or(&self.network.name));
@@ -113,7 +122,24 @@ impl Block<'_> {
         left + wide
     }
 
-    /// What was drawn, and how.
+    /// Draws the title and the rows below it, in two columns, above the tables.
+    fn banner(&self, svg: &mut Svg) {
+        let (t, left) = (self.page.text, self.page.block.left + self.page.text);
+        let (most, top) = (self.page.block.width() - 2.0 * t, -self.page.banner);
+        let title = one_line(self.settings.title.as_deref().unwrap_or(&self.network.name));
+        let fits = |size: &f64| width(&title, size * t, true) <= most;
+        let size = [2.0, 1.6, 1.3].into_iter().find(fits).unwrap_or(1.0);
+        self.put(svg, &title, [left, top + 0.2], size * t, true, most);
+        let rows = self.rows();
+        let (last, others) = rows.split_last().map_or(("", &[][..]), |(last, others)| (last.as_str(), others));
+        for (i, text) in others.iter().enumerate() {
+            let x = left + (i / 3) as f64 * most / 2.0;
+            self.put(svg, text, [x, top + 1.45 + (i % 3) as f64], t, false, most / 2.0 - t);
+        }
+        self.put(svg, last, [left, top + 4.45], t, false, most);
+    }
+
+    /// What was drawn, and how; where the index is comes last.
     fn rows(&self) -> Vec<String> {
         let mut rows = vec![format!("Network {}", self.network.name)];
         rows.extend(report::files(self.network).iter().map(|(name, sum)| format!("{name}: SHA-256 {sum}…")));

@@ -9,6 +9,8 @@ use std::collections::HashSet;
 
 pub struct BusName {
     pub bus: usize,
+    /// What it is called in its box where there is room.
+    pub label: String,
     /// None where it doesn't fit.
     pub line: Option<Line>,
     /// From the name to its bar, where they are apart.
@@ -102,6 +104,7 @@ impl Strip<'_> {
         let line = text.map(|text| self.line(i, text));
         BusName {
             bus: self.station.buses[i],
+            label: label.to_string(),
             guide: line.as_ref().and_then(|_| self.guide(i)),
             shortened: line.as_ref().is_some_and(|line| line.text != label),
             line,

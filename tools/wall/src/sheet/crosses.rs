@@ -67,9 +67,7 @@ impl Around<'_> {
         let whole = |s: &Rect| s.grown(0.01).holds(&Rect::around(p, q));
         let on = |&i: &usize| self.scene.stations[i].rect.overlaps(&rect) && !whole(&self.scene.stations[i].rect);
         let boxes = self.boxes.near(&rect).iter().filter(|i| on(i)).count();
-        let met =
-            |&i: &usize| i != cross.run && self.scene.runs[i].points.windows(2).any(|two| rect.meets(two[0], two[1]));
-        let runs = self.pieces.some(&rect).iter().filter(|i| met(i)).count();
+        let runs = self.scene.through(self.pieces, &rect, Some(cross.run));
         let hidden = !self.scene.runs[cross.run]
             .shown
             .iter()

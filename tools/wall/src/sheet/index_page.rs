@@ -1,10 +1,10 @@
 //! Pages of the index, in the sheet's style.
-use super::lettering::{fitted, Anchor, Line};
+use super::lettering::{fitted, Anchor, Line, SMALLEST};
 use super::page::{Page, PITCH};
 use super::shape::Rect;
 use super::svg::{path, Svg};
-use super::tables::{Flow, Table};
-use super::{index_size, leaf, palette, Leaf, Source};
+use super::tables::{Contents, Flow, Table, GUTTER};
+use super::{leaf, palette, Leaf, Source};
 use crate::number::thousands;
 use crate::paper::Paper;
 use crate::plain::one_line;
@@ -13,11 +13,12 @@ use crate::report;
 /// Rows below the columns: the title, and which files and page it is.
 const ROWS: usize = 2;
 
-/// A page with as many columns as it has room for.
+/// Pages with as many columns on each as it has room for.
 struct Sides<'a> {
     page: Page,
     flow: Flow<'a>,
-    columns: usize,
+    /// The first column of each page, and where the last page ends.
+    firsts: Vec<usize>,
 }
 
 /// Where the columns stand.
@@ -25,17 +26,47 @@ fn room(page: &Page) -> Rect {
     page.area.grown(-0.75 * page.text)
 }
 
+/// Columns may be narrowed to this part, where that makes fewer pages.
+const NARROWED: f64 = 0.85;
+
 impl<'a> Sides<'a> {
-    fn new(paper: Paper, tables: &'a [Table], upright: bool) -> Self {
-        let page = Page::new(paper, upright, ROWS, 0.0);
+    /// Columns as wide as they are, or narrower where one more then fits beside them, whichever takes fewer pages.
+    fn new(paper: Paper, tables: &Contents<'a>, upright: bool) -> Self {
+        let page = || Page::new(paper, upright, ROWS, 0.0);
+        let (room, gap) = (room(&page()).width(), GUTTER * SMALLEST);
+        let plain = Sides::within(page(), tables, room);
+        let wide = if plain.flow.count() > 0 { plain.flow.step(0) - gap } else { room };
+        let more = ((room + gap) / (wide + gap)).floor() + 1.0;
+        let narrow = (room + gap) / more - gap;
+        if plain.count() < 2 || narrow < NARROWED * wide {
+            return plain;
+        }
+        let narrowed = Sides::within(page(), tables, narrow);
+        if narrowed.count() < plain.count() {
+            narrowed
+        } else {
+            plain
+        }
+    }
+
+    /// Columns at most so wide.
+    fn within(page: Page, tables: &Contents<'a>, most: f64) -> Self {
         let room = room(&page);
-        let flow = Flow::new(tables, index_size(page.text), room.width(), room.height());
-        let columns = (((room.width() + flow.gap()) / (flow.wide + flow.gap())) as usize).max(1);
-        Sides { page, flow, columns }
+        let flow = Flow::new(tables, SMALLEST, most, room.height());
+        let (mut firsts, mut used) = (vec![0], 0.0);
+        for column in 0..flow.count() {
+            if used > 0.0 && used + flow.step(column) > room.width() + flow.gap() + 1e-6 {
+                firsts.push(column);
+                used = 0.0;
+            }
+            used += flow.step(column);
+        }
+        firsts.push(flow.count());
+        Sides { page, flow, firsts }
     }
 
     fn count(&self) -> usize {
-        self.flow.count().div_ceil(self.columns)
+        self.firsts.len() - 1
     }
 }
 
@@ -44,6 +75,7 @@ const MOST: usize = 16;
 
 /// The pages, upright or across, whichever are fewer.
 pub fn leaves(source: Source<'_>, tables: &[Table]) -> Vec<Leaf> {
+    let tables = &Contents::new(tables);
     let on = |paper: Paper| {
         let [across, upright] = [false, true].map(|upright| Sides::new(paper, tables, upright));
         if upright.count() <= across.count() {
@@ -63,14 +95,13 @@ pub fn leaves(source: Source<'_>, tables: &[Table]) -> Vec<Leaf> {
 fn one(source: Source<'_>, sides: &Sides<'_>, number: usize) -> Leaf {
     let (page, flow) = (&sides.page, &sides.flow);
     let place = room(page);
-    let step = flow.wide + flow.gap();
     let title = format!("Index of {}, page {} of {}", source.title(), thousands(number + 1), thousands(sides.count()));
-    let first = number * sides.columns;
-    let last = (first + sides.columns).min(flow.count());
     leaf(source, page, &title, &|svg| {
         svg.open("g", &[("id", "index".to_string()), ("fill", "#111111".to_string())]);
-        for column in first..last {
-            flow.draw(svg, column, [place.left + (column - first) as f64 * step, place.top]);
+        let mut left = place.left;
+        for column in sides.firsts[number]..sides.firsts[number + 1] {
+            flow.draw(svg, column, [left, place.top]);
+            left += flow.step(column);
         }
         foot(svg, source, page, &title);
         svg.close();

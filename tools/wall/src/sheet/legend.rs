@@ -1,10 +1,26 @@
 //! The legend in the title block: how voltages are drawn, and what the signs mean.
 use super::block::{Block, SIGNS, VOLTAGES};
+use super::body::{FIVES, PAPER, SHARED};
 use super::lettering::{width, Anchor, Line};
 use super::page::ROWS;
 use super::palette::{core, stroke, RED};
-use super::svg::{cross, mm, path, Svg};
+use super::shape::Point;
+use super::svg::{cross, mm, path, Attribute, Svg};
 use crate::number::{thousands, voltage};
+
+/// The colour of the edges of boxes.
+const EDGE: &str = "#55524a";
+
+/// A rectangle by its corner and its sides.
+fn filled([x, y]: Point, [wide, high]: Point, fill: &str, edge: Option<&str>) -> Vec<Attribute> {
+    let place = [("x", x), ("y", y), ("width", wide), ("height", high)];
+    let mut attributes: Vec<Attribute> = place.map(|(name, value)| (name, mm(value))).to_vec();
+    attributes.push(("fill", fill.to_string()));
+    if let Some(edge) = edge {
+        attributes.extend([("stroke", edge.to_string()), ("stroke-width", "0.2".to_string())]);
+    }
+    attributes
+}
 
 impl Block<'_> {
     pub fn legend_columns(&self) -> usize {
@@ -52,9 +68,11 @@ impl Block<'_> {
             "passes under the bar",
             "open, passes under a box",
             "circuits as one stroke",
+            "rows in fives, see index",
         ];
+        let words = &words[..words.len() - usize::from(self.lost.numbers == 0)];
         self.put(svg, "Signs", [left + t, 0.0], t, true, SIGNS * t);
-        for (i, words) in words.into_iter().enumerate() {
+        for (i, words) in words.iter().enumerate() {
             let row = (i + 1) as f64;
             self.sign(svg, i, left + t, self.row(row) - 0.36 * t);
             self.put(svg, words, [left + 5.0 * t, row], t, false, (SIGNS - 5.2) * t);
@@ -88,25 +106,22 @@ impl Block<'_> {
                     "path",
                     &dashed(path(&[[x, y], [x + 0.8 * t, y]]) + &path(&[[x + 2.2 * t, y], [x + 3.0 * t, y]])),
                 );
-                let place = [
-                    ("x", mm(middle - 0.45 * t)),
-                    ("y", mm(y - 0.55 * t)),
-                    ("width", mm(0.9 * t)),
-                    ("height", mm(1.1 * t)),
-                ];
-                let rest = [
-                    ("fill", "#f6f5f1".to_string()),
-                    ("stroke", "#55524a".to_string()),
-                    ("stroke-width", "0.2".to_string()),
-                ];
-                svg.leaf("rect", &[&place[..], &rest[..]].concat());
+                svg.leaf("rect", &filled([middle - 0.45 * t, y - 0.55 * t], [0.9 * t, 1.1 * t], PAPER, Some(EDGE)));
             }
             7 => {
-                svg.leaf("path", &stroke(path(&across), "#e3ddc8", 0.55 * t));
+                svg.leaf("path", &stroke(path(&across), SHARED, 0.55 * t));
                 svg.leaf("path", &stroke(path(&across), &colour, 0.14 * t));
             }
+            8 => self.fives(svg, [x + 0.6 * t, y - 0.55 * t]),
             _ => self.joint(svg, row == 4, x, y),
         }
+    }
+
+    /// A box with a band of five rows.
+    fn fives(&self, svg: &mut Svg, [x, y]: Point) {
+        let t = self.page.text;
+        svg.leaf("rect", &filled([x, y], [1.8 * t, 1.1 * t], PAPER, Some(EDGE)));
+        svg.leaf("rect", &filled([x, y + 0.4 * t], [1.8 * t, 0.4 * t], FIVES, None));
     }
 
     /// A line at a bar: joined to it, with a number, or passing under it.

@@ -1,6 +1,6 @@
 //! Text on the page: how wide it is, and how it is shortened.
 use super::shape::Rect;
-use super::widths;
+use super::widths::WIDTHS;
 use crate::font::Font;
 
 /// The smallest text, in millimetres: capitals 1.8 mm high, the smallest that ISO 3098 has.
@@ -92,7 +92,7 @@ pub fn baseline(top: f64, size: f64) -> f64 {
 /// The width of a character, in thousandths of the size: that of the widest font that viewers take for it.
 fn thousandths(c: char, bold: bool) -> u32 {
     match c {
-        ' '..='~' => u32::from(if bold { widths::BOLD } else { widths::REGULAR }[c as usize - 32]),
+        ' '..='~' => u32::from(WIDTHS[2 * (c as usize - 32) + usize::from(bold)]),
         '\u{300}'..='\u{36F}' => 0,
         // The fonts for PDF are DejaVu's condensed ones, nine tenths as wide.
         _ => Font::of(bold).advance(c).map_or(1000, |wide| wide * 10 / 9 + 1),

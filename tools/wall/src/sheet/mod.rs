@@ -14,6 +14,7 @@ mod numbers;
 mod page;
 mod palette;
 mod placing;
+mod rows;
 mod scene;
 pub mod shape;
 mod short_names;
@@ -32,9 +33,11 @@ use crate::colours::Colours;
 use crate::drawing::Drawing;
 use crate::network::Network;
 use crate::number::{thousands, voltage};
+use crate::paper::Paper;
 use crate::plain::{one_line, visible};
 use block::{Block, Lost};
 use body::Body;
+use index::Contents;
 use page::{Page, View};
 use palette::Palette;
 use placing::Placed;
@@ -91,10 +94,9 @@ pub fn drawn(network: &Network, drawing: &Drawing, settings: &Settings, colours:
     };
     let tables = composed.tables(network);
     let pages = if beside { Vec::new() } else { index_page::leaves(source, &tables) };
-    let lost = composed.placed.lost();
-    let mut notes = lost_notes(lost);
-    notes.extend(alike_note(&palette));
-    let sheet = composed.leaf(source, lost, index_words(pages.len()), if beside { &tables } else { &[] });
+    let (lost, notes) = composed.notes(source);
+    let words = index_words(pages.len(), lost, composed.placed.apart());
+    let sheet = composed.leaf(source, lost, words, if beside { &tables } else { &[] });
     Sheet { leaves: std::iter::once(sheet).chain(pages).collect(), notes }
 }
 
@@ -111,10 +113,9 @@ pub fn drawn_beside(
     let source = Source { network, drawing, settings, palette: &palette };
     let composed = Composed::new(source, side);
     let pages = index_page::leaves(source, &composed.tables(network));
-    let lost = composed.placed.lost();
-    let mut notes = lost_notes(lost);
-    notes.extend(alike_note(&palette));
-    let sheet = composed.leaf(source, lost, index_words(pages.len()), &[]);
+    let (lost, notes) = composed.notes(source);
+    let words = index_words(pages.len(), lost, composed.placed.apart());
+    let sheet = composed.leaf(source, lost, words, &[]);
     let page = &composed.page;
     let panel = shape::Rect::new(page.area.right, page.area.top, page.inner.right, page.area.bottom);
     (Sheet { leaves: std::iter::once(sheet).chain(pages).collect(), notes }, panel)
@@ -126,13 +127,22 @@ pub fn scale(settings: &Settings, extent: [f64; 4], unit: f64) -> f64 {
     Page::fitted(settings.paper, &shape::Rect::new(left, top, right, bottom), unit, &|_| 0.0).1.scale
 }
 
-/// Where the index is, by how many pages it has of its own.
-fn index_words(pages: usize) -> String {
-    match pages {
-        0 => "Index at the right: number, buses and squares".to_string(),
+/// Rows that are closer, in millimetres, can't be counted on paper.
+const COUNTABLE: f64 = 0.6;
+
+/// Where the index is, by how many pages it has of its own, and what it is for; rows of boxes are so far apart.
+fn index_words(pages: usize, lost: Lost, apart: f64) -> String {
+    let place = match pages {
+        0 => "Index at the right".to_string(),
         1 => "Index on a page of its own".to_string(),
         n => format!("Index on {} pages of their own", thousands(n)),
-    }
+    };
+    let way = match lost.numbers {
+        0 => ": by number",
+        _ if apart < COUNTABLE => ": by number; rows are too close to be counted",
+        _ => ": by number, and by row for shaded boxes",
+    };
+    place + way
 }
 
 /// The drawing on its page, with everything placed.
@@ -151,13 +161,13 @@ impl Composed {
     }
 
     fn tables(&self, network: &Network) -> Vec<Table> {
-        self.placed.contents(network, &self.page.squares).tables()
+        Contents { network, squares: &self.page.squares, placed: &self.placed }.tables()
     }
 
     /// The columns of an index beside a drawing of the given height.
     fn flow<'a>(&self, tables: &'a [Table], high: f64) -> Flow<'a> {
         let most = WIDEST * self.page.whole.width();
-        Flow::new(tables, index_size(self.page.text), most, high - 1.5 * self.page.text)
+        Flow::new(&tables::Contents::new(tables), index_size(self.page.text), most, high - 1.5 * self.page.text)
     }
 
     /// The same with room for the index, where it fits.
@@ -167,7 +177,7 @@ impl Composed {
             return None;
         }
         let tables = self.tables(source.network);
-        let wide = |flow: &Flow<'_>| flow.count() as f64 * (flow.wide + flow.gap()) + 0.5 * flow.gap();
+        let wide = |flow: &Flow<'_>| (0..flow.count()).map(|i| flow.step(i)).sum::<f64>() + 0.5 * flow.gap();
         let side = |high: f64| wide(&self.flow(&tables, high));
         if side(self.page.area.height()) > WIDEST * self.page.whole.width() {
             return None;
@@ -179,20 +189,30 @@ impl Composed {
         (fits && beside.view.scale >= KEPT * self.view.scale).then_some(beside)
     }
 
+    /// What found no place on the sheet, and remarks.
+    fn notes(&self, source: Source<'_>) -> (Lost, Vec<String>) {
+        let lost = self.placed.lost();
+        let apart = self.placed.apart();
+        let close = (lost.numbers > 0 && apart < COUNTABLE).then(|| {
+            let (layout, paper) = (&source.drawing.layout, source.settings.paper);
+            let larger = |paper: &Paper| {
+                let (_, view) = Page::fitted(*paper, &scene::extent(layout), layout.unit, &|_| 0.0);
+                apart * view.scale / self.view.scale >= COUNTABLE
+            };
+            let way = match Paper::ALL.iter().rev().find(|paper| larger(paper)) {
+                Some(paper) => format!("{} has room to count them", paper.name()),
+                None => "draw parts of the network on sheets of their own".to_string(),
+            };
+            format!("note: rows of boxes are {apart:.2} mm apart on {}, too close to be counted; {way}", paper.name())
+        });
+        let notes = lost_notes(lost).into_iter().chain(close).chain(alike_note(source.palette)).collect();
+        (lost, notes)
+    }
+
     fn leaf(&self, source: Source<'_>, lost: Lost, index: String, beside: &[Table]) -> Leaf {
         let Source { network, drawing, settings, palette } = source;
         let (placed, page) = (&self.placed, &self.page);
-        let body = Body {
-            network,
-            palette,
-            scene: &placed.scene,
-            stretches: &placed.stretches,
-            marks: &placed.marks,
-            crosses: &placed.crosses,
-            numbers: &placed.numbers.list,
-            bus_names: &placed.bus_names,
-            station_names: &placed.station_names,
-        };
+        let body = Body { network, palette, placed };
         let open = placed.crosses.iter().map(|cross| placed.scene.runs[cross.run].branch).collect();
         let stretches = placed.stretches.len();
         let block = Block { network, drawing, settings, palette, page, lost, open, stretches, index };
@@ -213,9 +233,10 @@ impl Composed {
         let x = page.area.right;
         let rule = svg::path(&[[x, page.area.top], [x, page.area.bottom]]);
         svg.leaf("path", &palette::stroke(rule, "#111111", 0.35));
+        let mut left = x + 0.75 * flow.gap();
         for i in 0..flow.count() {
-            let left = x + 0.75 * flow.gap() + i as f64 * (flow.wide + flow.gap());
             flow.draw(svg, i, [left, page.area.top + 0.75 * page.text]);
+            left += flow.step(i);
         }
         svg.close();
     }
@@ -250,14 +271,14 @@ fn leaf(source: Source<'_>, page: &Page, title: &str, draw: &dyn Fn(&mut Svg)) -
 
 /// Remarks on what found no place on the sheet.
 fn lost_notes(lost: Lost) -> Vec<String> {
-    let note = |what: &str, count: usize| {
-        (count > 0)
-            .then(|| format!("note: {what} left out for want of room: {}; a larger paper has more", thousands(count)))
+    let note = |what: &str, count: usize, way: &str| {
+        let count = Some(thousands(count)).filter(|_| count > 0)?;
+        Some(format!("note: {what} left out for want of room: {count}; {way}, and a larger paper has more room"))
     };
     let list = [
-        note("names", lost.left_out),
-        note("numbers of branches", lost.numbers),
-        note("labels of circuits that run as one stroke", lost.marks),
+        note("names", lost.left_out, "the index has them"),
+        note("numbers of branches", lost.numbers, "the index has them by the rows of shaded boxes"),
+        note("labels of circuits that run as one stroke", lost.marks, "the index has them"),
     ];
     list.into_iter().flatten().collect()
 }

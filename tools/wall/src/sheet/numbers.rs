@@ -22,8 +22,8 @@ pub struct Number {
 #[derive(Default)]
 pub struct Numbers {
     pub list: Vec<Number>,
-    /// How many ends found no room for one.
-    pub left_out: usize,
+    /// Runs, each with the end or the cross that found no room for one.
+    pub left_out: Vec<(usize, Option<usize>)>,
 }
 
 /// Between a dot and its number, and round a number.
@@ -71,7 +71,7 @@ pub fn placed(around: &Around<'_>, crosses: &[Cross], taken: &mut Taken) -> Numb
                 let number = Number { branch: run.branch, end: None, station: None, open: true, cuts: false, line };
                 numbers.list.push(number);
             }
-            None => numbers.left_out += 1,
+            None => numbers.left_out.push((cross.run, None)),
         }
         if run.stations[0] != run.stations[1] {
             [0, 1].into_iter().for_each(|end| around.put(&mut numbers, taken, cross.run, run, end));
@@ -84,7 +84,7 @@ impl Around<'_> {
     fn put(&self, numbers: &mut Numbers, taken: &mut Taken, i: usize, run: &Run, end: usize) {
         let Some(of) = self.end(i, run, end) else { return };
         if of.station.block < LOWEST {
-            numbers.left_out += 1;
+            numbers.left_out.push((i, Some(end)));
             return;
         }
         match self.best(&of, run.is_open(), taken) {
@@ -94,7 +94,7 @@ impl Around<'_> {
                 let cuts = !open && (line.x < of.at[0]) == (of.way < 0.0);
                 numbers.list.push(Number { branch: run.branch, end: Some(end), station, open, cuts, line });
             }
-            None => numbers.left_out += 1,
+            None => numbers.left_out.push((i, Some(end))),
         }
     }
 
@@ -118,7 +118,7 @@ impl Around<'_> {
             for side in [-of.way, of.way] {
                 let Some((line, out)) = self.beside(of, side, text, size) else { continue };
                 let rect = line.narrowed(TIGHT).grown(ROUND);
-                let covered = self.covered(&rect, of.run);
+                let covered = self.scene.through(self.pieces, &rect, Some(of.run));
                 let blocked = open && covered > 0 || self.crosses_bar(&rect, of.bus);
                 if blocked || !taken.free(&rect) {
                     continue;
@@ -161,12 +161,6 @@ impl Around<'_> {
         self.bars.near(rect).iter().any(hit)
     }
 
-    /// How many other runs go through it.
-    fn covered(&self, rect: &Rect, own: usize) -> usize {
-        let met = |&i: &usize| i != own && self.scene.runs[i].points.windows(2).any(|two| rect.meets(two[0], two[1]));
-        self.pieces.some(rect).iter().filter(|i| met(i)).count()
-    }
-
     /// A number beside a cross, where it covers little.
     fn beside_cross(&self, cross: &Cross, taken: &Taken) -> Option<Line> {
         let run = &self.scene.runs[cross.run];
@@ -193,7 +187,7 @@ impl Around<'_> {
             }
             let boxes = self.boxes.near(&rect);
             let foreign = boxes.iter().filter(|i| !own(i) && self.scene.stations[**i].rect.overlaps(&rect)).count();
-            let cost = i + 10 * self.covered(&rect, usize::MAX) + 40 * foreign;
+            let cost = i + 10 * self.scene.through(self.pieces, &rect, None) + 40 * foreign;
             if found.as_ref().is_none_or(|(least, _)| cost < *least) {
                 found = Some((cost, line));
             }

@@ -10,6 +10,11 @@ const BANDS: [f64; 2] = [5.0, 4.0];
 /// Rows of the title block.
 pub const ROWS: usize = 10;
 
+/// Rows above them for the title, where the page is too narrow to have it beside the tables, and what that takes, in text
+/// sizes.
+const BANNER: usize = 6;
+const WIDE: f64 = 108.0;
+
 /// From one of them to the next, in text sizes.
 pub const PITCH: f64 = 1.4;
 
@@ -27,6 +32,8 @@ pub struct Page {
     pub inner: Rect,
     pub area: Rect,
     pub block: Rect,
+    /// Rows of the block above its tables.
+    pub banner: f64,
     pub text: f64,
     pub name: String,
     pub squares: Squares,
@@ -50,7 +57,8 @@ impl Page {
         let whole = Rect::new(0.0, 0.0, width, height);
         let frame = whole.grown(-MARGINS[small]);
         let inner = frame.grown(-BANDS[small]);
-        let edge = inner.bottom - (rows as f64 * PITCH + 1.2) * text;
+        let banner = if rows == ROWS && inner.width() < WIDE * text { BANNER } else { 0 };
+        let edge = inner.bottom - ((rows + banner) as f64 * PITCH + 1.2) * text;
         let area = Rect::new(inner.left, inner.top, inner.right - side, edge);
         Page {
             whole,
@@ -58,6 +66,7 @@ impl Page {
             inner,
             area,
             block: Rect::new(inner.left, edge, inner.right, inner.bottom),
+            banner: banner as f64,
             text,
             name: format!("{} {}, {width} × {height} mm", paper.name(), if upright { "portrait" } else { "landscape" }),
             squares: Squares::new(area, upright),

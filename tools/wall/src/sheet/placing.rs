@@ -2,13 +2,12 @@
 use super::block::Lost;
 use super::bus_names::{self, BusName};
 use super::crosses::{self, Cross};
-use super::index::Contents;
 use super::marks::{self, Mark};
 use super::numbers::{self, Around, Numbers};
 use super::page::{Page, View};
 use super::palette::Palette;
+use super::rows::Rows;
 use super::scene::Scene;
-use super::squares::Squares;
 use super::station_names::{self, StationName};
 use super::taken::Taken;
 use super::together::{self, Stretch};
@@ -23,6 +22,7 @@ pub struct Placed {
     pub marks: Vec<Mark>,
     pub crosses: Vec<Cross>,
     pub numbers: Numbers,
+    pub rows: Rows,
     pub bus_names: Vec<BusName>,
     pub station_names: Vec<StationName>,
 }
@@ -42,20 +42,16 @@ impl Placed {
         scene.stations.iter().for_each(|s| taken.add(s.rect));
         let station_names = station_names::placed(network, &scene, &pieces, 1.5 * page.text, &mut taken);
         let stretches = together::found(&scene, &page.whole);
-        let marks = marks::placed(network, &scene, &stretches, &pieces, &mut taken);
-        Placed { scene, stretches, marks, crosses, numbers, bus_names, station_names }
+        let around = marks::Around { scene: &scene, pieces: &pieces, boxes: &boxes };
+        let marks = marks::placed(network, &around, &stretches, &mut taken);
+        let rows = rows(&scene, &numbers);
+        Placed { scene, stretches, marks, crosses, numbers, rows, bus_names, station_names }
     }
 
-    /// What the index lists.
-    pub fn contents<'a>(&'a self, network: &'a Network, squares: &'a Squares) -> Contents<'a> {
-        Contents {
-            network,
-            scene: &self.scene,
-            squares,
-            stretches: &self.stretches,
-            bus_names: &self.bus_names,
-            station_names: &self.station_names,
-        }
+    /// How far apart the rows of the boxes are that have to be counted, in the smallest of them.
+    pub fn apart(&self) -> f64 {
+        let counted = self.scene.stations.iter().enumerate().filter(|(place, _)| self.rows.counted(*place));
+        counted.map(|(_, station)| station.block).fold(f64::INFINITY, f64::min)
     }
 
     pub fn lost(&self) -> Lost {
@@ -64,8 +60,20 @@ impl Placed {
         Lost {
             shortened: buses(|name| name.shortened) + stations(|name| name.shortened),
             left_out: buses(|name| name.line.is_none()) + stations(|name| name.lines.is_empty()),
-            numbers: self.numbers.left_out,
+            numbers: self.numbers.left_out.len(),
             marks: self.marks.iter().filter(|mark| mark.lines.is_empty()).count(),
         }
     }
+}
+
+/// The rows of boxes; those in which a number found no room are to be counted. An open branch has its number at its cross:
+/// where that isn't there, both its boxes are.
+fn rows(scene: &Scene, numbers: &Numbers) -> Rows {
+    let mut rows = Rows::new(scene);
+    for &(run, end) in &numbers.left_out {
+        let stations = scene.runs[run].stations;
+        let ends = end.map_or(0..2, |end| end..end + 1);
+        stations[ends].iter().for_each(|&station| rows.count(scene.place(station)));
+    }
+    rows
 }

@@ -90,9 +90,20 @@ impl Scene {
         near
     }
 
+    /// Where a station that has a box stands in the list, by its number.
+    pub fn place(&self, number: usize) -> usize {
+        self.stations.partition_point(|s| s.number < number)
+    }
+
     /// A station that has a box, by its number.
     pub fn station(&self, number: usize) -> &Station {
-        &self.stations[self.stations.partition_point(|s| s.number < number)]
+        &self.stations[self.place(number)]
+    }
+
+    /// How many runs go through a rectangle, without one of them; in a crowd, at least so many.
+    pub fn through(&self, pieces: &Near, rect: &Rect, but: Option<usize>) -> usize {
+        let meets = |run: usize| self.runs[run].points.windows(2).any(|two| rect.meets(two[0], two[1]));
+        pieces.some(rect).into_iter().filter(|&run| Some(run) != but && meets(run)).count()
     }
 
     /// Moves the ends of open runs along their bars to between two rows, so that they lie on no live run.
@@ -179,6 +190,11 @@ fn runs(network: &Network, layout: &TxLayout, palette: &Palette, view: &View, bl
 impl Run {
     pub fn is_open(&self) -> bool {
         self.role == TX_ROLE_OPEN
+    }
+
+    /// Whether both its ends stand in one row of one box.
+    pub fn in_one_row(&self) -> bool {
+        !self.is_open() && self.stations[0] == self.stations[1]
     }
 
     pub fn ends(&self) -> [Point; 2] {

@@ -54,24 +54,33 @@ impl Rect {
         Rect::new(p[0], p[1], p[0], p[1]).with(q)
     }
 
+    /// Which part of the way between two points lies in it.
+    pub fn part(&self, p: Point, q: Point) -> Option<[f64; 2]> {
+        let lanes = [(p[0], q[0] - p[0], self.left, self.right), (p[1], q[1] - p[1], self.top, self.bottom)];
+        within(lanes, [0.0, 1.0])
+    }
+
     /// Whether the straight piece between two points meets it.
     pub fn meets(&self, p: Point, q: Point) -> bool {
-        let (mut enter, mut leave) = (0.0_f64, 1.0_f64);
-        for (from, step, low, high) in
-            [(p[0], q[0] - p[0], self.left, self.right), (p[1], q[1] - p[1], self.top, self.bottom)]
-        {
-            if step == 0.0 {
-                if from < low || from > high {
-                    return false;
-                }
-                continue;
-            }
-            let (a, b) = ((low - from) / step, (high - from) / step);
-            enter = enter.max(a.min(b));
-            leave = leave.min(a.max(b));
-        }
-        enter <= leave
+        self.part(p, q).is_some()
     }
+}
+
+/// Which part of a straight way keeps its bounds in two directions: each has where the way begins, how far it goes, and
+/// the two bounds. At most the given part is.
+pub fn within(lanes: [(f64, f64, f64, f64); 2], [mut enter, mut leave]: [f64; 2]) -> Option<[f64; 2]> {
+    for (from, step, low, high) in lanes {
+        if step == 0.0 {
+            if from < low || from > high {
+                return None;
+            }
+            continue;
+        }
+        let (a, b) = ((low - from) / step, (high - from) / step);
+        enter = enter.max(a.min(b));
+        leave = leave.min(a.max(b));
+    }
+    (enter <= leave).then_some([enter, leave])
 }
 
 pub fn distance(p: Point, q: Point) -> f64 {

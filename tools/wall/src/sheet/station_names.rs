@@ -2,7 +2,6 @@
 use super::lettering::{baseline, fitted, halves, height, width, Anchor, Line, SMALLEST};
 use super::near::Near;
 use super::scene::{Scene, Station};
-use super::shape::Rect;
 use super::taken::Taken;
 use crate::network::Network;
 use crate::plain::one_line;
@@ -57,7 +56,8 @@ fn best(
             if !lines.iter().all(|line| taken.free(&line.rect())) {
                 continue;
             }
-            let cost = wording.dislike + dislike + 3 * covered(&lines, scene, pieces);
+            let covered: usize = lines.iter().map(|line| scene.through(pieces, &line.rect(), None)).sum();
+            let cost = wording.dislike + dislike + 3 * covered;
             if found.as_ref().is_none_or(|(least, ..)| cost < *least) {
                 found = Some((cost, lines, wording.shortened));
             }
@@ -82,13 +82,6 @@ fn wordings(name: &str, station: &Station, largest: f64) -> Vec<Wording> {
         list.push(Wording { lines: vec![short], size: SMALLEST, dislike: 40, shortened: true });
     }
     list
-}
-
-/// How many runs go through the lines.
-fn covered(lines: &[Line], scene: &Scene, pieces: &Near) -> usize {
-    let through = |rect: &Rect, run: usize| scene.runs[run].points.windows(2).any(|two| rect.meets(two[0], two[1]));
-    let count = |rect: Rect| pieces.some(&rect).into_iter().filter(|&run| through(&rect, run)).count();
-    lines.iter().map(|line| count(line.rect())).sum()
 }
 
 impl Wording {

@@ -1,7 +1,7 @@
 //! Circuits that run as one stroke: stretches where two or more runs lie so close that paper shows one line.
 use super::near::Near;
 use super::scene::Scene;
-use super::shape::{between, distance, Point, Rect};
+use super::shape::{between, distance, within, Point, Rect};
 use std::collections::BTreeMap;
 
 /// Runs this close, in millimetres, for this long are seen as one.
@@ -39,19 +39,8 @@ fn beside(p: Point, d: Point, u: Point, v: Point, long: f64) -> Option<[f64; 2]>
     let e = [(v[0] - u[0]) / long, (v[1] - u[1]) / long];
     let along = ((p[0] - u[0]) * e[0] + (p[1] - u[1]) * e[1], d[0] * e[0] + d[1] * e[1]);
     let across = ((p[0] - u[0]) * e[1] - (p[1] - u[1]) * e[0], d[0] * e[1] - d[1] * e[0]);
-    let (mut enter, mut leave) = (f64::NEG_INFINITY, f64::INFINITY);
-    for ((from, step), low, high) in [(along, 0.0, long), (across, -CLOSE, CLOSE)] {
-        if step.abs() < 1e-12 {
-            if from < low || from > high {
-                return None;
-            }
-            continue;
-        }
-        let (a, b) = ((low - from) / step, (high - from) / step);
-        enter = enter.max(a.min(b));
-        leave = leave.min(a.max(b));
-    }
-    (enter < leave).then_some([enter, leave])
+    let lanes = [(along.0, along.1, 0.0, long), (across.0, across.1, -CLOSE, CLOSE)];
+    within(lanes, [f64::NEG_INFINITY, f64::INFINITY])
 }
 
 /// The part round an end of the piece: a circle.

@@ -1,32 +1,13 @@
 //! Open branches run straight, so one may cross other stations' boxes: there it has a gap, wider than the box.
 use super::near::Near;
 use super::scene::{Run, Scene, Station};
-use super::shape::{between, distance, Point, Rect};
+use super::shape::{between, distance, Point};
 
 /// How far the gap goes past the box, in millimetres.
 pub const GAP: f64 = 1.2;
 
 /// Shorter parts aren't drawn.
 const LEAST: f64 = 0.3;
-
-/// Which part of the way between two points lies in a rectangle.
-fn inside(rect: &Rect, p: Point, q: Point) -> Option<[f64; 2]> {
-    let (mut enter, mut leave) = (0.0_f64, 1.0_f64);
-    for (from, step, low, high) in
-        [(p[0], q[0] - p[0], rect.left, rect.right), (p[1], q[1] - p[1], rect.top, rect.bottom)]
-    {
-        if step == 0.0 {
-            if from < low || from > high {
-                return None;
-            }
-            continue;
-        }
-        let (a, b) = ((low - from) / step, (high - from) / step);
-        enter = enter.max(a.min(b));
-        leave = leave.min(a.max(b));
-    }
-    (enter < leave).then_some([enter, leave])
-}
 
 /// Sets what is shown of each open run.
 pub fn cut(scene: &mut Scene, boxes: &Near) {
@@ -44,9 +25,9 @@ fn parts(stations: &[Station], boxes: &Near, run: &Run) -> Vec<Vec<Point>> {
     for i in boxes.along(p, q, GAP) {
         let station = &stations[i];
         if run.stations.contains(&station.number) {
-            own.extend(inside(&station.rect, p, q));
+            own.extend(station.rect.part(p, q));
         } else {
-            gaps.extend(inside(&station.rect.grown(GAP), p, q));
+            gaps.extend(station.rect.grown(GAP).part(p, q));
         }
     }
     let shown = |part: f64| {
@@ -72,6 +53,7 @@ fn parts(stations: &[Station], boxes: &Near, run: &Run) -> Vec<Vec<Point>> {
 #[cfg(test)]
 mod tests {
     use super::*;
+    use crate::sheet::shape::Rect;
     use tansygate::TX_ROLE_OPEN;
 
     fn station(number: usize, left: f64, right: f64) -> Station {

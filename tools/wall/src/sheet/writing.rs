@@ -19,8 +19,8 @@ fn texts(id: &str, fill: &str, rim: &str, wide: &str) -> Vec<Attribute> {
 impl Body<'_> {
     pub fn names(&self, svg: &mut Svg) {
         svg.open("g", &texts("bus-names", "#111111", PAPER, "0.3"));
-        for name in self.bus_names {
-            let bar = &self.scene.bars[name.bus];
+        for name in &self.placed.bus_names {
+            let bar = &self.placed.scene.bars[name.bus];
             let more = [
                 ("fill", self.palette.colour(bar.level)),
                 ("data-of", bar.station.to_string()),
@@ -30,7 +30,7 @@ impl Body<'_> {
         }
         svg.close();
         svg.open("g", &texts("numbers", "#111111", PAPER, "0.4"));
-        for number in self.numbers {
+        for number in &self.placed.numbers.list {
             if number.cuts {
                 let r = number.line.narrowed(TIGHT);
                 let y = r.middle()[1];
@@ -44,13 +44,13 @@ impl Body<'_> {
         }
         svg.close();
         svg.open("g", &texts("station-names", "#111111", "#ffffff", "0.6"));
-        for name in self.station_names {
+        for name in &self.placed.station_names {
             let more = [("data-of", name.station.to_string())];
             name.lines.iter().for_each(|line| svg.line(line, &more));
         }
         svg.close();
         svg.open("g", &texts("marks", "#111111", "#ffffff", "0.5"));
-        for (i, mark) in self.marks.iter().enumerate() {
+        for (i, mark) in self.placed.marks.iter().enumerate() {
             if let Some(guide) = mark.guide {
                 svg.leaf("path", &palette::stroke(path(&guide), "#6b675e", 0.18));
             }
