@@ -41,8 +41,6 @@ enum {
     TANSYGATE_MESH = 9,               /* the mesh is ill-formed */
     TANSYGATE_CROSSINGS = 10,         /* crossings, those of cleared paths included, outnumber the crossing list */
     TANSYGATE_PIECES = 11,            /* pieces outnumber the lent piece lists */
-    TANSYGATE_NOT_FINITE = 12,        /* a seed, the unit, a box corner, bar end, crossing place or route point
-                                         isn't finite */
     TANSYGATE_NO_FIT = 13,            /* the audited drawing doesn't fit its network */
     TANSYGATE_VOLTAGE = 15            /* a kv isn't finite and above zero */
 };

@@ -1,4 +1,4 @@
-//! Layout: the original's `tx_schematic_layout` behind 01's refusals 1 to 12.
+//! Layout: the original's `tx_schematic_layout` behind 01's refusals 1 to 11.
 use crate::gaps;
 use crate::network::{refuse, Mesh, Network, Options};
 use crate::tx_schematic::{tx_schematic_layout, TxLayout};
@@ -100,6 +100,6 @@ pub fn layout(net: &Network, options: &Options, mesh: &Mesh, lent: &Lent) -> Res
     let seen = witness::seen();
     refuse(10, seen.crossings > lent.crossings)?;
     refuse(11, drawing.segment_edge.len() > lent.branches.min(lent.pieces / 4))?;
-    refuse(12, !seen.finite || !finite(&drawing))?;
+    assert!(seen.finite && finite(&drawing), "a number of the drawing isn't finite");
     Ok(drawing)
 }

@@ -128,7 +128,7 @@ impl Room {
 /// ```
 ///
 /// # Errors
-/// Refusals 1 to 4, 15, 5, 6, 8, 9 and 12, the first that applies, in this order.
+/// Refusals 1 to 4, 15, 5, 6, 8 and 9, the first that applies, in this order.
 pub fn tx_schematic_layout(
     input: &TxLayoutInput,
     options: &TxLayoutOptions,

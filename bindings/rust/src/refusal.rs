@@ -3,7 +3,7 @@ use std::fmt;
 
 /// A refusal: the first that applies, in the scope's order. Its number is the scope's; 15 comes directly after 4.
 ///
-/// [`tx_schematic_layout`](crate::tx_schematic_layout) gives 1 to 4, 15, 5, 6, 8, 9 and 12,
+/// [`tx_schematic_layout`](crate::tx_schematic_layout) gives 1 to 4, 15, 5, 6, 8 and 9,
 /// [`tx_layout_quality`](crate::tx_layout_quality) 1 to 4, 15, 6, 13 and 8. Numbers 7, 10 and 11 are about lists that
 /// a caller lends; here the calls lend them, long enough.
 ///
@@ -39,8 +39,6 @@ pub enum Refusal {
     Crossings = 10,
     /// Segments outnumber the lent lists.
     Pieces = 11,
-    /// A seed, the unit, a box corner, bar end, crossing place or route point isn't finite.
-    NotFinite = 12,
     /// The audited drawing doesn't fit its network.
     NoFit = 13,
     /// A `kv` isn't finite and above zero.
@@ -49,7 +47,7 @@ pub enum Refusal {
 
 impl Refusal {
     /// All refusals, by number.
-    pub const ALL: [Refusal; 14] = [
+    pub const ALL: [Refusal; 13] = [
         Refusal::TooMany,
         Refusal::KvLength,
         Refusal::ToLength,
@@ -61,12 +59,11 @@ impl Refusal {
         Refusal::Mesh,
         Refusal::Crossings,
         Refusal::Pieces,
-        Refusal::NotFinite,
         Refusal::NoFit,
         Refusal::Voltage,
     ];
 
-    /// Its number, 1 to 13 or 15.
+    /// Its number, 1 to 11, 13 or 15.
     pub fn number(self) -> u32 {
         self as u32
     }
@@ -85,7 +82,6 @@ impl Refusal {
             Refusal::Mesh => "the mesh is ill-formed",
             Refusal::Crossings => "crossings, those of cleared paths included, outnumber the lent crossing list",
             Refusal::Pieces => "segments outnumber the lent lists",
-            Refusal::NotFinite => "a seed, the unit, a box corner, bar end, crossing place or route point isn't finite",
             Refusal::NoFit => "the audited drawing doesn't fit its network",
             Refusal::Voltage => "a kv isn't finite and above zero",
         }
@@ -97,7 +93,7 @@ impl Refusal {
             return Ok(());
         }
         let named = Refusal::ALL.into_iter().find(|r| r.number() == number);
-        Err(named.expect("the library answers 0 to 13 or 15"))
+        Err(named.expect("the library answers 0 to 11, 13 or 15"))
     }
 }
 

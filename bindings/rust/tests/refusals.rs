@@ -192,7 +192,7 @@ fn a_drawing_that_does_not_fit() {
 
 #[test]
 fn numbers_and_words() {
-    for (refusal, number) in Refusal::ALL.into_iter().zip((1..=13).chain([15])) {
+    for (refusal, number) in Refusal::ALL.into_iter().zip((1..=11).chain([13, 15])) {
         assert_eq!(refusal.number(), number);
         assert_eq!(refusal.to_string(), format!("refused {number}: {}", refusal.words()));
     }

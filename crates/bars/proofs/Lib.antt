@@ -2,3 +2,4 @@
 pub mod Spans
 pub mod Rows
 pub mod SpanLaw
+pub mod BarSizes

@@ -2,4 +2,5 @@
 pub mod Choosing
 pub mod Shifting
 pub mod Detours
+pub mod DetourSizes
 pub mod Lending

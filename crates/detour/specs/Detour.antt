@@ -21,7 +21,7 @@ unfoldable pub cornersOf : Box → Float → List Point
 cornersOf b g =
     point (b .left ⊖ g) (b .top ⊖ g) ∷ point (b .right ⊕ g) (b .top ⊖ g) ∷ point (b .right ⊕ g) (b .bottom ⊕ g) ∷ point (b .left ⊖ g) (b .bottom ⊕ g) ∷ []
 
--- How long the way from p over c to q is; its place in the order of `total_cmp`. A NaN, which only a point that isn't finite gives (refusal 12), stands last.
+-- How long the way from p over c to q is; its place in the order of `total_cmp`. A NaN, which only a point that isn't finite gives, stands last: no drawing has one (drawing proofs Finite).
 unfoldable pub cost : Point → Point → Point → Float
 cost p q c = hypotOf (c .x ⊖ p .x) (c .y ⊖ p .y) ⊕ hypotOf (q .x ⊖ c .x) (q .y ⊖ c .y)
 

@@ -10,11 +10,8 @@ use native.Mathlib.Decide.{decLe}
 use lib.Dec.{leb, ltb}
 use lib.ListN.{length, getD, List·getD-eq-default}
 use lib.Ieee.{Float}
-use lib.Ieee.Bits.{is-true}
-use Rattle.float.specs.Small.{isFinite}
 use Rattle.float.specs.Ops.{f0}
 use Rattle.float.specs.Double.{twice, Doubles}
-use Rattle.float.proofs.DoubleLaws.{finite-twice}
 use Rattle.order.specs.Order.{pick, upFrom}
 use Rattle.order.specs.Table.{table}
 use Rattle.order.proofs.Tables.{length-table, getD-table}
@@ -34,12 +31,11 @@ use Rattle.crossings.specs.Route as Route
 use Rattle.routes.specs.Routes.{meshUsed, crossingsOf}
 use Rattle.routes.proofs.Few.{length-rounds, routing-short}
 use Rattle.runs.specs.Run.{Scene, Piece, runs, runOf}
-use Rattle.runs.specs.Finite.{allOf, finitePoint, finiteBox, finiteBar}
 use Rattle.runs.specs.Lists.{flat, pointNumbers, boxNumbers, barNumbers, pieceNumbers}
 use Rattle.drawing.specs.declared.room.Room.{Room}
 use Rattle.drawing.specs.Network.{Network}
 use Rattle.drawing.specs.Drawing.{Plan, planned, straightScene, ledScene, routedOf, routedScene, waysOf, sceneOf, drawing}
-use Rattle.drawing.specs.Answer.{crossingRoom, routedBy, lateBy, late, allFinite, listsOf}
+use Rattle.drawing.specs.Answer.{crossingRoom, routedBy, lateBy, late, listsOf}
 use Rattle.units.specs.Doubles.{DoublesPoint, Paired}
 use Rattle.placement.specs.Doubles.{DoublesBox}
 use Rattle.doubling.specs.Twice.{TwiceBox, Twice, DoubledMap}
@@ -84,48 +80,6 @@ paired-length R [] [] p = refl
 paired-length R [] (x' ∷ l') p = absurd p
 paired-length R (x ∷ l) [] p = absurd p
 paired-length R (x ∷ l) (x' ∷ l') p = ap suc (paired-length R l l' (p .1))
-
-all-paired : {A : Type 0} (R : A → A → Type 0) (q : A → Bool) → ((x x' : A) → R x x' → (q x ≡ true) × (q x' ≡ true)) → (l l' : List A) → Paired R l l' → (allOf q l ≡ true) × (allOf q l' ≡ true)
-unfolding allOf
-all-paired R q h [] [] p = (refl, refl)
-all-paired R q h [] (x' ∷ l') p = absurd p
-all-paired R q h (x ∷ l) [] p = absurd p
-all-paired R q h (x ∷ l) (x' ∷ l') p =
-    let a = h x x' (p .0) in
-    let b = all-paired R q h l l' (p .1) in
-    (ap (λ (t : Bool). t && allOf q l) (a .0) ∙ b .0, ap (λ (t : Bool). t && allOf q l') (a .1) ∙ b .1)
-
--- ---- what doubles is finite
-doubles-finite : {lo top : ℕ} {x x' : Float} → Doubles lo top x x' → (isFinite x ≡ true) × (isFinite x' ≡ true)
-doubles-finite {x = x} h = let e = is-true (isFinite x) (h .stepped .number .finite) in (e, ap isFinite (h .is) ∙ finite-twice x ∙ e)
-
-point-finite : {lo top : ℕ} (p p' : Point) → DoublesPoint lo top p p' → (finitePoint p ≡ true) × (finitePoint p' ≡ true)
-unfolding finitePoint
-point-finite p p' h =
-    let a = doubles-finite (h .x) in
-    let b = doubles-finite (h .y) in
-    (ap (λ (t : Bool). t && isFinite (p .y)) (a .0) ∙ b .0, ap (λ (t : Bool). t && isFinite (p' .y)) (a .1) ∙ b .1)
-
-box-finite : {lo top : ℕ} (b b' : Box) → DoublesBox lo top b b' → (finiteBox b ≡ true) × (finiteBox b' ≡ true)
-unfolding finiteBox
-box-finite b b' h =
-    let l = doubles-finite (h .left) in
-    let t = doubles-finite (h .top-side) in
-    let r = doubles-finite (h .right) in
-    let m = doubles-finite (h .bottom) in (
-      ap (λ (z : Bool). z && (isFinite (b .top) && (isFinite (b .right) && isFinite (b .bottom)))) (l .0) ∙ ap (λ (z : Bool). z && (isFinite (b .right) && isFinite (b .bottom))) (t .0) ∙ ap (λ (z : Bool). z && isFinite (b .bottom)) (r .0) ∙ m .0,
-      ap (λ (z : Bool). z && (isFinite (b' .top) && (isFinite (b' .right) && isFinite (b' .bottom)))) (l .1) ∙ ap (λ (z : Bool). z && (isFinite (b' .right) && isFinite (b' .bottom))) (t .1) ∙ ap (λ (z : Bool). z && isFinite (b' .bottom)) (r .1) ∙ m .1,
-    )
-
-bar-finite : {lo top : ℕ} (b b' : Bar) → DoublesBar lo top b b' → (finiteBar b ≡ true) × (finiteBar b' ≡ true)
-unfolding finiteBar
-bar-finite b b' h =
-    let x = doubles-finite (h .x) in
-    let y = doubles-finite (h .y0) in
-    let z = doubles-finite (h .y1) in (
-      ap (λ (t : Bool). t && (isFinite (b .y0) && isFinite (b .y1))) (x .0) ∙ ap (λ (t : Bool). t && isFinite (b .y1)) (y .0) ∙ z .0,
-      ap (λ (t : Bool). t && (isFinite (b' .y0) && isFinite (b' .y1))) (x .1) ∙ ap (λ (t : Bool). t && isFinite (b' .y1)) (y .1) ∙ z .1,
-    )
 
 -- ---- their numbers
 point-numbers : {lo top : ℕ} (p p' : Point) → DoublesPoint lo top p p' → pointNumbers p' ≡ map twice (pointNumbers p)
@@ -175,22 +129,6 @@ and-false : (b : Bool) → b && false ≡ false
 and-false true = refl
 and-false false = refl
 
-all-six : (a b c d e f : Bool) → a ≡ true → b ≡ true → c ≡ true → d ≡ true → e ≡ true → f ≡ true → a && (b && (c && (d && (e && f)))) ≡ true
-all-six true true true true true f p q r s t u = u
-all-six true true true true false f p q r s t u = t
-all-six true true true false e f p q r s t u = s
-all-six true true false d e f p q r s t u = r
-all-six true false c d e f p q r s t u = q
-all-six false b c d e f p q r s t u = p
-
-empty-finite : (l : List Float) → length l ≡ 0 → allOf isFinite l ≡ true
-unfolding allOf
-empty-finite [] e = refl
-empty-finite (x ∷ l) e = absurd (never (length l) e)
-  where
-    never : (n : ℕ) → suc n ≡ 0 → ⊥
-    never n e = omega arith
-
 module _ (O : Options) (N : Network) (it : O .«route_iterations» ≡ 0) (A : Passed 1 O (N .station) (kinds (N .station) (N .from) (N .to) (N .service)) (N .xy)) (xy' : List Float) (D : DoubledMap (N .xy) xy') where
   abbrev ks : List Kind
   ks = kinds (N .station) (N .from) (N .to) (N .service)
@@ -237,17 +175,9 @@ module _ (O : Options) (N : Network) (it : O .«route_iterations» ≡ 0) (A : P
   unfolding drawing runs sceneOf ledScene planned straightScene
   run-of = doubles-table (Paired (DoublesPoint 10 (2 ^ 1221))) (runOf (sceneOf O N (planned O N))) (runOf (sceneOf O (withMap N xy') (planned O (withMap N xy')))) (length ks) [] (run-doubles (sceneOf O N (planned O N)) (sceneOf O (withMap N xy') (planned O (withMap N xy'))) scenes) tt
 
-  runs-length : length (drawing O (withMap N xy') .runs) ≡ length (drawing O N .runs)
-  unfolding drawing runs sceneOf ledScene planned straightScene
-  runs-length = length-table (runOf (sceneOf O (withMap N xy') (planned O (withMap N xy')))) (length ks) ∙ sym (length-table (runOf (sceneOf O N (planned O N))) (length ks))
-
   pieces-paired : Paired DoublesPiece (drawing O N .pieces) (drawing O (withMap N xy') .pieces)
   unfolding drawing
   pieces-paired = all-pieces ks (drawing O N .runs) (drawing O (withMap N xy') .runs) run-of
-
-  seeds-paired : Paired (DoublesPoint 458 (2 ^ 1125)) (drawing O N .seeds) (drawing O (withMap N xy') .seeds)
-  unfolding drawing planned
-  seeds-paired = paired-of (DoublesPoint 458 (2 ^ 1125)) origin (seeds (N .station) (N .xy)) (seeds (N .station) xy') (seeds-length (N .station) xy' ∙ sym (seeds-length (N .station) (N .xy))) (seed-of O (N .station) (N .kv) ks (N .xy) search F xy' D)
 
   boxes-length : length (drawing O (withMap N xy') .boxes) ≡ length (drawing O N .boxes)
   unfolding drawing planned boxes
@@ -273,23 +203,6 @@ module _ (O : Options) (N : Network) (it : O .«route_iterations» ≡ 0) (A : P
   unfolding drawing
   none-crossed M = none-many (routedOf O M (planned O M)) (meshless M (planned O M)) (O .«route_iterations»)
 
-  runs-finite : (allOf (allOf finitePoint) (drawing O N .runs) ≡ true) × (allOf (allOf finitePoint) (drawing O (withMap N xy') .runs) ≡ true)
-  runs-finite =
-      all-paired (Paired (DoublesPoint 10 (2 ^ 1221))) (allOf finitePoint) (λ l l' p. all-paired (DoublesPoint 10 (2 ^ 1221)) finitePoint point-finite l l' p) (drawing O N .runs) (drawing O (withMap N xy') .runs)
-      (paired-of (Paired (DoublesPoint 10 (2 ^ 1221))) [] (drawing O N .runs) (drawing O (withMap N xy') .runs) runs-length run-of)
-
-  finite-both : (allFinite (drawing O N) ≡ true) × (allFinite (drawing O (withMap N xy')) ≡ true)
-  unfolding allFinite
-  finite-both =
-      let s = all-paired (DoublesPoint 458 (2 ^ 1125)) finitePoint point-finite (drawing O N .seeds) (drawing O (withMap N xy') .seeds) seeds-paired in
-      let u = doubles-finite unit-doubles in
-      let b = all-paired (DoublesBox 116 (2 ^ 1180 + 80 * 2 ^ 1200 + 2 ^ 1200)) finiteBox box-finite (drawing O N .boxes) (drawing O (withMap N xy') .boxes) boxes-paired in
-      let r = all-paired (DoublesBar 63 (2 ^ 1220)) finiteBar bar-finite (drawing O N .bars) (drawing O (withMap N xy') .bars) bars-paired in
-      let w = runs-finite in (
-        all-six _ _ _ _ _ _ (s .0) (u .0) (b .0) (r .0) (empty-finite (drawing O N .crossings) (none-crossed N)) (w .0),
-        all-six _ _ _ _ _ _ (s .1) (u .1) (b .1) (r .1) (empty-finite (drawing O (withMap N xy') .crossings) (none-crossed (withMap N xy'))) (w .1),
-      )
-
   ill-same : illSized (drawing O (withMap N xy') .boxes) (occupied (drawing O (withMap N xy') .counts)) ≡ illSized (drawing O N .boxes) (occupied (drawing O N .counts))
   unfolding drawing planned
   ill-same = ill-sized O (N .station) (N .kv) ks (N .xy) search F xy' D
@@ -303,11 +216,10 @@ module _ (O : Options) (N : Network) (it : O .«route_iterations» ≡ 0) (A : P
   late-is R =
       let d = drawing O N in
       let d' = drawing O (withMap N xy') in
-      ap (λ (b : Bool). lateBy (routedBy b (d' .meshFits) (length (d' .crossings)) (crossingRoom R)) (length (d' .pieces)) (R .pieces) (R .branches) (allFinite d')) ill-same
-      ∙ ap (λ (b : Bool). lateBy (routedBy (illSized (d .boxes) (occupied (d .counts))) b (length (d' .crossings)) (crossingRoom R)) (length (d' .pieces)) (R .pieces) (R .branches) (allFinite d')) fits-same
-      ∙ ap (λ (n : ℕ). lateBy (routedBy (illSized (d .boxes) (occupied (d .counts))) (d .meshFits) n (crossingRoom R)) (length (d' .pieces)) (R .pieces) (R .branches) (allFinite d')) (none-crossed (withMap N xy') ∙ sym (none-crossed N))
-      ∙ ap (λ (n : ℕ). lateBy (routedBy (illSized (d .boxes) (occupied (d .counts))) (d .meshFits) (length (d .crossings)) (crossingRoom R)) n (R .pieces) (R .branches) (allFinite d')) (paired-length DoublesPiece (d .pieces) (d' .pieces) pieces-paired)
-      ∙ ap (λ (b : Bool). lateBy (routedBy (illSized (d .boxes) (occupied (d .counts))) (d .meshFits) (length (d .crossings)) (crossingRoom R)) (length (d .pieces)) (R .pieces) (R .branches) b) (finite-both .1 ∙ sym (finite-both .0))
+      ap (λ (b : Bool). lateBy (routedBy b (d' .meshFits) (length (d' .crossings)) (crossingRoom R)) (length (d' .pieces)) (R .pieces) (R .branches)) ill-same
+      ∙ ap (λ (b : Bool). lateBy (routedBy (illSized (d .boxes) (occupied (d .counts))) b (length (d' .crossings)) (crossingRoom R)) (length (d' .pieces)) (R .pieces) (R .branches)) fits-same
+      ∙ ap (λ (n : ℕ). lateBy (routedBy (illSized (d .boxes) (occupied (d .counts))) (d .meshFits) n (crossingRoom R)) (length (d' .pieces)) (R .pieces) (R .branches)) (none-crossed (withMap N xy') ∙ sym (none-crossed N))
+      ∙ ap (λ (n : ℕ). lateBy (routedBy (illSized (d .boxes) (occupied (d .counts))) (d .meshFits) (length (d .crossings)) (crossingRoom R)) n (R .pieces) (R .branches)) (paired-length DoublesPiece (d .pieces) (d' .pieces) pieces-paired)
 
   bounds-twice : TwiceBox (drawing O N .bounds) (drawing O (withMap N xy') .bounds)
   unfolding drawing planned

@@ -24,6 +24,8 @@ use Rattle.network.proofs.Shapes.{Shape, shape-fits, test-on}
 -- The lent lists have the lengths that a network of this shape asks.
 pub record Fits (o : Options) (N : Network) (R : Room) : Type 0 where
   pub shape : Shape (N .station) (N .kv) (N .from) (N .to)
+  pub range : inRange o ≡ true
+  pub near : tooFar (length (N .station)) (N .xy) ≡ false
   pub search : searchOf (o .search) ≤ 20
   pub positions : 2 * length (N .station) ≤ R .positions
   pub bars : 4 * length (N .station) ≤ R .bars
@@ -62,13 +64,13 @@ sixth a b c d e f g h =
     let h5 = both e (f && g) h4 .1 in
     both f g h5 .0
 
-none-of : (s : ℕ) (a b c d : Bool) → 0 ≡ orLater s (refuse a 5 (refuse b 6 (refuse c 7 (refuse d 7 0)))) → (0 ≡ s) × (a ≡ false) × (c ≡ false) × (d ≡ false)
+none-of : (s : ℕ) (a b c d : Bool) → 0 ≡ orLater s (refuse a 5 (refuse b 6 (refuse c 7 (refuse d 7 0)))) → (0 ≡ s) × (a ≡ false) × (b ≡ false) × (c ≡ false) × (d ≡ false)
 none-of (suc s) a b c d h = absurd (omega (arith, h))
 none-of zero true b c d h = absurd (omega (arith, h))
 none-of zero false true c d h = absurd (omega (arith, h))
 none-of zero false false true d h = absurd (omega (arith, h))
 none-of zero false false false true h = absurd (omega (arith, h))
-none-of zero false false false false h = (refl, refl, refl, refl)
+none-of zero false false false false h = (refl, refl, refl, refl, refl)
 
 search-small : (s : ℤ) → searchFits s ≡ true → searchOf s ≤ 20
 unfolding searchFits searchOf
@@ -116,14 +118,14 @@ fits-of o N R h =
     (shortWork n m (meshLength N) R)
     h
     in
-    let p = five (R .positions) (2 * n) (R .bars) (4 * n) (R .boxes) (4 * k) (R .scales) k (R .roles) m (z .2) in
+    let p = five (R .positions) (2 * n) (R .bars) (4 * n) (R .boxes) (4 * k) (R .scales) k (R .roles) m (z .3) in
     let rest : Bool =
     ltb (R .keys) s || (ltb (R .places) (2 * n + 4 * m) || (ltb (R .blocks) (3 * n) || (ltb (R .frames) (4 * n) || (ltb (R .path) (2 * n + 3 * meshLength N + 16) || ltb (R .sorted) (indexLength n)))))
     in
     let w1 =
     enough (R .stations) (2 * n)
     (ltb (R .buses) (3 * n) || (ltb (R .ends) (4 * m + 4 * meshLength N + 4) || (ltb (R .sorted) s || (ltb (R .spare) s || rest))))
-    (z .3)
+    (z .4)
     in
     let w2 = enough (R .buses) (3 * n) (ltb (R .ends) (4 * m + 4 * meshLength N + 4) || (ltb (R .sorted) s || (ltb (R .spare) s || rest))) (w1 .1) in
     let w3 = enough (R .ends) (4 * m + 4 * meshLength N + 4) (ltb (R .sorted) s || (ltb (R .spare) s || rest)) (w2 .1) in
@@ -137,6 +139,8 @@ fits-of o N R h =
     let w = five (R .places) (2 * n + 4 * m) (R .blocks) (3 * n) (R .frames) (4 * n) (R .path) (2 * n + 3 * meshLength N + 16) (R .sorted) (indexLength n) (w6 .1) in
     record {
       shape = shape-fits _ _ _ _ (z .0);
+      range = test-on _ (z .1);
+      near = z .2;
       search = search-in o (test-on _ (z .1));
       positions = p .0;
       bars = p .1;

@@ -4,3 +4,4 @@ pub mod Fitting
 pub mod Written
 pub mod Lates
 pub mod Number
+pub mod Finite

@@ -14,7 +14,7 @@ use Rattle.placement.specs.Sized.{illSized}
 use Rattle.routes.specs.Routes.{routeRefusal}
 use Rattle.drawing.specs.Network.{Network, Lists, Work, Crossings}
 use Rattle.drawing.specs.Drawing.{drawing}
-use Rattle.drawing.specs.Answer.{numberOf, roomOf, meshLength, shortResults, shortWork, crossingRoom, pieceRoom, allFinite, orLater, early, routedBy, lateBy, late, answerBy, answerFor, Call, callLate, callEarly, layoutOf}
+use Rattle.drawing.specs.Answer.{numberOf, roomOf, meshLength, shortResults, shortWork, crossingRoom, pieceRoom, orLater, early, routedBy, lateBy, late, answerBy, answerFor, Call, callLate, callEarly, layoutOf}
 use Rattle.drawing.specs.Number.{layoutNumber, Answered}
 
 -- parts of the chain, one after the other
@@ -69,7 +69,7 @@ module _ (O : Options) (N : Network) (L : Lists) (W : Work) (X : Crossings) wher
       let ill = illSized (d .boxes) (occupied (d .counts)) in
       let crowded = ltb (crossingRoom R) (length (d .crossings)) in
       let full = ltb (pieceRoom (R .pieces) (R .branches)) (length (d .pieces)) in
-      let ends : ℕ = refuse full 11 (refuse (not (allFinite d)) 12 0) in
+      let ends : ℕ = refuse full 11 0 in
       let shape = shapeRefusal (N .station) (N .kv) (N .from) (N .to) in
       let options : ℕ = refuse (not (inRange O)) 5 (refuse (tooFar n (N .xy)) 6 (refuse short 7 (refuse shortWorks 7 0))) in
       number-by (early O N R)

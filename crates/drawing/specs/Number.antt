@@ -12,7 +12,7 @@ use Rattle.placement.specs.Sized.{illSized}
 use Rattle.drawing.specs.declared.room.Room.{Room}
 use Rattle.drawing.specs.Network.{Network, Lists, Work, Crossings}
 use Rattle.drawing.specs.Drawing.{drawing}
-use Rattle.drawing.specs.Answer.{numberOf, roomOf, meshLength, shortResults, shortWork, crossingRoom, pieceRoom, allFinite, Call, layoutOf}
+use Rattle.drawing.specs.Answer.{numberOf, roomOf, meshLength, shortResults, shortWork, crossingRoom, pieceRoom, Call, layoutOf}
 
 -- 01's table, with 02's 15 directly after 4, although its number is higher: the first row whose condition holds gives the number, 0 where none does.
 -- 9 and 10 are skipped with fewer than three occupied stations or 0 iterations: the mesh then fits and there are no crossings.
@@ -32,8 +32,7 @@ layoutNumber O N R =
     (refuse (illSized (d .boxes) (occupied (d .counts))) 8
     (refuse (not (d .meshFits)) 9
     (refuse (ltb (crossingRoom R) (length (d .crossings))) 10
-    (refuse (ltb (pieceRoom (R .pieces) (R .branches)) (length (d .pieces))) 11
-    (refuse (not (allFinite d)) 12 0))))))))))))
+    (refuse (ltb (pieceRoom (R .pieces) (R .branches)) (length (d .pieces))) 11 0)))))))))))
 
 -- What a call gives: 01's number for its answer, and by one equation the answer and what each lent list holds after it.
 pub record Answered (O : Options) (N : Network) (L : Lists) (W : Work) (X : Crossings) (C : Call) : Type 0 where

@@ -2,37 +2,33 @@
 -- Assumes nothing.
 use Prim.Native.Nat.{ℕ, zero, suc, _*_, _≤_}
 use mathlib.Core.Path.{_≡_, refl, sym, ap, _∙_, subst}
-use mathlib.Core.Bool.{Bool, true, false, _&&_}
+use mathlib.Core.Bool.{Bool}
 use mathlib.Core.List.{List, map}
 use native.Mathlib.Omega.{arith}
 use lib.Dec.{ltb}
 use lib.ListN.{length}
 use lib.Ieee.{Float}
-use Rattle.float.specs.Small.{isFinite}
 use Rattle.geometry.specs.declared.Point.{Point}
 use Rattle.geometry.specs.declared.Box.{Box}
 use Rattle.network.specs.declared.options.Options.{Options}
 use Rattle.network.specs.Words.{kinds, occupied}
-use Rattle.network.specs.Refusal.{everyFinite}
 use Rattle.network.specs.Views.{countsIn, boxesIn}
 use Rattle.units.specs.Stages.Views.{scalesIn}
 use Rattle.bars.specs.Bar.{position}
 use Rattle.cells.specs.Cells.{cellSize}
 use Rattle.runs.specs.Run.{Piece, allPieces, role}
-use Rattle.runs.specs.Finite.{allOf, finitePoint, finiteBox, finiteBar}
 use Rattle.runs.specs.Lists.{flat, pointNumbers, boxNumbers, barNumbers, pieceNumbers, after}
 use Rattle.runs.specs.Stages.Views.{Held, held, lead}
 use Rattle.pieces.specs.Stages.Pieces.{runsIn, branchOf}
 use Rattle.results.specs.Stages.Bars.{barsIn}
 use Rattle.results.specs.Bounds.{boundsOf}
-use Rattle.results.proofs.Finites.{finite-boxes}
 use Rattle.crossings.specs.Gap.{gapOf}
 use Rattle.drawing.specs.declared.answer.Answer.{Answer}
 use Rattle.drawing.specs.declared.answer.Answer.the-variants.{Refused}
 use Rattle.drawing.specs.declared.room.Room.{Room}
 use Rattle.drawing.specs.Network.{Network, Lists, lists}
 use Rattle.drawing.specs.Drawing.{measuresOf, drawing}
-use Rattle.drawing.specs.Answer.{orLater, routedBy, lateBy, late, crossingRoom, allFinite, listsOf, listsAfter, answerBy, answerFor}
+use Rattle.drawing.specs.Answer.{orLater, routedBy, lateBy, late, crossingRoom, listsOf, listsAfter, answerBy, answerFor}
 use Rattle.chart.specs.Stages.Charted.{routedLate, Charted}
 use Rattle.finish.specs.Stages.Draft.{Judged, Drew}
 use Rattle.drawing.proofs.Lates.{room-of}
@@ -40,15 +36,6 @@ use Rattle.drawing.proofs.Lates.{room-of}
 lists-eq : {a a' b b' c c' d d' : List Float} {e e' : List ℕ} {f f' : List Float} {g g' : List ℕ}
     → a ≡ a' → b ≡ b' → c ≡ c' → d ≡ d' → e ≡ e' → f ≡ f' → g ≡ g' → lists a b c d e f g ≡ lists a' b' c' d' e' f' g'
 lists-eq p q r s t u w = rw (p, q, r, s, t, u, w)
-
--- the same tests in another order
-in-order : (s c u b r n : Bool) → ((s && c) && (u && (b && (r && n)))) ≡ (s && (u && (b && (r && (c && n)))))
-in-order false c u b r n = refl
-in-order true true u b r n = refl
-in-order true false false b r n = refl
-in-order true false true false r n = refl
-in-order true false true true false n = refl
-in-order true false true true true n = refl
 
 module _ (o : Options) (N : Network) (k : ℕ) (R : Room) (unit : Float) (fin : Bool) (l : ℕ) (stations buses ends : List ℕ) (blocks places frames path ways : List Float)
     (C : Charted o N k (crossingRoom R) unit fin l stations buses ends blocks places frames path ways) where
@@ -82,31 +69,20 @@ module _ (o : Options) (N : Network) (k : ℕ) (R : Room) (unit : Float) (fin : 
     unfolding drawing
     roles-are = refl
 
-    pub judged : (bounds : Box) (pieces l' : ℕ) (boxes bars runs all : Bool)
+    pub judged : (bounds : Box) (pieces l' : ℕ)
         → pieces ≡ length (allPieces (kinds (N .station) (N .from) (N .to) (N .service)) (runsIn heldBy (N .from) (N .to) (N .service)))
-        → runs ≡ allOf (allOf finitePoint) (runsIn heldBy (N .from) (N .to) (N .service))
-        → boxes ≡ everyFinite (4 * k) frames
-        → bars ≡ allOf finiteBar (barsIn (N .station) (measuresOf o unit) buses blocks frames)
-        → all ≡ (fin && (isFinite unit && (boxes && (bars && runs))))
         → bounds ≡ boundsOf (boxesIn k frames) (occupied (countsIn k stations))
-        → l' ≡ lateBy 0 pieces (R .pieces) (R .branches) all
+        → l' ≡ lateBy 0 pieces (R .pieces) (R .branches)
         → Judged o N R unit bounds pieces l'
-    unfolding late routedLate allFinite
-    judged bounds pieces l' boxes bars runs all p r b s a d e =
+    unfolding late routedLate
+    judged bounds pieces l' p d e =
         let pe : pieces ≡ length (drawing o N .pieces) = p ∙ ap length all-pieces in
-        let re : runs ≡ allOf (allOf finitePoint) (drawing o N .runs) = r ∙ ap (allOf (allOf finitePoint)) runs-are in
-        let be : boxes ≡ allOf finiteBox (drawing o N .boxes) = b ∙ finite-boxes frames k ∙ ap (allOf finiteBox) (C .boxes) in
-        let se : bars ≡ allOf finiteBar (drawing o N .bars) = s ∙ ap (allOf finiteBar) (C .bars) in
-        let ae : all ≡ allFinite (drawing o N) =
-        a ∙ cc (C .finiteIs z, C .unitIs, be, se, re)
-        ∙ in-order (allOf finitePoint (drawing o N .seeds)) (allOf isFinite (drawing o N .crossings)) (isFinite (drawing o N .unit)) (allOf finiteBox (drawing o N .boxes)) (allOf finiteBar (drawing o N .bars)) (allOf (allOf finitePoint) (drawing o N .runs))
-        in
         let le : 0 ≡ routedLate o N (crossingRoom R) = sym z ∙ C .lateIs in
         record {
           unitIs = C .unitIs;
           boundsIs = λ _. d ∙ bounds-are;
           piecesIs = λ _. pe;
-          lateIs = e ∙ cc (le, pe, ae);
+          lateIs = e ∙ cc (le, pe);
         }
 
     module _ (bounds : Box) (pieces l' : ℕ) (J : Judged o N R unit bounds pieces l') where
@@ -116,7 +92,7 @@ module _ (o : Options) (N : Network) (k : ℕ) (R : Room) (unit : Float) (fin : 
           × (length (allPieces (kinds (N .station) (N .from) (N .to) (N .service)) (runsIn heldBy (N .from) (N .to) (N .service))) ≤ R .branches)
       unfolding late
       room-if h =
-          subst (λ (ps : List Piece). (4 * length ps ≤ R .pieces) × (length ps ≤ R .branches)) (sym all-pieces) (room-of _ _ _ _ _ (sym (J .lateIs) ∙ h))
+          subst (λ (ps : List Piece). (4 * length ps ≤ R .pieces) × (length ps ≤ R .branches)) (sym all-pieces) (room-of _ _ _ _ (sym (J .lateIs) ∙ h))
 
       answer-is : (a : Answer) → a ≡ answerBy l' unit bounds pieces → a ≡ answerFor l' (drawing o N)
       unfolding answerFor answerBy

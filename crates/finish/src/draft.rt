@@ -15,17 +15,12 @@ use cells::cells::cell_size;
 use cells::index::index_boxes;
 use chart::Course;
 use crossings::gap::gap_of;
-use crossings::gap::gap_of;
-use crossings::gap::gap_of;
-use drawing::late::all_finite;
 use drawing::late::late_of;
 use drawing::room::Room;
 use geometry::Box;
 use network::options::Options;
-use network::refuse::finite_to;
 use pieces::survey;
 use results::bounds::bounds_of;
-use results::buses::finite_bars;
 use units::Measures;
 
 // What a drawing answers beside its lists, its late refusal, 0 for none, and the side of a cell.
@@ -100,11 +95,8 @@ pub(crate) fn judge(
         ways,
         path,
     );
-    let boxes = finite_to(frames, 4 * k);
-    let bars = finite_bars(sub, measures, buses, blocks, frames);
-    let finite = all_finite(c.finite, unit, boxes, bars, all.finite);
     let bounds = bounds_of(k, stations, frames);
-    let late = late_of(0, all.pieces, room.pieces, room.branches, finite);
+    let late = late_of(0, all.pieces, room.pieces, room.branches);
     Draft {
         bounds,
         pieces: all.pieces,

@@ -1,7 +1,6 @@
 -- What a call that answers 'drawn' has passed, and what its lists then hold.
 -- Assumes nothing.
 use mathlib.Core.Path.{_≡_, refl, sym, ap, _∙_}
-use mathlib.Core.Bool.{Bool}
 use Prim.Native.Nat.{ℕ, zero, suc, _*_, _≤_}
 use native.Mathlib.Omega.{arith}
 use lib.ListN.{length}
@@ -13,7 +12,7 @@ use Rattle.drawing.specs.declared.answer.Answer.{Answer}
 use Rattle.drawing.specs.declared.answer.Answer.the-variants.{Drawn, Refused}
 use Rattle.drawing.specs.Network.{Network, Lists, Work, Crossings}
 use Rattle.drawing.specs.Drawing.{Drawing, drawing}
-use Rattle.drawing.specs.Answer.{roomOf, early, late, lateBy, listsOf, listsAfter, answerBy, answerFor, callLate, callEarly, layoutOf}
+use Rattle.drawing.specs.Answer.{roomOf, early, late, listsOf, listsAfter, answerBy, answerFor, callLate, callEarly, layoutOf}
 use Rattle.drawing.proofs.Lates.{room-of}
 
 not-drawn : {P : Type 0} (r : ℕ) (p : Plot) → Refused r ≡ Drawn p → P
@@ -55,5 +54,5 @@ module _ (o : Options) (N : Network) (L : Lists) (W : Work) (X : Crossings) wher
   pieces-fit p e =
       let P = passed p e in
       let q : p .pieces ≡ length (drawing o N .pieces) = ap (λ (x : Plot). x .pieces) (P .plot) in
-      let h = room-of _ (length (drawing o N .pieces)) (length (L .pieces)) (length (L .branches)) _ (sym (P .late)) in
+      let h = room-of _ (length (drawing o N .pieces)) (length (L .pieces)) (length (L .branches)) (sym (P .late)) in
       (omega (arith, q, h .0), omega (arith, q, h .1))

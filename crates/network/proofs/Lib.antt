@@ -9,3 +9,4 @@ pub mod Seeds
 pub mod SeedSizes
 mod Refusals
 pub mod Shapes
+pub mod Ranges

@@ -58,7 +58,7 @@ shapeRefusal sub kv from to =
     (refuse (numberTooHigh sub) 4
     (refuse (strayVoltage kv) 15 0))))
 
--- 12, 13: whether the first c numbers of a list are finite
+-- whether the first c numbers of a list are finite
 unfoldable pub everyFinite : ℕ → List Float → Bool
 everyFinite zero l = true
 everyFinite (suc c) l = everyFinite c l && isFinite (getD l c nan)

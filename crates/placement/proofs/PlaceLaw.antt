@@ -111,7 +111,7 @@ module _ (fs : List Frame) (os : List Offset) (seeds : List Point) (order : List
   length-at (suc i) = length-set (at i) (station i) _ ∙ length-at i
 
   -- until its turn a station stands on its seed
-  waits : (j i : ℕ) → j ≤ i → i < length order → placeAt (at j) (station i) ≡ placeAt seeds (station i)
+  pub waits : (j i : ℕ) → j ≤ i → i < length order → placeAt (at j) (station i) ≡ placeAt seeds (station i)
   unfolding placesTo
   waits zero i h l = refl
   waits (suc j) i h l =

@@ -1,4 +1,4 @@
--- Refusal 12: the numbers of a list of points or boxes are finite where all the points or boxes are. Assumes nothing.
+-- The numbers of a list of points or boxes are finite where all the points or boxes are. Assumes nothing.
 use mathlib.Core.Path.{_≡_, refl, sym, ap, _∙_}
 use mathlib.Core.Bool.{Bool, true, false, _&&_}
 use mathlib.Core.List.{List, [], _∷_, _++_}

@@ -1,15 +1,12 @@
-// The lists of buses: positions and bars, and whether bars are finite.
+// The lists of buses: positions and bars.
 ghost use mathlib.Core.Path.{_≡_};
 ghost use Prim.Native.Nat.{_*_, _≤_};
 ghost use lib.ListN.{length};
 ghost use Rattle.bars.specs.Bar.{position};
 ghost use Rattle.runs.specs.Lists.{flat, pointNumbers, barNumbers, after};
-ghost use Rattle.runs.specs.Finite.{allOf, finiteBar};
 ghost use Rattle.results.specs.Stages.Bars.{barsIn};
 use crate::lists::put_numbers;
-use bars::Bar;
 use bars::position;
-use float::small::is_finite;
 use network::seed::put_point;
 use network::words::station_of;
 use runs::run::bar_of;
@@ -40,38 +37,4 @@ pub fn write_buses(
         put_numbers(bars, i, bar.x, bar.y0, bar.x, bar.y1);
         i += 1;
     }
-}
-
-// Whether a bar is finite.
-fn finite_bar(b: Bar) -> bool
-    ensures { λ r. ⌜ r ≡ finiteBar b ⌝ }
-{
-    if is_finite(b.x) {
-        if is_finite(b.y0) {
-            return is_finite(b.y1);
-        }
-    }
-    false
-}
-
-// Whether all bars are.
-pub fn finite_bars(
-    sub: &[u32],
-    measures: Measures,
-    buses: &[u32],
-    blocks: &[f64],
-    frames: &[f64],
-) -> bool
-    requires { ⌜ length (now sub) ≤ 4096 ⌝ }
-    ensures { λ r. ⌜ r ≡ allOf finiteBar (barsIn (now (sub .entry)) measures (now (buses .entry)) (now (blocks .entry)) (now (frames .entry))) ⌝ }
-{
-    let mut i = 0;
-    while i < sub.len() {
-        if finite_bar(bar_of(measures, buses, blocks, frames, station_of(sub, i), i)) {
-            i += 1;
-        } else {
-            return false;
-        }
-    }
-    true
 }

@@ -1,4 +1,4 @@
-// Writing the result lists, clearing work lists, finiteness of bars and the bounds of a drawing.
+// Writing the result lists, clearing work lists, and the bounds of a drawing.
 pub mod bounds;
 pub mod buses;
 pub mod clears;

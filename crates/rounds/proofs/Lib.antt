@@ -3,7 +3,8 @@ mod Ranges
 mod Putting
 mod Pointing
 mod Making
-mod Routed
+pub mod Routed
+pub mod CrossedSizes
 mod Meaning
 mod Holding
 mod Ends

@@ -19,7 +19,7 @@ use Rattle.routing.proofs.Tracing.{cross-long}
 -- ---- places after the rounds
 
 module _ (S : Scene) (r : Routing) where
-  length-one : (c : ℕ) (ps : List Float) → length (spaceOne S r c ps) ≡ length ps
+  pub length-one : (c : ℕ) (ps : List Float) → length (spaceOne S r c ps) ≡ length ps
   unfolding spaceOne
   length-one c ps = length-put _ _ ps
 

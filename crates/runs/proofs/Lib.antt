@@ -1,2 +1,3 @@
 -- Laws that the functions' proofs use.
 pub mod Paths
+pub mod RunSizes

@@ -1,4 +1,4 @@
--- Refusal 12: whether points, boxes and bars are finite. Definitions only.
+-- Whether points, boxes and bars are finite. Definitions only.
 use mathlib.Core.Bool.{Bool, true, _&&_}
 use mathlib.Core.List.{List, [], _∷_}
 use Rattle.float.specs.Small.{isFinite}

@@ -4,3 +4,4 @@ mod Copying
 mod Seeking
 mod Steps
 pub mod Walks
+pub mod Crossed

@@ -4,21 +4,21 @@ use mathlib.Core.Path.{_≡_, refl, sym, ap, subst, _∙_}
 use mathlib.Core.Bool.{Bool, true, false, not, _&&_}
 use mathlib.Core.List.{List}
 use native.Mathlib.Omega.{arith}
-use lib.Dec.{T, ltb}
+use lib.Dec.{T}
 use lib.ListN.{length}
 use lib.Ieee.Fits.{and-l, and-r}
 use Rattle.float.specs.Small.{isFinite}
 use Rattle.network.specs.declared.options.Options.{Options}
 use Rattle.network.specs.Options.{inRange}
-use Rattle.network.specs.Words.{stationCount, occupied}
+use Rattle.network.specs.Words.{stationCount}
 use Rattle.network.specs.Refusal.{refuse, shapeRefusal, tooFar}
-use Rattle.placement.specs.Sized.{illSized}
 use Rattle.runs.specs.Finite.{allOf, finitePoint, finiteBox, finiteBar}
 use Rattle.drawing.specs.declared.answer.Plot.{Plot}
 use Rattle.drawing.specs.declared.answer.Answer.the-variants.{Drawn}
 use Rattle.drawing.specs.Network.{Network, Lists, Work, Crossings}
 use Rattle.drawing.specs.Drawing.{Drawing, drawing}
-use Rattle.drawing.specs.Answer.{roomOf, early, late, lateBy, orLater, allFinite, pieceRoom, routedBy, crossingRoom, shortResults, shortWork, meshLength, listsOf, listsAfter, callEarly, callLate, layoutOf}
+use Rattle.drawing.specs.Answer.{roomOf, early, orLater, allFinite, shortResults, shortWork, meshLength, listsOf, listsAfter, callEarly, callLate, layoutOf}
+use Rattle.drawing.proofs.Finite.{drawn-finite}
 use Rattle.layout.proofs.Drawn.{Passed, passed}
 
 -- the tests of a chain of refusals that refuses nothing
@@ -26,12 +26,6 @@ early-passes : (s : ℕ) (a : Bool) (r : ℕ) → 0 ≡ orLater s (refuse (not a
 early-passes (suc s) a r h = absurd (omega (arith, h))
 early-passes zero true r h = tt
 early-passes zero false r h = absurd (omega (arith, h))
-
-late-passes : (routed : ℕ) (full finite : Bool) → 0 ≡ orLater routed (refuse full 11 (refuse (not finite) 12 0)) → T finite
-late-passes (suc r) full finite h = absurd (omega (arith, h))
-late-passes zero true finite h = absurd (omega (arith, h))
-late-passes zero false true h = tt
-late-passes zero false false h = absurd (omega (arith, h))
 
 module _ (o : Options) (N : Network) (L : Lists) (W : Work) (X : Crossings) (p : Plot) (drawn : layoutOf o N L W X .answer ≡ Drawn p) where
   pub plot-is : p ≡ record { unit = drawing o N .unit; bounds = drawing o N .bounds; pieces = length (drawing o N .pieces) }
@@ -48,11 +42,7 @@ module _ (o : Options) (N : Network) (L : Lists) (W : Work) (X : Crossings) (p :
       (passed o N L W X p drawn .early)
 
   all-finite : T (allFinite (drawing o N))
-  unfolding late lateBy
-  all-finite =
-      let d = drawing o N in
-      late-passes (routedBy (illSized (d .boxes) (occupied (d .counts))) (d .meshFits) (length (d .crossings)) (crossingRoom (roomOf L W X))) (ltb (pieceRoom (length (L .pieces)) (length (L .branches))) (length (d .pieces))) (allFinite d)
-      (passed o N L W X p drawn .late)
+  all-finite = let h = passed o N L W X p drawn in subst T (sym (drawn-finite o N (roomOf L W X) (h .early) (h .late))) tt
 
   pub boxes-finite : T (allOf finiteBox (drawing o N .boxes))
   unfolding allFinite

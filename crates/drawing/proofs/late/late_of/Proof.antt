@@ -1,7 +1,6 @@
 -- `drawing::late::late_of` meets its contract. Assumes nothing.
 use native.Mathlib.Omega.{arith}
-use Rattle.network.proofs.Shapes.{test-on, test-off}
-use Rattle.drawing.proofs.Lates.{by-earlier, by-room, by-finite, by-neither}
+use Rattle.drawing.proofs.Lates.{by-earlier, by-room, by-none}
 use borrow.Author.Needs.{needs}
 use Rattle.drawing.proofs.late.late_of.Statement.{statement}
 use Rattle.drawing.proofs.late.late_of.Tie as tie
@@ -9,21 +8,16 @@ use Rattle.drawing.proofs.late.late_of.Reads as reads
 use Rattle.drawing.proofs.late.late_of.Lts as lts
 
 returns : tie.Need-returns
-returns c = by-earlier _ _ _ _ _ (c .if1 .taken)
+returns c = by-earlier _ _ _ _ (c .if1 .taken)
 
 returns-2 : tie.Need-returns-2
-returns-2 c = by-room _ _ _ _ _ (c .before .if1 .left) (omega (arith, c .if2 .taken))
+returns-2 c = by-room _ _ _ _ (c .before .if1 .left) (omega (arith, c .if2 .taken))
 
 returns-3 : tie.Need-returns-3
-returns-3 c = by-room _ _ _ _ _ (c .before .before .if1 .left) (omega (arith, c .if3 .taken))
+returns-3 c = by-room _ _ _ _ (c .before .before .if1 .left) (omega (arith, c .if3 .taken))
 
 returns-4 : tie.Need-returns-4
-returns-4 c =
-    by-finite _ _ _ _ _ (c .before .before .before .if1 .left) (omega (arith, c .before .before .if2 .left, c .before .if3 .left)) (test-off _ (c .if4 .taken))
-
-returns-5 : tie.Need-returns-5
-returns-5 c =
-    by-neither _ _ _ _ _ (c .before .before .before .if1 .left) (omega (arith, c .before .before .if2 .left, c .before .if3 .left)) (test-on _ (c .if4 .left))
+returns-4 c = by-none _ _ _ _ (c .before .before .if1 .left) (omega (arith, c .before .if2 .left, c .if3 .left))
 
 pub late-of-spec : {M : Type 1} → statement M
-late-of-spec = tie.close (tie.spec returns returns-2 returns-3 returns-4 returns-5)
+late-of-spec = tie.close (tie.spec returns returns-2 returns-3 returns-4)

@@ -8,14 +8,11 @@ use Rattle.finish.proofs.draft.judge.Tie as tie
 use Rattle.finish.proofs.draft.judge.Reads as reads
 use Rattle.finish.proofs.draft.judge.Lts as lts
 use Rattle.cells.proofs.cells.cell_size.Reads as cell-size-reads
-use Rattle.finish.proofs.draft.gap_of.Reads as gap-of-reads
+use Rattle.crossings.proofs.gap.gap_of.Reads as gap-of-reads
 use Rattle.finish.proofs.draft.is_led.Reads as is-led-reads
-use Rattle.drawing.proofs.late.all_finite.Reads as all-finite-reads
 use Rattle.drawing.proofs.late.late_of.Reads as late-of-reads
-use Rattle.network.proofs.refuse.finite_to.Reads as finite-to-reads
 use Rattle.pieces.proofs.survey.Reads as survey-reads
 use Rattle.results.proofs.bounds.bounds_of.Reads as bounds-of-reads
-use Rattle.results.proofs.buses.finite_bars.Reads as finite-bars-reads
 
 is-led-requires : tie.Need-is-led-requires
 is-led-requires c κs = search needs
@@ -32,32 +29,20 @@ gap-of-requires c κs = search needs
 survey-requires : tie.Need-survey-requires
 survey-requires c κs = ((c .before .before .before .before .before .before .before .before .before .before .before .before .before .before .before .before .before .before .before .before .before .before .before .before .before .pre .0 .1, c .before .before .before .before .before .before .before .before .before .before .before .before .before .before .before .before .before .before .before .before .before .before .before .before .before .pre .0 .0), (c .before .before .before .before .before .before .before .before .before .before .before .before .before .before .before .before .before .before .before .before .before .before .before .before .before .pre .1 .0 .fits (c .before .before .before .before .before .before .before .before .before .before .before .before .before .before .before .before .before .before .before .before .before .before .before .before .before .pre .1 .1), (c .before .before .before .before .before .before .before .before .before .before .before .before .before .before .before .before .before .before .before .before .before .before .before .before .before .pre .0 .3, c .before .before .before .before .before .before .before .before .before .before .before .before .before .before .before .before .before .before .before .before .before .before .before .before .before .pre .0 .4, c .before .before .before .before .before .before .before .before .before .before .before .before .before .before .before .before .before .before .before .before .before .before .before .before .before .pre .0 .2, c .before .before .before .before .before .index-boxes .ensures)))
 
-mul-finite-to : tie.Need-mul-finite-to
-mul-finite-to c = omega (arith, c .before .before .before .before .before .before .before .before .before .before .before .before .before .before .before .before .before .before .before .before .before .before .before .before .before .before .before .before .pre .0 .2)
-
-finite-to-requires : tie.Need-finite-to-requires
-finite-to-requires c κs = search needs
-
-finite-bars-requires : tie.Need-finite-bars-requires
-finite-bars-requires c κs = c .before .before .before .before .before .before .before .before .before .before .before .before .before .before .before .before .before .before .before .before .before .before .before .before .before .before .before .before .before .pre .0 .0
-
-all-finite-requires : tie.Need-all-finite-requires
-all-finite-requires c κs = search needs
-
 bounds-of-requires : tie.Need-bounds-of-requires
-bounds-of-requires c κs = (c .before .before .before .before .before .before .before .before .before .before .before .before .before .before .before .before .before .before .before .before .before .before .before .before .before .before .before .before .before .before .before .pre .0 .3, c .before .before .before .before .before .before .before .before .before .before .before .before .before .before .before .before .before .before .before .before .before .before .before .before .before .before .before .before .before .before .before .pre .0 .4)
+bounds-of-requires c κs = (c .before .before .before .before .before .before .before .before .before .before .before .before .before .before .before .before .before .before .before .before .before .before .before .before .before .before .before .before .pre .0 .3, c .before .before .before .before .before .before .before .before .before .before .before .before .before .before .before .before .before .before .before .before .before .before .before .before .before .before .before .before .pre .0 .4)
 
 late-of-requires : tie.Need-late-of-requires
 late-of-requires c κs = search needs
 
 same-length : tie.Need-same-length
-same-length c = c .before .before .before .before .before .before .before .before .before .before .before .before .before .index-boxes .kept .1 .1 .1 .1 .1 .0
+same-length c = c .before .before .before .before .before .before .before .before .before .before .index-boxes .kept .1 .1 .1 .1 .1 .0
 
 same-length-2 : tie.Need-same-length-2
-same-length-2 c = c .before .before .before .before .before .before .before .survey .kept .1 .1 .1 .1 .1 .1 .1 .1 .1 .1 .1 .1 .1 .1 .1 .1 .1 .0
+same-length-2 c = c .before .before .before .before .survey .kept .1 .1 .1 .1 .1 .1 .1 .1 .1 .1 .1 .1 .1 .1 .1 .1 .1 .0
 
 returns : tie.Need-returns
-returns c = (judged _ _ _ _ _ _ _ _ _ _ _ _ _ _ _ (c .before .before .before .before .before .before .before .before .before .before .before .before .before .before .before .before .before .before .before .before .before .before .before .before .before .before .before .before .before .before .before .before .before .pre .1 .0) (c .before .before .before .before .before .before .before .before .before .before .before .before .before .before .before .before .before .before .before .before .before .before .before .before .before .before .before .before .before .before .before .before .before .pre .1 .1) _ _ _ (c .before .before .before .before .before .before .before .before .before .before .before .before .before .before .before .cell-size .ensures) (c .before .before .before .before .before .before .before .before .before .before .gap-of .ensures) (c .before .before .before .before .before .before .before .before .before .before .before .before .before .before .before .before .is-led .ensures) _ _ _ _ _ _ _ (c .before .before .before .before .before .before .before .survey .ensures .0) (c .before .before .before .before .before .before .before .survey .ensures .1 .0) (c .before .before .before .before .finite-to .ensures) (c .before .before .before .finite-bars .ensures) (c .before .before .all-finite .ensures) (c .before .bounds-of .ensures) (c .late-of .ensures), (c .before .before .before .before .before .before .before .before .before .before .before .before .before .before .before .cell-size .ensures, c .before .before .before .before .before .before .before .before .before .before .before .before .before .index-boxes .ensures))
+returns c = (judged _ _ _ _ _ _ _ _ _ _ _ _ _ _ _ (c .before .before .before .before .before .before .before .before .before .before .before .before .before .before .before .before .before .before .before .before .before .before .before .before .before .before .before .before .before .before .pre .1 .0) (c .before .before .before .before .before .before .before .before .before .before .before .before .before .before .before .before .before .before .before .before .before .before .before .before .before .before .before .before .before .before .pre .1 .1) _ _ _ (c .before .before .before .before .before .before .before .before .before .before .before .before .cell-size .ensures) (c .before .before .before .before .before .before .before .gap-of .ensures) (c .before .before .before .before .before .before .before .before .before .before .before .before .before .is-led .ensures) _ _ _ (c .before .before .before .before .survey .ensures .0) (c .before .bounds-of .ensures) (c .late-of .ensures), (c .before .before .before .before .before .before .before .before .before .before .before .before .cell-size .ensures, c .before .before .before .before .before .before .before .before .before .before .index-boxes .ensures))
 
 pub judge-spec : {M : Type 1} → statement M
 judge-spec =
@@ -68,10 +53,6 @@ judge-spec =
     index-boxes-requires
     gap-of-requires
     survey-requires
-    mul-finite-to
-    finite-to-requires
-    finite-bars-requires
-    all-finite-requires
     bounds-of-requires
     late-of-requires
     same-length
