@@ -25,7 +25,7 @@ use Rattle.findings.specs.declared.answer.Audit.{Audit}
 use Rattle.findings.specs.declared.answer.Audit.the-variants as Audits
 use Rattle.findings.specs.Drawn as Lent
 use Rattle.findings.specs.Answer as Audited
-use Rattle.wall.specs.Wall.{auditParts, audited, order, isFree, Wall}
+use Rattle.wall.specs.Wall.{auditParts, audited, Patterns, order, isFree, Wall}
 use Rattle.wall.specs.declared.answer.Checked.{Checked}
 use Rattle.wall.specs.declared.answer.Checked.the-variants as Checks
 use Rattle.wall.specs.declared.answer.Checked.the-variants.{LayoutRefused}
@@ -118,20 +118,21 @@ module _ (o : Options) (N : Network) (L : Lists) (W : Work) (X : Crossings) wher
   unfolding layoutOf
   kept r h = kept-by (early o N (roomOf L W X)) r h
 
-  claimed : Claim o N L W X (drawAndAudit o N L W X)
+  claimed : Patterns N → Claim o N L W X (drawAndAudit o N L W X)
   unfolding drawAndAudit bothAfter checkAfter
-  claimed =
+  claimed P =
       let a = layoutOf o N L W X .answer in
       record {
         is = refl;
         number = number-is _ _ _ a ∙ layout-number o N L W X;
         refused = λ r h. kept r (refused-is _ _ _ a r h);
+        patterns = P;
         wall = λ p d. wall o N L W X p (plots-drawn _ _ _ a p d);
         clean = λ p f d h free. wall o N L W X p (plots-drawn _ _ _ a p d) .audit free _ _ f (figured _ _ _ a p f (plots-drawn _ _ _ a p d) h);
       }
 
   -- by what the two calls give
-  pub claim-both : (a : Answer) (l : Lists) (w : Work) (x : Crossings) → Answered o N L W X (call a l w x)
+  pub claim-both : Patterns N → (a : Answer) (l : Lists) (w : Work) (x : Crossings) → Answered o N L W X (call a l w x)
       → (A : Check)
       → A ≡ checkBy a (auditParts (N .station) (N .kv) (N .from) (N .to) (N .xy) (l .boxes) (l .roles) (l .pieces) (l .branches))
       (Lent.lists (w .blocks) (w .frames) (x .ways)) (Lent.work (w .stations) (w .sorted) (w .spare) (w .keys) (w .places) (w .path))
@@ -140,10 +141,10 @@ module _ (o : Options) (N : Network) (L : Lists) (W : Work) (X : Crossings) wher
       (work (A .work .stations) (w .buses) (w .ends) (A .work .index) (A .work .spare) (A .work .keys) (A .work .points) (A .lists .displacement) (A .lists .spacing) (A .work .path))
       (crossings (x .numbers) (x .places) (A .lists .relative)))
   unfolding drawAndAudit bothAfter checkAfter audited
-  claim-both a l w x e A f =
+  claim-both P a l w x e A f =
       subst (Claim o N L W X)
       (sym (ap (bothAfter (call a l w x)) f ∙ ap (λ (D : Call). bothAfter D (checkAfter N D)) (e .is)))
-      claimed
+      (claimed P)
 
 -- a part up to the end of a list or past it
 pub take-min : {A : Type 0} (n : ℕ) (l : List A) → take (min n (length l)) l ≡ take n l

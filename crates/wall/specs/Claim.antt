@@ -18,7 +18,7 @@ use Rattle.findings.specs.Answer.{auditOf}
 use Rattle.wall.specs.declared.answer.Checked.{Checked}
 use Rattle.wall.specs.declared.answer.Checked.the-variants as Checks
 use Rattle.wall.specs.declared.answer.Checked.the-variants.{LayoutRefused, AuditRefused}
-use Rattle.wall.specs.Wall.{order, isFree, audited, Wall}
+use Rattle.wall.specs.Wall.{Patterns, order, isFree, audited, Wall}
 
 -- what such a call answers, and the lists after it
 pub record Both : Type 0 where
@@ -91,6 +91,8 @@ pub record Claim (o : Options) (N : Network) (L : Lists) (W : Work) (X : Crossin
   pub number : layoutNumberOf (B .answer) ≡ layoutNumber o N (roomOf L W X)
   -- A refusal of layout changes no result list.
   pub refused : (r : ℕ) → B .answer ≡ LayoutRefused r → B .lists ≡ L
+  -- The voltages are patterns of 64 bits, which `Wall` asks for where it speaks of their order.
+  pub patterns : Patterns N
   -- A drawing, with the plot that is answered, is as 01 says, whether the audit takes it or not.
   pub wall : (p : Plot) → Plots (B .answer) p → Wall o N (B .lists) p
   -- Figures count no overlap if every station found a free place.
