@@ -7,7 +7,7 @@ use native.Mathlib.Nat.{mul-pos, zero-mul, eq-zero-or-pos}
 use native.Mathlib.Omega.{arith}
 use lib.Dec.{T, ltb, eqb, ltb→lt, eqb→eq}
 use lib.IntN.{ℤ}
-use lib.Ieee.{Float, nan, inf, fin, up, down, lt, le, eq, neg, fits, binary64}
+use lib.Ieee.{Float, nan, inf, fin, up, down, lt, le, eq, neg, add, fits, binary64}
 use borrow.Author.Tests.{lt-ltb, ltb-true}
 use lib.Ieee.Fits.{down-pos, and-l, and-r}
 use lib.Ieee.Positive.{through}
@@ -16,7 +16,7 @@ use Rattle.float.specs.Hypot.{hypotOf}
 use Rattle.float.proofs.Keys.{plus, le-of-lt-float}
 use Rattle.float.proofs.Sums.{le-number}
 use Rattle.float.proofs.Hypots.{hypot-above, hypot-comm}
-use Rattle.float.proofs.Bounds.{hypot-plus}
+use Rattle.float.proofs.Bounds.{hypot-plus, hypot-under, le-through, unsigned, abs-unsigned, add-unsigned, abs-finite, add-finite, size-of}
 use Rattle.float.proofs.Extremes.{max-first, max-second, min-first}
 use Rattle.order.specs.Order.{pick}
 use Rattle.float.specs.Ops.{f0}
@@ -167,3 +167,45 @@ nearer-keeps b d h = sym (go (lt f0 d) (min-first b d (untrue (lt d b) (λ t. tr
     go : (t : Bool) → minOf b d ≡ b → pick t (minOf b d) b ≡ b
     go true e = e
     go false e = refl
+
+-- ---- two sides that are shorter together
+
+-- what is below something is finite, where its sign is clear; and then the greater's sign is clear too
+below-finite : (a b : Float) → T (unsigned a) → lt a b ≡ true → T (isFinite a)
+unfolding unsigned lt isFinite
+below-finite nan b p h = absurd (true≢false (sym h))
+below-finite (inf true) b p h = absurd p
+below-finite (inf false) nan p h = absurd (true≢false (sym h))
+below-finite (inf false) (inf t) p h = absurd (true≢false (sym h))
+below-finite (inf false) (fin t n d) p h = absurd (true≢false (sym h))
+below-finite (fin s m e) b p h = tt
+
+above-plus : (a b : Float) → T (plus a) → lt a b ≡ true → T (plus b)
+unfolding plus lt
+above-plus nan b p h = absurd p
+above-plus (inf true) b p h = absurd p
+above-plus (inf false) nan p h = absurd (true≢false (sym h))
+above-plus (inf false) (inf t) p h = absurd (true≢false (sym h))
+above-plus (inf false) (fin t n d) p h = absurd (true≢false (sym h))
+above-plus (fin true m e) b p h = absurd p
+above-plus (fin false m e) nan p h = absurd (true≢false (sym h))
+above-plus (fin false m e) (inf true) p h = absurd (true≢false (sym h))
+above-plus (fin false m e) (inf false) p h = tt
+above-plus (fin false m e) (fin true n d) p h = absurd (true≢false (sym h))
+above-plus (fin false m e) (fin false n d) p h = tt
+
+pub near-under : (x y r : Float) → T (fits binary64 x) → T (fits binary64 y) → lt (add binary64 (absOf x) (absOf y)) r ≡ true → le (hypotOf x y) r ≡ true
+near-under x y r X Y h =
+    let s = add binary64 (absOf x) (absOf y) in
+    let U : T (unsigned s) = add-unsigned (absOf x) (absOf y) (abs-unsigned x) (abs-unsigned y) in
+    let F : T (isFinite s) = below-finite s r U h in
+    let z = add-finite (absOf x) (absOf y) F in
+    let P : T (plus s) = size-of s U F .1 in
+    let A : T (isFinite x) = abs-finite x (z .0) in
+    let B : T (isFinite y) = abs-finite y (z .1) in
+    holds (le (hypotOf x y) r)
+    (le-through (hypotOf x y) s r (hypot-plus x y A B) P (above-plus s r P h) (hypot-under x y X Y A B) (le-of-lt-float s r (truth (lt s r) h)))
+  where
+    holds : (b : Bool) → T b → b ≡ true
+    holds true t = refl
+    holds false t = absurd t

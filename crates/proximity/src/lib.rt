@@ -5,6 +5,7 @@ ghost use Rattle.float.specs.Hypot.{hypotOf};
 ghost use Rattle.proximity.specs.Overlap.{meet, overlap};
 ghost use Rattle.proximity.specs.Near.{NotPast, nearer};
 use float::hypot::hypot;
+use float::small::abs;
 use float::small::max;
 use float::small::min;
 use geometry::Box;
@@ -50,12 +51,15 @@ pub fn closer(best: f64, x: f64, y: f64) -> f64
     best
 }
 
-// Whether the length of (x, y) is at most radius. A side longer than that settles it.
+// Whether the length of (x, y) is at most radius. A side longer than that settles it, and so do two sides that are shorter together.
 pub fn is_near(x: f64, y: f64, radius: f64) -> bool
     ensures { λ r. ⌜ r ≡ le (hypotOf x y) radius ⌝ }
 {
     if radius < longer(x, y) {
         return false;
+    }
+    if abs(x) + abs(y) < radius {
+        return true;
     }
     hypot(x, y) <= radius
 }
