@@ -2,9 +2,8 @@
 //
 // Standard input has one test a line: a name of three letters, then operands and expected results as 16 hexadecimal digits
 // each, every one after a space. Expected IEEE values come from exact whole-number arithmetic (reference/ieee_values.py), those of
-// other names from the original (reference/oracle, `vectors 1 100`). The limits come after them.
+// other names from the original (reference/oracle, `vectors 1 100`).
 mod ieee;
-mod limits;
 mod lists;
 mod plane;
 mod text;
@@ -71,19 +70,10 @@ fn run(text: &[u8]) -> Tally {
     tally
 }
 
-// With the ten limits.
-fn with_limits(all: Tally) -> Tally {
-    let few = all.with(limits::agrees(0)).with(limits::agrees(1));
-    let more = few.with(limits::agrees(2)).with(limits::agrees(3));
-    let most = more.with(limits::agrees(4)).with(limits::agrees(5));
-    let gaps = most.with(limits::agrees(6)).with(limits::agrees(7));
-    gaps.with(limits::agrees(8)).with(limits::agrees(9))
-}
-
 fn main() {
     let mut space = [0u8; 524288];
     let n = io::read_full(0, &mut space);
-    let tally = with_limits(run(&space[..n]));
+    let tally = run(&space[..n]);
     io::print_decimal(1, tally.compared);
     io::write_all(1, b" compared, ");
     io::print_decimal(1, tally.differ);

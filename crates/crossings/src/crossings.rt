@@ -8,8 +8,8 @@ ghost use Rattle.crossings.specs.Route.{cross, crossAll};
 ghost use Rattle.crossings.specs.Stages.Store.{placeOn, stock, Grown};
 use crate::channels::channel_for;
 use crate::channels::count_with;
+use geometry::Param;
 use geometry::line_param;
-use geometry::place_or;
 use geometry::point_at;
 use mesh::end_at;
 use order::at;
@@ -43,15 +43,15 @@ fn place_on(corners: &[u32], points: &[f64], va: usize, vb: usize, h: usize) -> 
 {
     let a = low_at(corners, h);
     let b = high_at(corners, h);
-    place_or(
-        line_param(
-            point_at(points, va),
-            point_at(points, vb),
-            point_at(points, a),
-            point_at(points, b),
-        ),
-        0.5,
-    )
+    match line_param(
+        point_at(points, va),
+        point_at(points, vb),
+        point_at(points, a),
+        point_at(points, b),
+    ) {
+        Param::At(t) => t,
+        Param::Parallel => 0.5,
+    }
 }
 
 // Writes crossing x: its channel, its branch and its place.

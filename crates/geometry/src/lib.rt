@@ -6,7 +6,7 @@ ghost use lib.ListN.{length, getD};
 ghost use lib.Ieee.{nan};
 ghost use Rattle.geometry.specs.Plane.{point, pointAt, boxAt, shrunk};
 ghost use Rattle.geometry.specs.Clip.{part, clipBy, met, hits};
-ghost use Rattle.geometry.specs.Cross.{orient, crosses, parallel, param, placeOr};
+ghost use Rattle.geometry.specs.Cross.{orient, crosses, parallel, param};
 use float::hypot::hypot;
 use float::small::abs;
 use float::small::clamp;
@@ -188,16 +188,6 @@ pub fn line_param(p: Point, q: Point, u: Point, w: Point) -> Param
     }
     let t = ((u.x - p.x) * r.y - (u.y - p.y) * r.x) / denom;
     Param::At(clamp(t, 0.0, 1.0))
-}
-
-// The place, or another where the lines are parallel.
-pub fn place_or(x: Param, other: f64) -> f64
-    ensures { λ r. ⌜ r ≡ placeOr x other ⌝ }
-{
-    match x {
-        Param::At(t) => t,
-        Param::Parallel => other,
-    }
 }
 
 // The element i, a NaN past the end.

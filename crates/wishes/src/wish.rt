@@ -1,12 +1,13 @@
 // Where crossings are, and what they wish for.
 ghost use mathlib.Core.Path.{_≡_};
 ghost use Prim.Native.Nat.{_+_, _-_, _*_, _^_, _≤_, _<_};
+ghost use Rattle.geometry.specs.Cross.{param, placeOr};
 ghost use Rattle.mesh.specs.Mesh.{lowAt, highAt};
 ghost use Rattle.wishes.specs.Stages.Held.{held, edgeIn, lowIn, highIn, between, pointIn, beforeIn, behindIn, wishIn};
+use geometry::Param;
 use geometry::Point;
 use geometry::line_param;
 use geometry::number_at;
-use geometry::place_or;
 use geometry::point_at;
 use mesh::end_at;
 use order::at;
@@ -137,6 +138,16 @@ fn behind_of(
     point_of(m, ends, centres, corners, numbers, along, x + 1)
 }
 
+// Where the line through p and q crosses the segment from u to w, t where they are parallel.
+fn wished_place(p: Point, q: Point, u: Point, w: Point, t: f64) -> f64
+    ensures { λ r. ⌜ r ≡ placeOr (param p q u w) t ⌝ }
+{
+    match line_param(p, q, u, w) {
+        Param::At(s) => s,
+        Param::Parallel => t,
+    }
+}
+
 // Where crossing x wishes to be: on the line through the points before and behind it; a cleared path's crossing wishes for its place.
 pub fn wish_of(
     m: usize,
@@ -186,13 +197,11 @@ pub fn wish_of(
         past,
         x,
     );
-    place_or(
-        line_param(
-            p,
-            q,
-            low_of(corners, centres, h),
-            high_of(corners, centres, h),
-        ),
+    wished_place(
+        p,
+        q,
+        low_of(corners, centres, h),
+        high_of(corners, centres, h),
         t,
     )
 }

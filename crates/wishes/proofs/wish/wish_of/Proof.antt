@@ -1,5 +1,6 @@
-use native.Mathlib.Omega.{arith}
 -- `wishes::wish::wish_of` meets its contract. Assumes nothing.
+use mathlib.Core.Path.{refl}
+use native.Mathlib.Omega.{arith}
 use Rattle.wishes.proofs.Wishes.{wish-past, wish-on}
 use borrow.Author.Needs.{needs}
 use Rattle.wishes.proofs.wish.wish_of.Statement.{statement}
@@ -74,14 +75,11 @@ low-of-requires c κs = search needs
 high-of-requires : tie.Need-high-of-requires
 high-of-requires c κs = search needs
 
-line-param-requires : tie.Need-line-param-requires
-line-param-requires c κs = search needs
-
-place-or-requires : tie.Need-place-or-requires
-place-or-requires c κs = search needs
+wished-place-requires : tie.Need-wished-place-requires
+wished-place-requires c κs = search needs
 
 returns-2 : tie.Need-returns-2
-returns-2 c = wish-on _ _ _ _ _ _ _ (c .before .before .before .before .before .before .before .before .before .before .before .before .at .ensures) (c .before .before .before .before .before .before .before .before .before .before .before .at2 .ensures) (c .before .before .before .before .before .before .before .before .before .before .at3 .ensures) (c .before .before .before .before .before .before .before .before .before .number-at .ensures) _ _ _ _ _ _ _ _ (c .before .before .before .before .before .before .before .before .if1 .left) (c .before .before .before .before .before .before .before .at4 .ensures) (c .before .before .before .before .before .before .edge-of .ensures .0) (c .before .before .before .before .before .before-of .ensures) (c .before .before .before .before .behind-of .ensures) (c .before .before .before .low-of .ensures) (c .before .before .high-of .ensures) (c .before .line-param .ensures) (c .place-or .ensures)
+returns-2 c = wish-on _ _ _ _ _ _ _ (c .before .before .before .before .before .before .before .before .before .before .before .at .ensures) (c .before .before .before .before .before .before .before .before .before .before .at2 .ensures) (c .before .before .before .before .before .before .before .before .before .at3 .ensures) (c .before .before .before .before .before .before .before .before .number-at .ensures) _ _ _ _ _ _ _ _ (c .before .before .before .before .before .before .before .if1 .left) (c .before .before .before .before .before .before .at4 .ensures) (c .before .before .before .before .before .edge-of .ensures .0) (c .before .before .before .before .before-of .ensures) (c .before .before .before .behind-of .ensures) (c .before .before .low-of .ensures) (c .before .high-of .ensures) refl (c .wished-place .ensures)
 
 pub wish-of-spec : {M : Type 1} → statement M
 wish-of-spec =
@@ -110,6 +108,5 @@ wish-of-spec =
     behind-of-requires
     low-of-requires
     high-of-requires
-    line-param-requires
-    place-or-requires
+    wished-place-requires
     returns-2)
