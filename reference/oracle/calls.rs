@@ -103,7 +103,7 @@ fn options(r: &mut Random, most: usize) -> Options {
     o.iterations = r.pick(&[0, 1, 2, 10]);
     o.fill = r.pick(&[0.45, 0.5, 0.45, 1.0, 3.0, 16.0]);
     match r.below(8) {
-        0 => o.search = r.pick(&[0, 1, 2, 20]),
+        0 => o.search = r.below(21) as i64,
         1 => o.radius = r.pick(&[0.0, 1.0, 1000.0]),
         2 => o.counts = [r.below(4) as u32, r.below(6) as u32],
         3 => o.scales = [r.pick(&[1.0, 1.0 / 64.0, 0.9]), r.pick(&[0.3, 1.0])],

@@ -113,6 +113,27 @@ fn a_small_paper() {
     drawn(&folder, &["-o", "sheet.svg", "--paper", "A4"]);
 }
 
+/// Sheets with other gaps pass their own check; a bar that leaves its box is noted.
+#[test]
+fn other_gaps() {
+    let folder = network("gaps");
+    forty_and(&folder, "");
+    for gaps in [["3", "2", "4", "0.5"], ["0.5", "0.5", "0.5", "8"], ["8", "8", "8", "1"], ["1.7", "0.9", "3.3", "2"]] {
+        let [gap, padding, shortest, buffer] = gaps;
+        let words = ["--bar-gap", gap, "--padding", padding, "--shortest-bar", shortest, "--buffer", buffer];
+        let said = drawn(&folder, &[&["-o", "sheet.svg", "--paper", "A0"], &words[..]].concat());
+        assert!(!said.contains("leave their boxes"), "{said}");
+        assert_eq!(status(&wall_in(&folder.0, &["check", "sheet.svg", "."])), 0);
+    }
+    let folder = network("long-bars");
+    folder.write("buses.csv", b"name,substation,kv,x,y\nA,S,66,0,0\nB,T,66,100,0\n");
+    folder.write("branches.csv", b"name,from,to,in_service\nL,A,B,1\n");
+    let said = drawn(&folder, &["-o", "sheet.svg", "--shortest-bar", "8", "--padding", "0.5"]);
+    let note = "wall: note: bars that leave their boxes, the shortest bar being long beside the padding: 2: 'A', 'B'\n";
+    assert_eq!(said, note);
+    assert_eq!(status(&wall_in(&folder.0, &["check", "sheet.svg", "."])), 0);
+}
+
 #[test]
 fn what_is_noted_by_name() {
     let folder = network("notes");

@@ -109,13 +109,19 @@ impl<'a> Check<'a> {
         boxes
     }
 
-    /// The bars of all buses, each upright and inside its own station's box.
+    /// The bars of all buses, each upright and inside its own station's box, or as far out as the grid has it.
     pub fn bars(&mut self, boxes: &HashMap<usize, Boxed>) -> HashMap<usize, Bar> {
         let buses = self.network.buses.iter().enumerate();
         let wanted: Vec<Wanted> = buses
             .map(|(number, bus)| Wanted { number, name: bus.name.clone(), row: self.network.bus_row(number) })
             .collect();
         let parts = self.matched(&self.reading.bars, &wanted, &Kind { thing: "bar", prefix: "bus-" });
+        let grid = self.reading.grid();
+        let out = |b: &Boxed| grid.out() * (b.span.0[2] - b.span.0[0]) / grid.wide(b.bars);
+        let holds = |b: &Boxed, bar: &Span| {
+            let ([left, top, right, bottom], out) = (b.span.0, out(b));
+            Span([left, top - out, right, bottom + out]).grown(0.02).holds(bar)
+        };
         let mut bars = HashMap::new();
         for (number, part) in parts {
             let Some([p, q]) = upright(part) else {
@@ -124,7 +130,7 @@ impl<'a> Check<'a> {
             };
             let station = self.network.buses[number].station as usize;
             let span = Span([p[0], p[1].min(q[1]), p[0], p[1].max(q[1])]);
-            if boxes.get(&station).is_some_and(|b| !b.span.grown(0.02).holds(&span)) {
+            if boxes.get(&station).is_some_and(|b| !holds(b, &span)) {
                 let name = self.network.station_name(station);
                 self.say(format!("{} has its bar outside the box of substation '{name}'", wanted[number].row));
             }

@@ -25,6 +25,42 @@ pub struct Label {
     pub span: Option<Span>,
 }
 
+/// The grid inside boxes, in blocks.
+pub struct Grid {
+    pub gap: f64,
+    pub padding: f64,
+    pub shortest: f64,
+}
+
+impl Grid {
+    /// That of a sheet that says none.
+    const USUAL: Grid = Grid { gap: 2.0, padding: 1.0, shortest: 2.0 };
+
+    /// As a sheet says it.
+    fn said(text: &str) -> Option<Self> {
+        let rest = text.strip_prefix("bar gap ")?;
+        let (gap, rest) = rest.split_once(", padding ")?;
+        let (padding, rest) = rest.split_once(", shortest bar ")?;
+        let (shortest, _) = rest.split_once(", buffer ")?;
+        let size = |word: &str| number(word).filter(|x| (0.5..=8.0).contains(x));
+        Some(Grid { gap: size(gap)?, padding: size(padding)?, shortest: size(shortest)? })
+    }
+
+    /// The blocks that so many bars are wide, and so many rows high.
+    pub fn wide(&self, bars: usize) -> f64 {
+        self.gap * bars.saturating_sub(1) as f64 + 2.0 * self.padding
+    }
+
+    pub fn high(&self, rows: usize) -> f64 {
+        (rows as f64).max(self.shortest) + 2.0 * self.padding
+    }
+
+    /// How many blocks a bar can leave its box by.
+    pub fn out(&self) -> f64 {
+        (self.shortest / 2.0 - self.padding - 0.5).max(0.0)
+    }
+}
+
 pub struct Reading<'a> {
     pub elements: Vec<Element<'a>>,
     pub looks: Vec<Look>,
@@ -141,6 +177,12 @@ impl Reading<'_> {
                 self.dots.extend(middle.map(|span| span.middle()));
             }
         }
+    }
+
+    /// The grid inside the sheet's boxes.
+    pub fn grid(&self) -> Grid {
+        let said = self.elements.iter().filter(|e| e.name == "desc").find_map(|e| Grid::said(&e.text));
+        said.unwrap_or(Grid::USUAL)
     }
 
     /// Whether the sheet says that it was drawn from a file of this name with this SHA-256.

@@ -33,12 +33,13 @@ impl Check<'_> {
 
     /// In each box, bars stand in the columns, each in its own.
     pub fn columns(&mut self, boxes: &HashMap<usize, Boxed>, bars: &HashMap<usize, Bar>) {
+        let grid = self.reading.grid();
         let mut taken: HashMap<(u32, i64), usize> = HashMap::new();
         for (number, bus) in self.network.buses.iter().enumerate() {
             let (Some(bar), Some(boxed)) = (bars.get(&number), boxes.get(&(bus.station as usize))) else { continue };
             let [left, _, right, _] = boxed.span.0;
-            let wide = (right - left) / (2 * boxed.bars) as f64;
-            let column = ((bar.x - left) / wide - 1.0) / 2.0;
+            let wide = (right - left) / grid.wide(boxed.bars);
+            let column = ((bar.x - left) / wide - grid.padding) / grid.gap;
             if wide < LEAST {
                 continue;
             }
@@ -70,8 +71,9 @@ impl Check<'_> {
 
     fn rows_of(&mut self, station: usize, boxed: &Boxed, rows: usize, ends: &[(f64, usize)]) {
         let [left, top, right, bottom] = boxed.span.0;
-        let tall = (bottom - top) / (rows.max(2) + 2) as f64;
-        let wide = (right - left) / (2 * boxed.bars) as f64;
+        let grid = self.reading.grid();
+        let tall = (bottom - top) / grid.high(rows);
+        let wide = (right - left) / grid.wide(boxed.bars);
         if tall < LEAST || wide < LEAST {
             return;
         }
@@ -82,7 +84,7 @@ impl Check<'_> {
         }
         let mut taken: HashMap<usize, usize> = HashMap::new();
         for &(y, branch) in ends {
-            let row = (y - top) / tall - 1.5;
+            let row = (y - top) / tall - grid.padding - 0.5;
             let nearest = row.round();
             let on = (row - nearest).abs() <= OFF && nearest >= 0.0 && (nearest as usize) < rows;
             if !on {

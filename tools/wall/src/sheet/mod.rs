@@ -43,6 +43,7 @@ use palette::Palette;
 use placing::Placed;
 use svg::{mm, Node, Svg};
 use tables::{Flow, Table};
+use tansygate::TxLayoutOptions;
 
 /// One page: its outermost element and its size.
 pub struct Leaf {
@@ -258,6 +259,12 @@ fn leaf(source: Source<'_>, page: &Page, title: &str, draw: &dyn Fn(&mut Svg)) -
     svg.holding("title", &[], &visible(title));
     for file in &source.network.sources {
         svg.holding("desc", &[], &format!("{} SHA-256 {}", visible(&file.name), file.sha256));
+    }
+    let gaps = |o: &TxLayoutOptions| [o.bar_gap, o.pad, o.min_bar, o.buffer];
+    let [gap, padding, shortest, buffer] = gaps(&source.settings.options);
+    if [gap, padding, shortest, buffer] != gaps(&TxLayoutOptions::default()) {
+        let said = format!("bar gap {gap}, padding {padding}, shortest bar {shortest}, buffer {buffer}");
+        svg.holding("desc", &[], &said);
     }
     let f = page.frame;
     svg.leaf("rect", &[("width", mm(right)), ("height", mm(bottom)), ("fill", text("#ffffff"))]);
