@@ -6,7 +6,7 @@ ghost use Rattle.box_order.specs.Stages.Cells.{cellNumber, shifted, cell
 use float::floor::floor_to_i64;
 
 // A cell plus 2^52.
-fn shifted(z: i64) -> u64
+pub fn shifted(z: i64) -> u64
     requires { ⌜ natAbs z ≤ 2 ^ 52 ⌝ }
     ensures { λ r. ⌜ r ≡ shifted z ⌝ }
 {

@@ -1,6 +1,7 @@
 pub mod Rest
 pub mod Sizing
 pub mod Searching
+pub mod Columns
 pub mod Placing
 pub mod PlaceLaw
 pub mod PlaceSizes

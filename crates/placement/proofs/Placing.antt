@@ -1,36 +1,44 @@
 -- Stations placed one after the other, and their boxes by number. Assumes nothing.
 use mathlib.Core.Path.{_≡_, refl, sym, ap, _∙_, subst}
 use mathlib.Core.Logic.{_≢_}
-use mathlib.Core.Bool.{Bool}
-use mathlib.Core.List.{List, [], _∷_, _++_, map, map-append}
+use mathlib.Core.Bool.{Bool, false}
+use mathlib.Core.List.{List, [], _∷_, _++_, map}
 use Prim.Native.Nat.{ℕ, zero, suc, _+_, _*_, _≤_, _<_, zero-le, suc-le-suc}
 use native.Mathlib.Omega.{arith}
 use native.Mathlib.Numerals.{add-one}
+use lib.Dec.{leb, eqb}
+use borrow.Author.Tests.{lt-leb, leb-false, eqb-false, ne-eqb}
 use lib.ListN.{length, getD, set, take}
 use lib.Seq.{take-suc, getD-take, length-take-le, getD-set-same, getD-set-other}
 use lib.Ieee.{Float, nan}
 use Rattle.float.specs.Ops.{f0, f1}
-use Rattle.order.specs.Order.{pick}
+use Rattle.order.specs.Order.{pick, count}
 use Rattle.order.specs.Table.{table}
-use Rattle.order.proofs.Laws.{All}
+use Rattle.order.proofs.Laws.{All, all-map, count-none}
 use Rattle.order.proofs.Tables.{length-table, getD-table, table-zero, table-suc}
 use Rattle.order.proofs.Strides.{getD-strided, length-strided}
 use Rattle.geometry.specs.declared.Point.{Point}
 use Rattle.geometry.specs.declared.Box.{Box}
-use Rattle.geometry.specs.Plane.{origin, pointAt}
+use Rattle.geometry.specs.Plane.{origin, pointAt, boxAt}
+use Rattle.proximity.specs.Overlap.{overlap}
+use Rattle.box_order.specs.Stages.Cells.{byCell}
+use Rattle.box_order.specs.Stages.Kept.{Kept}
+use Rattle.box_order.proofs.CellOrder.{count-put}
+use Rattle.box_order.proofs.Keeping.{kept-none, kept-ext, count-zero, count-end, count-cons}
 use Rattle.network.specs.Words.{isOccupied}
 use Rattle.network.specs.Seed.{placeAt}
 use Rattle.network.specs.Views.{countsIn, orderIn, pointsIn, boxesIn}
-use Rattle.network.proofs.Views.{length-points, getD-points, points-set, boxes-zero, boxes-push}
+use Rattle.network.proofs.Views.{length-points, getD-points, points-set, box-same, box-other, boxes-zero, boxes-push}
 use Rattle.units.specs.declared.Measures.{Measures}
 use Rattle.units.specs.Size.{Size, sizeAt}
 use Rattle.units.specs.Stages.Views.{sizeIn, sizesIn, scalesIn}
 use Rattle.units.proofs.Occupied.{is-occupied, not-occupied}
 use Rattle.offsets.specs.declared.offset.Offset.{Offset}
-use Rattle.placement.specs.Place.{Frame, frameFor, frames, frameAt, boxOn, boxOf, placeFor, nextPlace, placesTo, places, noBox, boxes}
-use Rattle.placement.specs.Stages.Views.{frameIn, framesIn, putBox, PlacedAs}
+use Rattle.placement.specs.Place.{Frame, frameFor, frames, frameAt, boxOn, boxOf, free, placeFor, nextPlace, placesTo, places, noBox, boxes}
+use Rattle.placement.specs.Stages.Views.{frameIn, framesIn, putBox, keptBoxes, Holds, PlacedAs}
 use Rattle.turns.specs.Stages.Listed.{Turns}
 use Rattle.order.proofs.Sorting.{map-agree}
+use Rattle.placement.proofs.Searching.{free-count, place-same}
 
 pub all-of : (P : ℕ → Type 0) (l : List ℕ) → ((i : ℕ) → i < length l → P (getD l i 0)) → All P l
 all-of P [] h = tt
@@ -47,18 +55,70 @@ module _ (M : Measures) (k : ℕ) (blocks : List Float) where
       ∙ ap (λ (x : Float). frameFor M x (sizeAt zs s)) (getD-strided 3 2 nan k s blocks f1 h)
       ∙ ap (frameFor M (getD blocks (3 * s + 2) nan)) (getD-table (sizeIn blocks) k s (record { w = f0; h = f0 }) h)
 
--- ---- the first p stations of the order are placed, and their boxes stand in this order
-pub record Placed (fs : List Frame) (os : List Offset) (seeds : List Point) (order : List ℕ) (k p : ℕ) (ps bs : List Float) : Type 0 where
+-- ---- the first p stations of the order are placed, and their boxes are kept
+pub record Placed (unit : Float) (fs : List Frame) (os : List Offset) (seeds : List Point) (order : List ℕ) (k p most : ℕ) (ps bs : List Float) (keys sorted : List ℕ) : Type 0 where
   pub points : pointsIn k ps ≡ placesTo fs os seeds order p
-  pub boxes : boxesIn p bs ≡ map (boxOf fs (placesTo fs os seeds order p)) (take p order)
+  pub boxes : All (λ t. boxAt bs t ≡ boxOf fs (placesTo fs os seeds order p) t) (take p order)
+  pub kept : Kept unit bs p most keys sorted
+  pub same : (t : ℕ → Bool) → count t (take p sorted) ≡ count t (take p order)
 
-pub placed-none : (fs : List Frame) (os : List Offset) (order : List ℕ) (k : ℕ) (ps bs : List Float) → Placed fs os (pointsIn k ps) order k 0 ps bs
+pub placed-none : (unit : Float) (fs : List Frame) (os : List Offset) (order : List ℕ) (k : ℕ) (ps bs : List Float) (keys sorted : List ℕ)
+    → Placed unit fs os (pointsIn k ps) order k 0 0 ps bs keys sorted
 unfolding placesTo
-placed-none fs os order k ps bs = record { points = refl; boxes = boxes-zero bs }
+placed-none unit fs os order k ps bs keys sorted = record { points = refl; boxes = tt; kept = kept-none unit bs keys sorted; same = λ t. refl }
+
+all-two : (P Q R : ℕ → Type 0) → ((x : ℕ) → P x → Q x → R x) → (l : List ℕ) → All P l → All Q l → All R l
+all-two P Q R f [] a b = tt
+all-two P Q R f (x ∷ l) a b = (f x (a .0) (b .0), all-two P Q R f l (a .1) (b .1))
+
+all-end : (P : ℕ → Type 0) (l : List ℕ) (x : ℕ) → All P l → P x → All P (l ++ (x ∷ []))
+all-end P [] x a h = (h, tt)
+all-end P (y ∷ l) x a h = (a .0, all-end P l x (a .1) h)
+
+-- a box stored of a station that isn't kept changes nothing of those that are
+pub kept-on : (unit : Float) (bs bs' : List Float) (p most : ℕ) (keys sorted : List ℕ) (s : ℕ) (b : Box) → bs' ≡ putBox bs s b → All (λ y. s ≡ y → ⊥) (take p sorted)
+    → Kept unit bs p most keys sorted → Kept unit bs' p most keys sorted
+kept-on unit bs bs' p most keys sorted s b e f K =
+    kept-ext unit bs bs' p most keys sorted
+    (all-map (λ y. s ≡ y → ⊥) (λ y. boxAt bs y ≡ boxAt bs' y) (λ y n. sym (ap (λ (x : List Float). boxAt x y) e ∙ box-other bs s y b (λ z. n (sym z)))) (take p sorted) f) K
+
+module _ (unit : Float) (fs : List Frame) (os : List Offset) (seeds : List Point) (order : List ℕ) (k p most : ℕ) (ps bs : List Float) (keys sorted : List ℕ)
+    (T : Turns k order) (D : Placed unit fs os seeds order k p most ps bs keys sorted) (h : p ≤ length order) where
+  -- what is so of every station placed is so of every station kept
+  kept-all : (t : ℕ → Bool) → ((i : ℕ) → i < p → t (getD order i 0) ≡ false) → All (λ y. t y ≡ false) (take p sorted)
+  kept-all t f =
+      count-zero t (take p sorted)
+      (D .same t ∙ count-none t (take p order) (all-of (λ y. t y ≡ false) (take p order) (λ i q.
+      let j : i < p = subst (λ (n : ℕ). i < n) (length-take-le p order h) q in
+      ap t (getD-take p order i 0 j) ∙ f i j)))
+
+  pub holds-of : 4 * k ≤ length bs → p ≤ length keys → p ≤ length sorted → Holds unit bs p most keys sorted
+  holds-of l m n = record {
+    kept = D .kept;
+    keyed = m;
+    listed = n;
+    inside =
+        all-map (λ y. leb k y ≡ false) (λ y. 4 * y + 3 < length bs) (λ y e. let g : y < k = leb-false k y e in omega arith) (take p sorted)
+        (kept-all (λ y. leb k y) (λ i q. lt-leb k (getD order i 0) (T .below i (omega arith))));
+  }
+
+  pub fresh-of : p < length order → (s : ℕ) → s ≡ getD order p 0 → All (λ y. s ≡ y → ⊥) (take p sorted)
+  fresh-of g s e =
+      all-map (λ y. eqb s y ≡ false) (λ y. s ≡ y → ⊥) (λ y f. eqb-false s y f) (take p sorted)
+      (kept-all (λ y. eqb s y) (λ i q. ne-eqb s (getD order i 0) (λ z. let w : i ≡ p = T .once i p (omega arith) g (sym z ∙ e) in omega arith)))
+
+  -- the boxes kept are free of what those of the stations placed are
+  free-same : (q : Box) → free q (keptBoxes bs p sorted) ≡ free q (map (boxOf fs (placesTo fs os seeds order p)) (take p order))
+  free-same q =
+      free-count (boxAt bs) q (take p sorted)
+      ∙ ap (λ (c : ℕ). eqb c 0) (D .same (λ y. overlap q (boxAt bs y)))
+      ∙ sym (free-count (boxAt bs) q (take p order))
+      ∙ ap (free q) (map-agree (boxAt bs) (boxOf fs (placesTo fs os seeds order p)) (take p order) (D .boxes))
 
 module _ (M : Measures) (k : ℕ) (blocks : List Float) (os : List Offset) (seeds : List Point) (order : List ℕ) (T : Turns k order) (p s : ℕ) (h : p < length order) (e : s ≡ getD order p 0)
-    (ps bs ps' bs' : List Float) (l : 2 * k ≤ length ps) (m : 4 * p + 3 < length bs) (S : PlacedAs M blocks os s p ps bs ps' bs')
-    (D : Placed (framesIn M k blocks) os seeds order k p ps bs) where
+    (most wider : ℕ) (ps bs ps' bs' : List Float) (keys sorted keys' sorted' : List ℕ) (l : 2 * k ≤ length ps) (m : 4 * k ≤ length bs)
+    (S : PlacedAs M blocks os s p wider ps bs sorted ps' bs' keys' sorted')
+    (D : Placed (M .unit) (framesIn M k blocks) os seeds order k p most ps bs keys sorted) where
   abbrev fs : List Frame
   fs = framesIn M k blocks
 
@@ -77,9 +137,10 @@ module _ (M : Measures) (k : ℕ) (blocks : List Float) (os : List Offset) (seed
   chosen-is : S .at ≡ nextPlace fs os before (take p order) s
   unfolding nextPlace
   chosen-is =
-      S .chosen ∙ ap (λ (c : Point). placeFor c (frameIn M blocks s) (boxesIn p bs) os) seed-is
-      ∙ ap (λ (r : Frame). placeFor (placeAt before s) r (boxesIn p bs) os) (sym (frame-at M k blocks s below))
-      ∙ ap (λ (q : List Box). placeFor (placeAt before s) (frameAt fs s) q os) (D .boxes)
+      S .chosen ∙ ap (λ (c : Point). placeFor c (frameIn M blocks s) (keptBoxes bs p sorted) os) seed-is
+      ∙ ap (λ (r : Frame). placeFor (placeAt before s) r (keptBoxes bs p sorted) os) (sym (frame-at M k blocks s below))
+      ∙ place-same (placeAt before s) (frameAt fs s) (keptBoxes bs p sorted) (map (boxOf fs before) (take p order))
+      (free-same (M .unit) fs os seeds order k p most ps bs keys sorted T D (omega arith)) os
 
   to-next : after ≡ placesTo fs os seeds order (suc p)
   unfolding placesTo
@@ -93,38 +154,50 @@ module _ (M : Measures) (k : ℕ) (blocks : List Float) (os : List Offset) (seed
   apart : (i : ℕ) → i < p → getD order i 0 ≢ s
   apart i q z = let w : i ≡ p = T .once i p (omega arith) h (z ∙ e) in omega arith
 
-  kept : All (λ t. boxOf fs before t ≡ boxOf fs after t) (take p order)
-  unfolding boxOf
-  kept = all-of (λ t. boxOf fs before t ≡ boxOf fs after t) (take p order) (λ i q.
+  -- the boxes of the stations before s are as they were
+  others : All (λ t. t ≢ s) (take p order)
+  others = all-of (λ t. t ≢ s) (take p order) (λ i q z.
       let j : i < p = subst (λ (n : ℕ). i < n) (length-take-le p order (omega arith)) q in
-      let t = getD (take p order) i 0 in
-      let n : t ≢ s = λ z. apart i j (sym (getD-take p order i 0 j) ∙ z) in
-      ap (λ (c : Point). boxOn c (frameAt fs t .half)) (sym (getD-set-other before s t (S .at) origin n)))
+      apart i j (sym (getD-take p order i 0 j) ∙ z))
 
-  own : boxOf fs after s ≡ boxOn (S .at) (frameIn M blocks s .half)
+  kept-box : (t : ℕ) → boxAt bs t ≡ boxOf fs before t → t ≢ s → boxAt bs' t ≡ boxOf fs after t
   unfolding boxOf
-  own =
+  kept-box t b n =
+      ap (λ (x : List Float). boxAt x t) (S .boxed) ∙ box-other bs s t (boxOn (S .at) (frameIn M blocks s .half)) n ∙ b
+      ∙ ap (λ (c : Point). boxOn c (frameAt fs t .half)) (sym (getD-set-other before s t (S .at) origin n))
+
+  own-box : boxAt bs' s ≡ boxOf fs after s
+  unfolding boxOf
+  own-box =
       let n : s < length before = subst (λ (q : List Point). s < length q) (D .points) (rw (length-points k ps) below) in
-      ap (λ (c : Point). boxOn c (frameAt fs s .half)) (getD-set-same before s (S .at) origin n)
-      ∙ ap (λ (r : Frame). boxOn (S .at) (r .half)) (frame-at M k blocks s below)
+      ap (λ (x : List Float). boxAt x s) (S .boxed) ∙ box-same bs s (boxOn (S .at) (frameIn M blocks s .half)) (omega (arith, below))
+      ∙ ap (λ (r : Frame). boxOn (S .at) (r .half)) (sym (frame-at M k blocks s below))
+      ∙ ap (λ (c : Point). boxOn c (frameAt fs s .half)) (sym (getD-set-same before s (S .at) origin n))
 
-  boxes-next : boxesIn (suc p) bs' ≡ map (boxOf fs (placesTo fs os seeds order (suc p))) (take (suc p) order)
+  order-next : take (suc p) order ≡ take p order ++ (s ∷ [])
+  order-next = take-suc order p 0 h ∙ ap (λ (t : ℕ). take p order ++ (t ∷ [])) (sym e)
+
+  boxes-next : All (λ t. boxAt bs' t ≡ boxOf fs (placesTo fs os seeds order (suc p)) t) (take (suc p) order)
   boxes-next =
-      ap (boxesIn (suc p)) (S .boxed) ∙ boxes-push p bs (boxOn (S .at) (frameIn M blocks s .half)) m
-      ∙ ap (λ (q : List Box). q ++ (boxOn (S .at) (frameIn M blocks s .half) ∷ [])) (D .boxes ∙ map-agree (boxOf fs before) (boxOf fs after) (take p order) kept)
-      ∙ ap (λ (b : Box). map (boxOf fs after) (take p order) ++ (b ∷ [])) (sym own)
-      ∙ sym (map-append (boxOf fs after) (take p order) (s ∷ []))
-      ∙ ap (λ (t : ℕ). map (boxOf fs after) (take p order ++ (t ∷ []))) e
-      ∙ ap (map (boxOf fs after)) (sym (take-suc order p 0 h))
-      ∙ ap (λ (q : List Point). map (boxOf fs q) (take (suc p) order)) to-next
+      subst (λ (q : List Point). All (λ t. boxAt bs' t ≡ boxOf fs q t) (take (suc p) order)) to-next
+      (subst (All (λ t. boxAt bs' t ≡ boxOf fs after t)) (sym order-next)
+      (all-end (λ t. boxAt bs' t ≡ boxOf fs after t) (take p order) s
+      (all-two (λ t. boxAt bs t ≡ boxOf fs before t) (λ t. t ≢ s) (λ t. boxAt bs' t ≡ boxOf fs after t) kept-box (take p order) (D .boxes) others)
+      own-box))
 
-  pub placed-more : Placed fs os seeds order k (p + 1) ps' bs'
-  placed-more = rw (add-one p) (record { points = points-next; boxes = boxes-next })
+  same-next : (t : ℕ → Bool) → count t (take (suc p) sorted') ≡ count t (take (suc p) order)
+  same-next t =
+      ap (count t) (S .listed) ∙ count-put (byCell (M .unit) (boxAt bs')) t s (take p sorted)
+      ∙ count-cons t s (take p sorted) (take p order) (D .same t)
+      ∙ sym (count-end t s (take p order)) ∙ ap (count t) (sym order-next)
 
-pub placed-end : (fs : List Frame) (os : List Offset) (seeds : List Point) (r : ℕ) (st : List ℕ) (k p : ℕ) (ps bs : List Float) → p ≡ r → Placed fs os seeds (orderIn r st) k p ps bs
-    → pointsIn k ps ≡ places fs os seeds (orderIn r st)
+  pub placed-more : Placed (M .unit) fs os seeds order k (p + 1) wider ps' bs' keys' sorted'
+  placed-more = rw (add-one p) (record { points = points-next; boxes = boxes-next; kept = S .kept; same = same-next })
+
+pub placed-end : (unit : Float) (fs : List Frame) (os : List Offset) (seeds : List Point) (r : ℕ) (st : List ℕ) (k p most : ℕ) (ps bs : List Float) (keys sorted : List ℕ) → p ≡ r
+    → Placed unit fs os seeds (orderIn r st) k p most ps bs keys sorted → pointsIn k ps ≡ places fs os seeds (orderIn r st)
 unfolding places
-placed-end fs os seeds r st k p ps bs e D = D .points ∙ ap (placesTo fs os seeds (orderIn r st)) (e ∙ sym (length-strided 2 1 0 r st))
+placed-end unit fs os seeds r st k p most ps bs keys sorted e D = D .points ∙ ap (placesTo fs os seeds (orderIn r st)) (e ∙ sym (length-strided 2 1 0 r st))
 
 -- ---- the box list
 module _ (M : Measures) (k : ℕ) (st : List ℕ) (blocks ps : List Float) where

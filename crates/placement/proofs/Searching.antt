@@ -1,47 +1,137 @@
 -- The search box by box and offset by offset: whether a place is free, and the first that is. Assumes nothing.
-use mathlib.Core.Path.{_≡_, sym, ap, _∙_}
+use mathlib.Core.Path.{_≡_, refl, sym, ap, subst, _∙_}
 use mathlib.Core.Bool.{Bool, true, false, not, _&&_}
-use mathlib.Core.List.{List, _∷_}
-use Prim.Native.Nat.{ℕ, _+_, _≤_, _<_}
+use mathlib.Core.List.{List, [], _∷_, map}
+use Prim.Native.Nat.{ℕ, zero, suc, _+_, _-_, _*_, _≤_, _<_}
+use native.Mathlib.Nat.{not-suc-le-zero, le-of-suc-le-suc}
+use native.Mathlib.Omega.{arith}
+use native.Mathlib.Numerals.{add-one}
+use lib.Dec.{eqb, eqb·suc-zero}
 use lib.IntN.{ℤ}
-use lib.ListN.{length}
+use lib.ListN.{length, getD, take, drop}
+use lib.Seq.{length-take-le, getD-take, drop-cons, take-take}
 use lib.Ieee.{Float}
 use Rattle.float.specs.Ops.{f1, f2, f4}
-use Rattle.order.specs.Order.{pick}
+use Rattle.order.specs.Order.{pick, count}
+use Rattle.order.proofs.Laws.{All, all-at}
 use Rattle.geometry.specs.declared.Point.{Point}
 use Rattle.geometry.specs.declared.Box.{Box}
 use Rattle.geometry.specs.Plane.{boxAt}
 use Rattle.proximity.specs.Overlap.{overlap}
-use Rattle.network.specs.Views.{boxesIn}
+use Rattle.box_order.specs.declared.kept.Stretch.{Stretch}
+use Rattle.box_order.specs.Stages.Cells.{cellKey}
+use Rattle.box_order.specs.Stages.Kept.{Bounds}
+use Rattle.box_order.proofs.CellOrder.{stretch-count}
+use Rattle.box_order.proofs.CellHalving.{below-most}
+use Rattle.box_order.proofs.Keeping.{stretch-part}
 use Rattle.offsets.specs.declared.offset.Offset.{Offset}
 use Rattle.placement.specs.declared.search.Found.{Found}
 use Rattle.placement.specs.declared.search.Found.the-variants.{At, Nowhere}
 use Rattle.placement.specs.Place.{Frame, free, place, buffered, firstFree, orNext, placeFor}
 use Rattle.offset_table.specs.Table.{inside, skipped, pairAt, pairsIn}
+use Rattle.placement.specs.Stages.Views.{keptBoxes, boxesAmong, Holds}
 use Rattle.placement.proofs.Rest.{rest, rest-start, rest-more, rest-end}
 
--- ---- whether p overlaps none of the first n boxes
-module _ (p : Box) (fs : List Float) (n : ℕ) where
-  abbrev pub Free : ℕ → Type 0
-  Free j = free p (rest (boxAt fs) n j) ≡ free p (boxesIn n fs)
+-- ---- free, by counting
+pub free-count : (box : ℕ → Box) (p : Box) (l : List ℕ) → free p (map box l) ≡ eqb (count (λ s. overlap p (box s)) l) 0
+unfolding free count
+free-count box p [] = refl
+free-count box p (x ∷ xs) = go (overlap p (box x)) (free-count box p xs)
+  where
+    go : (o : Bool) → free p (map box xs) ≡ eqb (count (λ s. overlap p (box s)) xs) 0
+        → (not o && free p (map box xs)) ≡ eqb (pick o (suc (count (λ s. overlap p (box s)) xs)) (count (λ s. overlap p (box s)) xs)) 0
+    go true ih = sym (eqb·suc-zero (count (λ s. overlap p (box s)) xs))
+    go false ih = ih
 
-  pub free-start : Free 0
-  unfolding boxesIn
-  free-start = ap (free p) (rest-start (boxAt fs) n)
+-- ---- whether p overlaps none of the boxes of a stretch, by those from the j-th on
+abbrev pub Free : Box → List Float → List ℕ → ℕ → ℕ → ℕ → Type 0
+Free p fs sorted first end j = free p (boxesAmong fs j end sorted) ≡ free p (boxesAmong fs first end sorted)
 
-  free-at : (j : ℕ) (b : Bool) → j < n → b ≡ overlap p (boxAt fs j) → free p (rest (boxAt fs) n j) ≡ not b && free p (rest (boxAt fs) n (j + 1))
+module _ (p : Box) (fs : List Float) (sorted : List ℕ) (first end : ℕ) (l : end ≤ length sorted) (I : All (λ s. 4 * s + 3 < length fs) (take end sorted)) where
+  module _ (j : ℕ) (h : j < end) where
+    pub box-in : 4 * getD sorted j 0 + 3 < length fs
+    box-in =
+        subst (λ (s : ℕ). 4 * s + 3 < length fs) (getD-take end sorted j 0 h)
+        (all-at (λ s. 4 * s + 3 < length fs) (take end sorted) j (omega (arith, length-take-le end sorted l)) I)
+
+    among-more : take (end - j) (drop j sorted) ≡ getD sorted j 0 ∷ take (end - (j + 1)) (drop (j + 1) sorted)
+    among-more =
+        let e : end - j ≡ suc (end - (j + 1)) = omega arith in
+        ap (λ (m : ℕ). take m (drop j sorted)) e
+        ∙ ap (take (suc (end - (j + 1)))) (drop-cons sorted j 0 (omega arith))
+        ∙ ap (λ (i : ℕ). getD sorted j 0 ∷ take (end - (j + 1)) (drop i sorted)) (sym (add-one j))
+
+    module _ (b : Bool) (B : b ≡ overlap p (boxAt fs (getD sorted j 0))) where
+      free-at : free p (boxesAmong fs j end sorted) ≡ not b && free p (boxesAmong fs (j + 1) end sorted)
+      unfolding free
+      free-at = ap (λ (m : List ℕ). free p (map (boxAt fs) m)) among-more ∙ ap (λ (x : Bool). not x && free p (boxesAmong fs (j + 1) end sorted)) (sym B)
+
+      pub free-hit : b ≡ true → Free p fs sorted first end j → false ≡ free p (boxesAmong fs first end sorted)
+      free-hit t i = sym (free-at ∙ ap (λ (x : Bool). not x && free p (boxesAmong fs (j + 1) end sorted)) t) ∙ i
+
+      pub free-miss : b ≡ false → Free p fs sorted first end j → Free p fs sorted first end (j + 1)
+      free-miss t i = sym (free-at ∙ ap (λ (x : Bool). not x && free p (boxesAmong fs (j + 1) end sorted)) t) ∙ i
+
+  pub free-end : (j : ℕ) → end ≤ j → Free p fs sorted first end j → true ≡ free p (boxesAmong fs first end sorted)
   unfolding free
-  free-at j b h e = ap (free p) (rest-more (boxAt fs) n j h) ∙ ap (λ (x : Bool). not x && free p (rest (boxAt fs) n (j + 1))) (sym e)
+  free-end j h i =
+      let e : end - j ≡ 0 = omega arith in
+      sym (ap (λ (m : ℕ). free p (map (boxAt fs) (take m (drop j sorted)))) e) ∙ i
 
-  pub free-hit : (j : ℕ) (b : Bool) → j < n → b ≡ overlap p (boxAt fs j) → b ≡ true → Free j → false ≡ free p (boxesIn n fs)
-  free-hit j b h e t i = sym (free-at j b h e ∙ ap (λ (x : Bool). not x && free p (rest (boxAt fs) n (j + 1))) t) ∙ i
+-- ---- the boxes of the stretch that can overlap answer for all that are kept
+part-same : (a b n : ℕ) (l : List ℕ) → b ≤ n → take (b - a) (drop a (take n l)) ≡ take (b - a) (drop a l)
+part-same zero b n l h = take-take (b - 0) n l (omega arith)
+part-same (suc a) b zero l h =
+    let e : b - suc a ≡ 0 = omega arith in
+    ap (λ (m : ℕ). take m (drop (suc a) (take zero l))) e ∙ sym (ap (λ (m : ℕ). take m (drop (suc a) l)) e)
+part-same (suc a) b (suc n) [] h = refl
+part-same (suc a) b (suc n) (x ∷ l) h =
+    let e : b - suc a ≡ b - 1 - a = omega arith in
+    ap (λ (m : ℕ). take m (drop a (take n l))) e ∙ part-same a (b - 1) n l (omega arith) ∙ sym (ap (λ (m : ℕ). take m (drop a l)) e)
 
-  pub free-miss : (j : ℕ) (b : Bool) → j < n → b ≡ overlap p (boxAt fs j) → b ≡ false → Free j → Free (j + 1)
-  free-miss j b h e t i = sym (free-at j b h e ∙ ap (λ (x : Bool). not x && free p (rest (boxAt fs) n (j + 1))) t) ∙ i
+all-take : (P : ℕ → Type 0) (a n : ℕ) (l : List ℕ) → a ≤ n → All P (take n l) → All P (take a l)
+all-take P zero n l h A = tt
+all-take P (suc a) zero l h A = absurd (not-suc-le-zero h)
+all-take P (suc a) (suc n) [] h A = tt
+all-take P (suc a) (suc n) (x ∷ l) h A = (A .0, all-take P a n l (le-of-suc-le-suc h) (A .1))
 
-  pub free-end : (j : ℕ) → n ≤ j → Free j → true ≡ free p (boxesIn n fs)
-  unfolding free
-  free-end j h i = sym (ap (free p) (rest-end (boxAt fs) n j h)) ∙ i
+module _ (unit : Float) (p : Box) (fs : List Float) (n most : ℕ) (keys sorted : List ℕ) (H : Holds unit fs n most keys sorted) (t : Stretch)
+    (B : Bounds unit (p .left) (p .right) n most keys t) where
+  end-most : t .end ≤ n
+  end-most = subst (λ (e : ℕ). e ≤ n) (sym (B .ends)) (below-most keys n (cellKey unit (p .right) + 1) (H .keyed))
+
+  pub stretch-inside : (t .end ≤ length sorted) × All (λ s. 4 * s + 3 < length fs) (take (t .end) sorted)
+  stretch-inside = (
+    omega (arith, end-most, H .listed),
+    all-take (λ s. 4 * s + 3 < length fs) (t .end) n sorted end-most (H .inside),
+  )
+
+  pub stretch-free : free p (boxesAmong fs (t .first) (t .end) sorted) ≡ free p (keptBoxes fs n sorted)
+  stretch-free =
+      free-count (boxAt fs) p (take (t .end - t .first) (drop (t .first) sorted))
+      ∙ ap (λ (c : ℕ). eqb c 0)
+      (ap (count (λ s. overlap p (boxAt fs s)))
+      (sym (part-same (t .first) (t .end) n sorted end-most)
+      ∙ sym (stretch-part unit fs n keys sorted (H .kept .ordered) most p (t .first) (t .end) (B .begins) (B .ends)))
+      ∙ sym (stretch-count unit (boxAt fs) (take n sorted) most p (H .kept .ordered .order) (H .kept .wide)))
+      ∙ sym (free-count (boxAt fs) p (take n sorted))
+
+-- ---- lists of boxes that are free of the same boxes
+module _ (seed : Point) (r : Frame) (e e' : List Box) (f : (q : Box) → free q e ≡ free q e') where
+  first-same : (widening : Float) (os : List Offset) → firstFree seed r e widening os ≡ firstFree seed r e' widening os
+  unfolding firstFree
+  first-same widening [] = refl
+  first-same widening (o ∷ os) =
+      let c = place seed (r .half) widening o in
+      ap (λ (b : Bool). pick b (At c) (firstFree seed r e widening os)) (f (buffered c r))
+      ∙ ap (λ (l : Found). pick (free (buffered c r) e') (At c) l) (first-same widening os)
+
+  pub place-same : (os : List Offset) → placeFor seed r e os ≡ placeFor seed r e' os
+  unfolding placeFor
+  place-same os =
+      ap (λ (x : Found). orNext x (orNext (firstFree seed r e f2 os) (orNext (firstFree seed r e f4 os) seed))) (first-same f1 os)
+      ∙ ap (λ (x : Found). orNext (firstFree seed r e' f1 os) (orNext x (orNext (firstFree seed r e f4 os) seed))) (first-same f2 os)
+      ∙ ap (λ (x : Found). orNext (firstFree seed r e' f1 os) (orNext (firstFree seed r e' f2 os) (orNext x seed))) (first-same f4 os)
 
 -- ---- the first free place among the pairs of two lists within the search
 module _ (seed : Point) (r : Frame) (earlier : List Box) (widening : Float) (xs ys : List ℤ) (search : ℕ) where

@@ -1,24 +1,31 @@
 // Each station's place: the first free one round its seed, else the seed; and the boxes.
 ghost use mathlib.Core.Path.{_≡_};
-ghost use Prim.Native.Nat.{_+_, _*_, _≤_, _<_};
-ghost use lib.ListN.{length};
+ghost use Prim.Native.Nat.{_+_, _*_, _^_, _≤_, _<_};
+ghost use lib.IntN.{natAbs};
+ghost use lib.ListN.{length, take};
+ghost use Rattle.order.proofs.Laws.{All};
 ghost use Rattle.geometry.specs.Plane.{pointAt, boxAt};
-ghost use Rattle.proximity.specs.Overlap.{overlap};
 ghost use Rattle.network.specs.Views.{countsIn, orderIn, pointsIn, boxesIn};
 ghost use Rattle.placement.specs.Place as Place;
 ghost use Rattle.placement.specs.Place.{free, boxOn, buffered, firstFree, placeFor};
-ghost use Rattle.placement.specs.Stages.Views.{half, frame, frameIn, framesIn, putBox, PlacedAs};
+ghost use Rattle.placement.specs.Stages.Views.{half, frame, frameIn, framesIn, putBox, keptBoxes, boxesAmong, columnOf, Holds, PlacedAs};
 ghost use Rattle.offsets.specs.Offset.{offsets};
 ghost use Rattle.offset_table.specs.Table.{skipped, pairsIn};
 ghost use Rattle.turns.specs.Stages.Listed.{Turns};
+use box_order::cells::shifted;
+use box_order::kept::Stretch;
+use box_order::kept::keep_box;
+use box_order::kept::stretch_of;
 use float::small::max;
 use geometry::Box;
 use geometry::Point;
+use geometry::box_at;
 use offset_table::OFFSET_A;
 use offset_table::OFFSET_B;
 use offset_table::is_inside;
 use offset_table::pair_at;
 use offsets::offset::Offset;
+use proximity::overlaps;
 use units::Measures;
 
 // A free place, or none.
@@ -27,29 +34,15 @@ pub enum Found {
     Nowhere,
 }
 
-// Whether p strictly overlaps the j-th box.
-fn overlaps_at(p: Box, frames: &[f64], j: usize) -> bool
-    requires { ⌜ 4 * j + 3 < length (now frames) ⌝ }
-    ensures { λ r. ⌜ r ≡ overlap p (boxAt (now (frames .entry)) j) ⌝ }
+// Whether p strictly overlaps none of the boxes of a stretch of the kept stations.
+fn is_free(p: Box, boxes: &[f64], sorted: &[u32], t: Stretch) -> bool
+    requires { ⌜ (t .end ≤ length (now sorted)) × All (λ s. 4 * s + 3 < length (now boxes)) (take (t .end) (now sorted)) ⌝ }
+    ensures { λ r. ⌜ r ≡ free p (boxesAmong (now (boxes .entry)) (t .first) (t .end) (now (sorted .entry))) ⌝ }
 {
-    if p.left < frames[4 * j + 2] {
-        if frames[4 * j] < p.right {
-            if p.top < frames[4 * j + 3] {
-                return frames[4 * j + 1] < p.bottom;
-            }
-        }
-    }
-    false
-}
-
-// Whether p strictly overlaps none of the first count boxes.
-fn is_free(p: Box, frames: &[f64], count: usize) -> bool
-    requires { ⌜ 4 * count ≤ length (now frames) ⌝ }
-    ensures { λ r. ⌜ r ≡ free p (boxesIn count (now (frames .entry))) ⌝ }
-{
-    let mut j = 0;
-    while j < count {
-        if overlaps_at(p, frames, j) {
+    let end = t.end;
+    let mut j = t.first;
+    while j < end {
+        if overlaps(p, box_at(boxes, sorted[j] as usize)) {
             return false;
         }
         j += 1;
@@ -93,6 +86,14 @@ fn place(seed: Point, w: f64, h: f64, widening: f64, o: Offset) -> Point
     }
 }
 
+// The number of an offset's column, from 0 for −20 on: all its places have the same left and right edges.
+fn column(o: Offset) -> usize
+    requires { ⌜ natAbs (o .a) ≤ 20 ⌝ }
+    ensures { λ r. ⌜ (r ≡ columnOf (o .a)) × (r < 41) ⌝ }
+{
+    (shifted(o.a as i64) - 4503599627370476) as usize
+}
+
 // The first free place at one widening, by the pairs of two lists: those outside the search are skipped.
 fn first_free(
     seed: Point,
@@ -104,18 +105,33 @@ fn first_free(
     a: &[i32],
     b: &[i32],
     search: usize,
-    frames: &[f64],
+    unit: f64,
+    boxes: &[f64],
+    keys: &[u64],
+    sorted: &[u32],
     count: usize,
+    most: u64,
 ) -> Found
-    requires { ⌜ 4 * count ≤ length (now frames) ⌝ }
-    ensures { λ r. ⌜ r ≡ firstFree seed (frame w h f buffer) (boxesIn count (now (frames .entry))) widening (skipped search (pairsIn (now (a .entry)) (now (b .entry)))) ⌝ }
+    requires { ⌜ (search ≤ 20) × Holds unit (now boxes) count most (now keys) (now sorted) ⌝ }
+    ensures { λ r. ⌜ r ≡ firstFree seed (frame w h f buffer) (keptBoxes (now (boxes .entry)) count (now (sorted .entry))) widening (skipped search (pairsIn (now (a .entry)) (now (b .entry)))) ⌝ }
 {
+    let mut firsts = [0; 41];
+    let mut ends = [0; 41];
     let mut j = 0;
     while j < a.len() {
         let o = pair_at(a, b, j);
         if is_inside(o, search) {
             let c = place(seed, w, h, widening, o);
-            if is_free(buffered(c, w, h, f, buffer), frames, count) {
+            let p = buffered(c, w, h, f, buffer);
+            let i = column(o);
+            let known = Stretch {
+                first: firsts[i],
+                end: ends[i],
+            };
+            let t = stretch_of(known, unit, p.left, p.right, keys, count, most);
+            firsts[i] = t.first;
+            ends[i] = t.end;
+            if is_free(p, boxes, sorted, t) {
                 return Found::At(c);
             }
             j += 1;
@@ -136,17 +152,53 @@ fn place_for(
     a: &[i32],
     b: &[i32],
     search: usize,
-    frames: &[f64],
+    unit: f64,
+    boxes: &[f64],
+    keys: &[u64],
+    sorted: &[u32],
     count: usize,
+    most: u64,
 ) -> Point
-    requires { ⌜ 4 * count ≤ length (now frames) ⌝ }
-    ensures { λ r. ⌜ r ≡ placeFor seed (frame w h f buffer) (boxesIn count (now (frames .entry))) (skipped search (pairsIn (now (a .entry)) (now (b .entry)))) ⌝ }
+    requires { ⌜ (search ≤ 20) × Holds unit (now boxes) count most (now keys) (now sorted) ⌝ }
+    ensures { λ r. ⌜ r ≡ placeFor seed (frame w h f buffer) (keptBoxes (now (boxes .entry)) count (now (sorted .entry))) (skipped search (pairsIn (now (a .entry)) (now (b .entry)))) ⌝ }
 {
-    let near = first_free(seed, w, h, f, buffer, 1.0, a, b, search, frames, count);
+    let near = first_free(
+        seed,
+        w,
+        h,
+        f,
+        buffer,
+        1.0,
+        a,
+        b,
+        search,
+        unit,
+        boxes,
+        keys,
+        sorted,
+        count,
+        most,
+    );
     match near {
         Found::At(c) => c,
         Found::Nowhere => {
-            let wide = first_free(seed, w, h, f, buffer, 2.0, a, b, search, frames, count);
+            let wide = first_free(
+                seed,
+                w,
+                h,
+                f,
+                buffer,
+                2.0,
+                a,
+                b,
+                search,
+                unit,
+                boxes,
+                keys,
+                sorted,
+                count,
+                most,
+            );
             match wide {
                 Found::At(c) => c,
                 Found::Nowhere => {
@@ -160,8 +212,12 @@ fn place_for(
                         a,
                         b,
                         search,
-                        frames,
+                        unit,
+                        boxes,
+                        keys,
+                        sorted,
                         count,
+                        most,
                     );
                     match widest {
                         Found::At(c) => c,
@@ -184,7 +240,7 @@ fn put_box(frames: &mut [f64], i: usize, b: Box)
     frames[4 * i + 3] = b.bottom;
 }
 
-// Places station s as the p-th: its place is written over its seed, and its box is stored.
+// Places station s behind p others: its place is written over its seed, its box is stored, and it is kept with them. The answer is the most cells that a kept box spans.
 fn place_station(
     s: usize,
     p: usize,
@@ -193,11 +249,15 @@ fn place_station(
     a: &[i32],
     b: &[i32],
     search: usize,
+    most: u64,
     places: &mut [f64],
-    frames: &mut [f64],
-)
-    requires { ⌜ (3 * s + 2 < length (now blocks)) × (2 * s + 1 < length (now places)) × (4 * p + 3 < length (now frames)) ⌝ }
-    ensures { λ _. ⌜ PlacedAs m (now (blocks .entry)) (skipped search (pairsIn (now (a .entry)) (now (b .entry)))) s p (now (places .entry)) (now (frames .entry)) (now (places .exit)) (now (frames .exit)) ⌝ }
+    boxes: &mut [f64],
+    keys: &mut [u64],
+    sorted: &mut [u32],
+) -> u64
+    requires { ⌜ (3 * s + 2 < length (now blocks)) × (2 * s + 1 < length (now places)) × (4 * s + 3 < length (now boxes)) × (s < 2 ^ 32) × (p < length (now keys)) × (p < length (now sorted)) × (search ≤ 20) ⌝ }
+    requires { ⌜ Holds (m .unit) (now boxes) p most (now keys) (now sorted) × All (λ y. s ≡ y → ⊥) (take p (now sorted)) ⌝ }
+    ensures { λ r. ⌜ PlacedAs m (now (blocks .entry)) (skipped search (pairsIn (now (a .entry)) (now (b .entry)))) s p r (now (places .entry)) (now (boxes .entry)) (now (sorted .entry)) (now (places .exit)) (now (boxes .exit)) (now (keys .exit)) (now (sorted .exit)) ⌝ }
 {
     let f = m.unit * blocks[3 * s + 2];
     let w = blocks[3 * s] * f / 2.0;
@@ -207,13 +267,29 @@ fn place_station(
         y: places[2 * s + 1],
     };
     let buffer = m.gaps.buffer;
-    let c = place_for(seed, w, h, f, buffer, a, b, search, frames, p);
+    let c = place_for(
+        seed,
+        w,
+        h,
+        f,
+        buffer,
+        a,
+        b,
+        search,
+        m.unit,
+        boxes,
+        keys,
+        sorted,
+        p,
+        most,
+    );
     places[2 * s] = c.x;
     places[2 * s + 1] = c.y;
-    put_box(frames, p, box_on(c, w, h));
+    put_box(boxes, s, box_on(c, w, h));
+    keep_box(m.unit, boxes, s, p, most, keys, sorted)
 }
 
-// Places the first r stations of the order, beside the counts in `stations`; frames holds their boxes in this order.
+// Places the first r stations of the order, beside the counts in `stations`; `boxes` holds their boxes by station, `keys` and `sorted` keep them by cell.
 fn place_all(
     k: usize,
     r: usize,
@@ -224,16 +300,32 @@ fn place_all(
     b: &[i32],
     search: usize,
     places: &mut [f64],
-    frames: &mut [f64],
+    boxes: &mut [f64],
+    keys: &mut [u64],
+    sorted: &mut [u32],
 )
-    requires { ⌜ (r ≤ k) × (2 * k ≤ length (now stations)) × (3 * k ≤ length (now blocks)) × (2 * k ≤ length (now places)) × (4 * k ≤ length (now frames)) ⌝ }
+    requires { ⌜ (search ≤ 20) × (r ≤ k) × (k ≤ 4096) × (2 * k ≤ length (now stations)) × (3 * k ≤ length (now blocks)) × (2 * k ≤ length (now places)) × (4 * k ≤ length (now boxes)) × (k ≤ length (now keys)) × (k ≤ length (now sorted)) ⌝ }
     requires { ⌜ Turns k (orderIn r (now stations)) ⌝ }
     ensures { λ _. ⌜ pointsIn k (now (places .exit)) ≡ Place.places (framesIn m k (now (blocks .entry))) (skipped search (pairsIn (now (a .entry)) (now (b .entry)))) (pointsIn k (now (places .entry))) (orderIn r (now (stations .entry))) ⌝ }
 {
+    let mut most = 0;
     let mut p = 0;
     while p < r {
         let s = stations[2 * p + 1] as usize;
-        place_station(s, p, m, blocks, a, b, search, places, frames);
+        most = place_station(
+            s,
+            p,
+            m,
+            blocks,
+            a,
+            b,
+            search,
+            most,
+            places,
+            boxes,
+            keys,
+            sorted,
+        );
         p += 1;
     }
 }
@@ -247,9 +339,11 @@ pub fn place_by_table(
     blocks: &[f64],
     search: usize,
     places: &mut [f64],
-    frames: &mut [f64],
+    boxes: &mut [f64],
+    keys: &mut [u64],
+    sorted: &mut [u32],
 )
-    requires { ⌜ (search ≤ 20) × (r ≤ k) × (2 * k ≤ length (now stations)) × (3 * k ≤ length (now blocks)) × (2 * k ≤ length (now places)) × (4 * k ≤ length (now frames)) ⌝ }
+    requires { ⌜ (search ≤ 20) × (r ≤ k) × (k ≤ 4096) × (2 * k ≤ length (now stations)) × (3 * k ≤ length (now blocks)) × (2 * k ≤ length (now places)) × (4 * k ≤ length (now boxes)) × (k ≤ length (now keys)) × (k ≤ length (now sorted)) ⌝ }
     requires { ⌜ Turns k (orderIn r (now stations)) ⌝ }
     ensures { λ _. ⌜ pointsIn k (now (places .exit)) ≡ Place.places (framesIn m k (now (blocks .entry))) (offsets search) (pointsIn k (now (places .entry))) (orderIn r (now (stations .entry))) ⌝ }
 {
@@ -263,7 +357,9 @@ pub fn place_by_table(
         &OFFSET_B,
         search,
         places,
-        frames,
+        boxes,
+        keys,
+        sorted,
     );
 }
 

@@ -101,6 +101,17 @@ pub fn settle(
     ensures { λ _. ⌜ Settled (now (sub .entry)) (now (kv .entry)) k measures search (now (blocks .entry)) (pointsIn k (now (places .entry))) (now (stations .exit)) (now (places .exit)) (now (frames .exit)) ⌝ }
 {
     let r = placement_order(sub, kv, k, stations, keys, sorted, spare);
-    place_by_table(k, r, measures, stations, blocks, search, places, frames);
+    place_by_table(
+        k,
+        r,
+        measures,
+        stations,
+        blocks,
+        search,
+        places,
+        frames,
+        keys,
+        sorted,
+    );
     station_boxes(k, measures, stations, blocks, places, frames);
 }

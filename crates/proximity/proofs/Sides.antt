@@ -7,13 +7,13 @@ use native.Mathlib.Nat.{mul-pos, zero-mul, eq-zero-or-pos}
 use native.Mathlib.Omega.{arith}
 use lib.Dec.{T, ltb, eqb, ltb→lt, eqb→eq}
 use lib.IntN.{ℤ}
-use lib.Ieee.{Float, nan, inf, fin, up, down, lt, le, eq, neg, add, fits, binary64}
+use lib.Ieee.{Float, nan, inf, fin, up, down, lt, le, eq, neg, add, fits, ofBits, binary64}
 use borrow.Author.Tests.{lt-ltb, ltb-true}
 use lib.Ieee.Fits.{down-pos, and-l, and-r}
 use lib.Ieee.Positive.{through}
 use Rattle.float.specs.Small.{absOf, maxOf, minOf, isFinite}
 use Rattle.float.specs.Hypot.{hypotOf}
-use Rattle.float.proofs.Keys.{plus, le-of-lt-float}
+use Rattle.float.proofs.Keys.{plus, not-both, le-of-lt-float}
 use Rattle.float.proofs.Sums.{le-number}
 use Rattle.float.proofs.Hypots.{hypot-above, hypot-comm}
 use Rattle.float.proofs.Bounds.{hypot-plus, hypot-under, le-through, unsigned, abs-unsigned, add-unsigned, abs-finite, add-finite, size-of}
@@ -209,3 +209,23 @@ near-under x y r X Y h =
     holds : (b : Bool) → T b → b ≡ true
     holds true t = refl
     holds false t = absurd t
+
+-- ---- two sides of 0
+low-finite : (a : Float) → T (unsigned a) → le a f0 ≡ true → T (isFinite a)
+unfolding unsigned le eq lt isFinite ofBits
+low-finite nan p h = absurd (true≢false (sym h))
+low-finite (inf true) p h = absurd p
+low-finite (inf false) p h = absurd (true≢false (sym h))
+low-finite (fin s m e) p h = tt
+
+pub nearer-zero : (b x y : Float) → T (fits binary64 x) → T (fits binary64 y) → le (add binary64 (absOf x) (absOf y)) f0 ≡ true → b ≡ nearer b (hypotOf x y)
+unfolding nearer plus ofBits
+nearer-zero b x y X Y h =
+    let s = add binary64 (absOf x) (absOf y) in
+    let U : T (unsigned s) = add-unsigned (absOf x) (absOf y) (abs-unsigned x) (abs-unsigned y) in
+    let F : T (isFinite s) = low-finite s U h in
+    let z = add-finite (absOf x) (absOf y) F in
+    let A : T (isFinite x) = abs-finite x (z .0) in
+    let B : T (isFinite y) = abs-finite y (z .1) in
+    let l : T (le (hypotOf x y) f0) = le-through (hypotOf x y) s f0 (hypot-plus x y A B) (size-of s U F .1) tt (hypot-under x y X Y A B) (truth (le s f0) h) in
+    ap (λ (t : Bool). pick t (minOf b (hypotOf x y)) b) (sym (untrue (lt f0 (hypotOf x y)) (λ t. not-both f0 (hypotOf x y) t l)))

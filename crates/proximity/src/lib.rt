@@ -37,11 +37,14 @@ fn longer(x: f64, y: f64) -> f64
     max(max(x, -x), max(y, -y))
 }
 
-// The lesser of best and the length of (x, y), where that is above 0. A side longer than best settles it.
+// The lesser of best and the length of (x, y), where that is above 0. A side longer than best settles it, and so do two sides of 0.
 pub fn closer(best: f64, x: f64, y: f64) -> f64
     ensures { λ r. ⌜ r ≡ nearer best (hypotOf x y) ⌝ }
 {
     if best < longer(x, y) {
+        return best;
+    }
+    if abs(x) + abs(y) <= 0.0 {
         return best;
     }
     let d = hypot(x, y);

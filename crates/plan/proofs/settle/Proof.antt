@@ -10,15 +10,15 @@ placement-order-requires c κs = ((c .before .before .before .before .before .be
 
 place-by-table-requires : tie.Need-place-by-table-requires
 place-by-table-requires c κs =
-    let o = c .before .before .before .before .before .before .before .before .before .before .before .placement-order in
-    let s = c .before .before .before .before .before .before .before .before .before .before .before .before .before .before .before .before .before .before .before .before .before .before .before .before .before in
-    ((s .pre .0 .0, o .ensures .0 .1, omega (arith, o .kept .1 .1 .1 .0, s .pre .1 .0), s .pre .1 .4, s .pre .1 .5, s .pre .1 .6), o .ensures .1 .1 .0)
+    let o = c .before .before .before .before .before .before .before .before .before .before .before .before .before .placement-order in
+    let s = c .before .before .before .before .before .before .before .before .before .before .before .before .before .before .before .before .before .before .before .before .before .before .before .before .before .before .before in
+    ((s .pre .0 .0, o .ensures .0 .1, s .pre .0 .1, omega (arith, o .kept .1 .1 .1 .0, s .pre .1 .0), s .pre .1 .4, s .pre .1 .5, s .pre .1 .6, omega (arith, o .kept .1 .1 .1 .1 .0, s .pre .1 .3), omega (arith, o .kept .1 .1 .1 .1 .1 .0, s .pre .1 .1)), o .ensures .1 .1 .0)
 
 station-boxes-requires : tie.Need-station-boxes-requires
 station-boxes-requires c κs =
-    let o = c .before .before .before .before .before .before .before .before .before .before .before .before .before .before .before .before .before .before .before .placement-order in
-    let p = c .before .before .before .before .before .before .before .place-by-table in
-    let s = c .before .before .before .before .before .before .before .before .before .before .before .before .before .before .before .before .before .before .before .before .before .before .before .before .before .before .before .before .before .before .before .before .before in
+    let o = c .before .before .before .before .before .before .before .before .before .before .before .before .before .before .before .before .before .before .before .before .before .before .before .before .before .placement-order in
+    let p = c .before .before .before .before .before .before .before .before .before .before .before .place-by-table in
+    let s = c .before .before .before .before .before .before .before .before .before .before .before .before .before .before .before .before .before .before .before .before .before .before .before .before .before .before .before .before .before .before .before .before .before .before .before .before .before .before .before in
     (omega (arith, o .kept .1 .1 .1 .0, s .pre .1 .0), s .pre .1 .4, omega (arith, p .kept .1 .1 .1 .1 .1 .1 .0, s .pre .1 .5), omega (arith, p .kept .1 .1 .1 .1 .1 .1 .1 .0, s .pre .1 .6))
 
 same-length : tie.Need-same-length
@@ -41,8 +41,8 @@ same-length-6 c = search needs
 
 returns : tie.Need-returns
 returns c =
-    let o = c .before .before .before .before .before .before .before .before .before .before .before .before .before .before .before .before .before .before .before .before .before .before .placement-order in
-    settled-joined _ _ _ _ _ _ _ _ _ _ _ (o .ensures .1 .1 .1) (o .ensures .1 .0) (c .before .before .before .before .before .before .before .before .before .before .place-by-table .ensures) (c .before .before .station-boxes .ensures)
+    let o = c .before .before .before .before .before .before .before .before .before .before .before .before .before .before .before .before .before .before .before .before .before .before .before .before .before .before .before .before .placement-order in
+    settled-joined _ _ _ _ _ _ _ _ _ _ _ (o .ensures .1 .1 .1) (o .ensures .1 .0) (c .before .before .before .before .before .before .before .before .before .before .before .before .before .before .place-by-table .ensures) (c .before .before .station-boxes .ensures)
 
 pub settle-spec : {M : Type 1} → statement M
 settle-spec =

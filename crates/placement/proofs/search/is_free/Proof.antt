@@ -1,25 +1,40 @@
--- `placement::search::is_free` meets its contract: the boxes before j do not matter. Assumes nothing.
-use Prim.Native.Nat.{_≤_, _-_}
+-- `placement::search::is_free` meets its contract: the boxes of the stretch before the j-th do not matter. Assumes nothing.
+use mathlib.Core.Path.{refl, ap, _∙_}
+use Prim.Native.Nat.{_-_}
 use native.Mathlib.Omega.{arith}
-use Rattle.placement.proofs.Searching.{Free, free-start, free-hit, free-miss, free-end}
+use Rattle.geometry.specs.declared.Box.{Box}
+use Rattle.proximity.specs.Overlap.{overlap}
+use Rattle.placement.proofs.Searching.{Free, free-hit, free-miss, free-end, box-in}
 use borrow.Author.Needs.{needs}
 use Rattle.placement.proofs.search.is_free.Statement.{statement}
 use Rattle.placement.proofs.search.is_free.Tie as tie
 
 abbrev Inv-loop : tie.InvT-loop
-Inv-loop p frames count j₀ j = (j ≤ count) × Free p frames count j
+Inv-loop p boxes sorted end j₀ j = Free p boxes sorted j₀ end j
 
 abbrev μ-loop : tie.MeasureT-loop
-μ-loop p frames count j₀ j = count - j
+μ-loop p boxes sorted end j₀ j = end - j
 
 loop-holds : tie.Need-loop-holds Inv-loop μ-loop
-loop-holds c = (omega arith, free-start _ _ _)
+loop-holds c = refl
 
-overlaps-at-requires : tie.Need-overlaps-at-requires Inv-loop μ-loop
-overlaps-at-requires c κs = search needs
+mul-box-at : tie.Need-mul-box-at Inv-loop μ-loop
+mul-box-at c = let l = c .before .before .before .before .pre .0 in search needs
+
+shared-slice-read-box-at : tie.Need-shared-slice-read-box-at Inv-loop μ-loop
+shared-slice-read-box-at c = search needs
+
+cast-box-at : tie.Need-cast-box-at Inv-loop μ-loop
+cast-box-at c = omega (arith, c .shared-slice-known3 .given (c .before .before .loop .j))
+
+box-at-requires : tie.Need-box-at-requires Inv-loop μ-loop
+box-at-requires c κs = let s = c .before .before .before .before .before in box-in (s .args .p) (s .args .boxes .now) (s .args .sorted .now) (s .args .t .first) (s .args .t .end) (s .pre .0) (s .pre .1) _ (c .before .loop-test .taken)
+
+overlaps-requires : tie.Need-overlaps-requires Inv-loop μ-loop
+overlaps-requires c κs = search needs
 
 returns : tie.Need-returns Inv-loop μ-loop
-returns c = free-hit _ _ _ _ _ (c .before .before .loop-test .taken) (c .before .overlaps-at .ensures) (c .if1 .taken) (c .before .before .before .loop .inv .1)
+returns c = let s = c .before .before .before .before .before .before .before .before in free-hit (s .args .p) (s .args .boxes .now) (s .args .sorted .now) (s .args .t .first) (s .args .t .end) (s .pre .0) (s .pre .1) _ (c .before .before .before .before .loop-test .taken) _ (c .before .overlaps .ensures ∙ ap (λ (q : Box). overlap (s .args .p) q) (c .before .before .box-at .ensures)) (c .if1 .taken) (c .before .before .before .before .before .loop .inv)
 
 add-j : tie.Need-add-j Inv-loop μ-loop
 add-j c = search needs
@@ -28,10 +43,10 @@ loop-less : tie.Need-loop-less Inv-loop μ-loop
 loop-less c = search needs
 
 loop-again : tie.Need-loop-again Inv-loop μ-loop
-loop-again c = (omega arith, free-miss _ _ _ _ _ (c .before .before .loop-test .taken) (c .before .overlaps-at .ensures) (c .if1 .left) (c .before .before .before .loop .inv .1))
+loop-again c = let s = c .before .before .before .before .before .before .before .before in free-miss (s .args .p) (s .args .boxes .now) (s .args .sorted .now) (s .args .t .first) (s .args .t .end) (s .pre .0) (s .pre .1) _ (c .before .before .before .before .loop-test .taken) _ (c .before .overlaps .ensures ∙ ap (λ (q : Box). overlap (s .args .p) q) (c .before .before .box-at .ensures)) (c .if1 .left) (c .before .before .before .before .before .loop .inv)
 
 returns-2 : tie.Need-returns-2 Inv-loop μ-loop
-returns-2 c = free-end _ _ _ _ (c .loop-test .left) (c .before .loop .inv .1)
+returns-2 c = let s = c .before .before .before .before in free-end (s .args .p) (s .args .boxes .now) (s .args .sorted .now) (s .args .t .first) (s .args .t .end) (s .pre .0) (s .pre .1) _ (c .loop-test .left) (c .before .loop .inv)
 
 pub is-free-spec : {M : Type 1} → statement M
 is-free-spec =
@@ -40,7 +55,11 @@ is-free-spec =
     Inv-loop
     μ-loop
     loop-holds
-    overlaps-at-requires
+    mul-box-at
+    shared-slice-read-box-at
+    cast-box-at
+    box-at-requires
+    overlaps-requires
     returns
     add-j
     loop-less

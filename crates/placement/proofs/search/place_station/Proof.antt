@@ -1,7 +1,9 @@
 -- `placement::search::place_station` meets its contract. Assumes nothing.
 use mathlib.Core.Path.{refl, ap, _∙_}
+use native.Mathlib.Omega.{arith}
 use Rattle.placement.specs.Place.{frameFor}
 use Rattle.placement.specs.Stages.Views.{putBox}
+use Rattle.placement.proofs.Placing.{kept-on}
 use borrow.Author.Needs.{needs}
 use Rattle.placement.proofs.search.place_station.Statement.{statement}
 use Rattle.placement.proofs.search.place_station.Tie as tie
@@ -39,26 +41,26 @@ mul-h-2 c = search needs
 shared-slice-read-h : tie.Need-shared-slice-read-h
 shared-slice-read-h c = search needs
 
-mul-t18 : tie.Need-mul-t18
-mul-t18 c = search needs
+mul-t21 : tie.Need-mul-t21
+mul-t21 c = search needs
 
-mul-t16 : tie.Need-mul-t16
-mul-t16 c = search needs
+mul-t19 : tie.Need-mul-t19
+mul-t19 c = search needs
 
-slice-read-t20 : tie.Need-slice-read-t20
-slice-read-t20 c = search needs
+slice-read-t23 : tie.Need-slice-read-t23
+slice-read-t23 c = search needs
 
-mul-t17 : tie.Need-mul-t17
-mul-t17 c = search needs
+mul-t20 : tie.Need-mul-t20
+mul-t20 c = search needs
 
-add-t25 : tie.Need-add-t25
-add-t25 c = search needs
+add-t28 : tie.Need-add-t28
+add-t28 c = search needs
 
-mul-t26 : tie.Need-mul-t26
-mul-t26 c = search needs
+mul-t29 : tie.Need-mul-t29
+mul-t29 c = search needs
 
-slice-read-t22 : tie.Need-slice-read-t22
-slice-read-t22 c = search needs
+slice-read-t25 : tie.Need-slice-read-t25
+slice-read-t25 c = search needs
 
 place-for-requires : tie.Need-place-for-requires
 place-for-requires c κs = search needs
@@ -90,21 +92,35 @@ box-on-requires c κs = search needs
 put-box-requires : tie.Need-put-box-requires
 put-box-requires c κs = search needs
 
+keep-box-requires : tie.Need-keep-box-requires
+keep-box-requires c κs =
+    let s = c .before .before .before .before .before .before .before .before .before .before .before .before .before .before .before .before .before .before .before .before .before .before .before in
+    let p = c .before .before .before .before .before .put-box in
+    ((omega (arith, p .kept, s .pre .0 .2), s .pre .0 .3, s .pre .0 .4, s .pre .0 .5), (kept-on _ _ _ _ _ _ _ _ _ (p .ensures) (s .pre .1 .1) (s .pre .1 .0 .kept), s .pre .1 .1))
+
 same-length : tie.Need-same-length
 same-length c = search needs
 
 same-length-2 : tie.Need-same-length-2
 same-length-2 c = search needs
 
+same-length-3 : tie.Need-same-length-3
+same-length-3 c = search needs
+
+same-length-4 : tie.Need-same-length-4
+same-length-4 c = search needs
+
 returns : tie.Need-returns
 unfolding frameFor
 returns c =
-    let s = c .before .before .before .before .before .before .before .before .before .before .before .before .before .before .before .before in
+    let s = c .before .before .before .before .before .before .before .before .before .before .before .before .before .before .before .before .before .before .before .before .before .before .before .before .before .before .before .before in
     record {
-      at = c .before .before .before .before .before .place-for .result;
-      chosen = c .before .before .before .before .before .place-for .ensures;
+      at = c .before .before .before .before .before .before .before .before .before .before .before .before .before .place-for .result;
+      chosen = c .before .before .before .before .before .before .before .before .before .before .before .before .before .place-for .ensures;
       placed = refl;
-      boxed = c .before .before .put-box .ensures ∙ ap (putBox (s .args .frames .now) (s .args .p)) (c .before .before .before .box-on .ensures);
+      boxed = c .before .before .before .before .before .before .before .before .before .before .put-box .ensures ∙ ap (putBox (s .args .boxes .now) (s .args .s)) (c .before .before .before .before .before .before .before .before .before .before .before .box-on .ensures);
+      kept = c .before .before .before .before .keep-box .ensures .0;
+      listed = c .before .before .before .before .keep-box .ensures .1;
     }
 
 pub place-station-spec : {M : Type 1} → statement M
@@ -122,13 +138,13 @@ place-station-spec =
     add-h
     mul-h-2
     shared-slice-read-h
-    mul-t18
-    mul-t16
-    slice-read-t20
-    mul-t17
-    add-t25
-    mul-t26
-    slice-read-t22
+    mul-t21
+    mul-t19
+    slice-read-t23
+    mul-t20
+    add-t28
+    mul-t29
+    slice-read-t25
     place-for-requires
     mul-places
     mul-places-2
@@ -139,6 +155,9 @@ place-station-spec =
     slice-write-places-2
     box-on-requires
     put-box-requires
+    keep-box-requires
     same-length
     same-length-2
+    same-length-3
+    same-length-4
     returns)
