@@ -2,13 +2,12 @@
 -- Assumes nothing.
 use Prim.Native.Nat.{ℕ, zero, suc, _+_, _*_, _^_, _≤_, _<_, min}
 use mathlib.Core.Path.{_≡_, refl, sym, ap, _∙_, subst}
-use mathlib.Core.Bool.{Bool, true, false, _&&_}
+use mathlib.Core.Bool.{Bool, true, false}
 use mathlib.Core.List.{List, []}
 use native.Mathlib.Omega.{arith}
 use lib.Dec.{ltb}
 use lib.ListN.{length, getD}
 use lib.Ieee.{Float}
-use Rattle.float.specs.Small.{isFinite}
 use Rattle.order.specs.Order.{pick}
 use Rattle.order.specs.Table.{table}
 use Rattle.order.proofs.Tables.{length-table, getD-table}
@@ -25,7 +24,6 @@ use Rattle.cells.specs.Cells.{cellSize}
 use Rattle.detour.specs.Stages.Paths.{pathIn}
 use Rattle.runs.specs.Run as Run
 use Rattle.runs.specs.Run.{Scene}
-use Rattle.runs.specs.Finite.{allOf, finitePoint}
 use Rattle.runs.specs.Stages.Views.{wayOf, wayCount, held, lead, Fits}
 use Rattle.pieces.specs.Stages.Pieces.{runsIn}
 use Rattle.results.specs.Stages.Bars.{barsIn}
@@ -51,9 +49,9 @@ led-cong : (S S' : Scene) (l : Bool) (a a' : List ℕ) (b b' : Float) (w w' : Li
     → S ≡ S' → a ≡ a' → b ≡ b' → w ≡ w' → ledScene S l a b w ≡ ledScene S' l a' b' w'
 led-cong S S' l a a' b b' w w' p q r s = cc
 
-module _ (o : Options) (N : Network) (k : ℕ) (unit : Float) (fin : Bool) (stations buses ends : List ℕ) (blocks places frames : List Float)
+module _ (o : Options) (N : Network) (k : ℕ) (unit : Float) (stations buses ends : List ℕ) (blocks places frames : List Float)
     (below : (i : ℕ) → i < length (N .station) → stationOf (N .station) i < k)
-    (G : Laid o N k unit fin stations buses ends blocks places frames) where
+    (G : Laid o N k unit stations buses ends blocks places frames) where
   abbrev its : ℕ
   its = o .«route_iterations»
 
@@ -102,18 +100,14 @@ module _ (o : Options) (N : Network) (k : ℕ) (unit : Float) (fin : Bool) (stat
       ap (λ (S : Route.Scene). Route.waypoints S (Route.routing S) (crossingsOf S its) e) routed-is
       ∙ sym (getD-table (Route.waypoints (routedOf o N (planned o N)) (Route.routing (routedOf o N (planned o N))) (crossingsOf (routedOf o N (planned o N)) its)) (length (routedOf o N (planned o N) .lines)) e [] (rw ways-long h))
 
-  module _ (room l : ℕ) (f : Bool) (stations' ends' : List ℕ) (path ways : List Float)
-      (R : Routes (gridBy ends) k stations (N .corners) (N .twins) its room l f stations' ends' ways) where
+  module _ (room l : ℕ) (stations' ends' : List ℕ) (path ways : List Float)
+      (R : Routes (gridBy ends) k stations (N .corners) (N .twins) its room l stations' ends' ways) where
     late-is : l ≡ routeRefusal (drawing o N .meshFits) (length (drawing o N .crossings)) room
     unfolding drawing
     late-is = R .lateIs ∙ cc (routed-is, occ-is)
 
     counts-are : countsIn k stations' ≡ planned o N .counts
     counts-are = R .counts ∙ G .counts ∙ G .holds .counts
-
-    finite-is : l ≡ 0 → f ≡ allOf isFinite (drawing o N .crossings)
-    unfolding drawing
-    finite-is z = R .finiteIs z ∙ ap (λ (S : Route.Scene). allOf isFinite (crossingsOf S its)) routed-is
 
     runs-are : l ≡ 0 → (cell : Float) → cell ≡ cellSize (boxesIn k frames) (occupied (countsIn k stations'))
         → runsIn (held (N .station) (measuresOf o unit) buses ends' blocks places frames (lead (ltb 0 its) cell (gapOf unit) k stations' ways)) (N .from) (N .to) (N .service)
@@ -131,11 +125,11 @@ module _ (o : Options) (N : Network) (k : ℕ) (unit : Float) (fin : Bool) (stat
         (led-cong _ _ (ltb 0 its) _ _ _ _ _ _ (scene-is ends' (R .fromRows) (R .toRows)) (ap occupied counts-are) (ap gapOf (G .holds .unitIs)) refl)
 
     -- The lists hold the drawing with its routes.
-    pub charted : (ill g : Bool) → g ≡ (fin && f) → ill ≡ illSized (boxesIn k frames) (occupied (countsIn k stations)) → ill ≡ false
+    pub charted : (ill : Bool) → ill ≡ illSized (boxesIn k frames) (occupied (countsIn k stations)) → ill ≡ false
         → 2 * k + 3 * min (length (N .corners)) 24576 + 16 ≤ length path
-        → Charted o N k room unit g l stations' buses ends' blocks places frames path ways
+        → Charted o N k room unit l stations' buses ends' blocks places frames path ways
     unfolding drawing routedLate routedBy
-    charted ill g ge i e p =
+    charted ill i e p =
         let ie : illSized (planned o N .boxes) (occupied (planned o N .counts)) ≡ false = cc (i, G .holds .boxes, occ-is) in
         record {
           unitIs = G .holds .unitIs;
@@ -144,16 +138,15 @@ module _ (o : Options) (N : Network) (k : ℕ) (unit : Float) (fin : Bool) (stat
           boxes = G .holds .boxes;
           bars = G .holds .bars;
           lateIs = late-is ∙ rw ie;
-          finiteIs = λ z. ge ∙ cc (G .finiteIs, finite-is z);
           runs = runs-are;
           fits = λ z e h. (omega (arith, R .short z e h .0, p), R .short z e h .1);
         }
 
   -- Where the sizes are ill nothing is routed.
-  pub charted-ill : (ill : Bool) (room : ℕ) (path ways : List Float) (g : Bool) → ill ≡ illSized (boxesIn k frames) (occupied (countsIn k stations)) → ill ≡ true
-      → Charted o N k room unit g 8 stations buses ends blocks places frames path ways
+  pub charted-ill : (ill : Bool) (room : ℕ) (path ways : List Float) → ill ≡ illSized (boxesIn k frames) (occupied (countsIn k stations)) → ill ≡ true
+      → Charted o N k room unit 8 stations buses ends blocks places frames path ways
   unfolding drawing routedLate routedBy
-  charted-ill ill room path ways g i e =
+  charted-ill ill room path ways i e =
       let ie : illSized (planned o N .boxes) (occupied (planned o N .counts)) ≡ true = cc (i, G .holds .boxes, occ-is) in
       record {
         unitIs = G .holds .unitIs;
@@ -162,13 +155,12 @@ module _ (o : Options) (N : Network) (k : ℕ) (unit : Float) (fin : Bool) (stat
         boxes = G .holds .boxes;
         bars = G .holds .bars;
         lateIs = rw ie;
-        finiteIs = λ z. absurd (omega (arith, z));
         runs = λ z. absurd (omega (arith, z));
         fits = λ z. absurd (omega (arith, z));
       }
 
 -- the same with an equal room for crossings
-pub charted-at : (o : Options) (N : Network) (k x y : ℕ) (unit : Float) (fin : Bool) (l : ℕ) (stations buses ends : List ℕ) (blocks places frames path ways : List Float)
-    → x ≡ y → Charted o N k x unit fin l stations buses ends blocks places frames path ways → Charted o N k y unit fin l stations buses ends blocks places frames path ways
-charted-at o N k x y unit fin l stations buses ends blocks places frames path ways e C =
-    subst (λ (z : ℕ). Charted o N k z unit fin l stations buses ends blocks places frames path ways) e C
+pub charted-at : (o : Options) (N : Network) (k x y : ℕ) (unit : Float) (l : ℕ) (stations buses ends : List ℕ) (blocks places frames path ways : List Float)
+    → x ≡ y → Charted o N k x unit l stations buses ends blocks places frames path ways → Charted o N k y unit l stations buses ends blocks places frames path ways
+charted-at o N k x y unit l stations buses ends blocks places frames path ways e C =
+    subst (λ (z : ℕ). Charted o N k z unit l stations buses ends blocks places frames path ways) e C

@@ -3,7 +3,6 @@
 use Prim.Native.Nat.{ℕ, _≤_, _<_}
 use native.Mathlib.Omega.{arith}
 use mathlib.Core.Path.{_≡_, sym, ap, _∙_, subst}
-use mathlib.Core.Bool.{Bool}
 use mathlib.Core.List.{List, map}
 use lib.ListN.{length}
 use lib.Ieee.{Float}
@@ -20,9 +19,7 @@ use Rattle.placement.specs.Stages.Views.{framesIn}
 use Rattle.plan.specs.Stages.Plan.{Interiors, Settled}
 use Rattle.bars.specs.Bar as Bars
 use Rattle.bars.specs.Stages.Span.{spansIn}
-use Rattle.runs.specs.Finite.{allOf, finitePoint}
 use Rattle.results.specs.Stages.Bars.{barsIn}
-use Rattle.results.proofs.Finites.{finite-points}
 use Rattle.crossings.specs.Stages.Views.{grid}
 use Rattle.exits.specs.Stages.Exits.{Exited}
 use Rattle.drawing.specs.Network.{Network}
@@ -62,10 +59,10 @@ holds-placed o N k unit buses ends blocks places places₂ frames few same H =
 pub station-few : (sub : List ℕ) (k : ℕ) → k ≡ stationCount sub → k ≤ length sub → (i : ℕ) → i < length sub → stationOf sub i < length sub
 station-few sub k e few i h = let z = below-of sub k e i h in omega arith
 
-pub laid-joined : (o : Options) (N : Network) (k : ℕ) (unit : Float) (finite : Bool) (search : ℕ) (stations₁ stations buses₁ buses ends : List ℕ) (places₁ blocks places places₂ frames : List Float)
+pub laid-joined : (o : Options) (N : Network) (k : ℕ) (unit : Float) (search : ℕ) (stations₁ stations buses₁ buses ends : List ℕ) (places₁ blocks places places₂ frames : List Float)
     → k ≡ stationCount (N .station)
     → k ≤ length (N .station)
-    → Interiors o (N .station) (N .kv) (N .from) (N .to) (N .service) (N .xy) k unit finite stations₁ buses₁ ends places₁ blocks
+    → Interiors o (N .station) (N .kv) (N .from) (N .to) (N .service) (N .xy) k unit stations₁ buses₁ ends places₁ blocks
     → search ≡ searchOf (o .search)
     → Settled (N .station) (N .kv) k (measuresOf o unit) search blocks (pointsIn k places₁) stations places frames
     → columnsIn (length (N .station)) buses ≡ columnsIn (length (N .station)) buses₁
@@ -73,16 +70,15 @@ pub laid-joined : (o : Options) (N : Network) (k : ℕ) (unit : Float) (finite :
     ≡ Bars.spans (N .station) (kinds (N .station) (N .from) (N .to) (N .service)) (fromRowsIn (length (N .from)) ends) (toRowsIn (length (N .from)) ends)
     → ((s : ℕ) → s < length (N .station) → pointAt places₂ s ≡ pointAt places s)
     → Exited (grid (N .station) (N .from) (N .to) (N .service) (measuresOf o unit) ends blocks places₂ frames)
-    → Laid o N k unit finite stations buses ends blocks places₂ frames
+    → Laid o N k unit stations buses ends blocks places₂ frames
 unfolding planned
-laid-joined o N k unit finite search stations₁ stations buses₁ buses ends places₁ blocks places places₂ frames e few I s T c p same E =
+laid-joined o N k unit search stations₁ stations buses₁ buses ends places₁ blocks places places₂ frames e few I s T c p same E =
     let below : (i : ℕ) → i < length (N .station) → stationOf (N .station) i < k =
     subst (λ (z : ℕ). (i : ℕ) → i < length (N .station) → stationOf (N .station) i < z) (sym e) (station-below (N .station)) in
     let H : Holds o N k unit buses ends blocks places frames =
-    settled-held o N k unit finite search stations₁ stations buses₁ buses ends places₁ blocks places frames below I s T c p in
+    settled-held o N k unit search stations₁ stations buses₁ buses ends places₁ blocks places frames below I s T c p in
     record {
       holds = holds-placed o N k unit buses ends blocks places places₂ frames few same H;
       exits = E;
       counts = T .counts;
-      finiteIs = I .finiteIs ∙ finite-points places₁ k ∙ ap (allOf finitePoint) (I .seeds);
     }

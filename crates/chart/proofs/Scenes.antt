@@ -301,17 +301,17 @@ module _ (o : Options) (N : Network) (k : ℕ) (unit : Float) (search : ℕ) (bu
       bars = bars-held sub (measuresOf o unit) buses blocks frames k below ∙ by-parts
 
 -- the same, from what the stages leave: the rows of buses are found beside the columns, once the rows of branches are known
-pub settled-held : (o : Options) (N : Network) (k : ℕ) (unit : Float) (finite : Bool) (search : ℕ) (stations₁ stations buses₁ buses ends : List ℕ)
+pub settled-held : (o : Options) (N : Network) (k : ℕ) (unit : Float) (search : ℕ) (stations₁ stations buses₁ buses ends : List ℕ)
     (places₁ blocks places frames : List Float)
     → ((i : ℕ) → i < length (N .station) → stationOf (N .station) i < k)
-    → Interiors o (N .station) (N .kv) (N .from) (N .to) (N .service) (N .xy) k unit finite stations₁ buses₁ ends places₁ blocks
+    → Interiors o (N .station) (N .kv) (N .from) (N .to) (N .service) (N .xy) k unit stations₁ buses₁ ends places₁ blocks
     → search ≡ searchOf (o .search)
     → Settled (N .station) (N .kv) k (measuresOf o unit) search blocks (pointsIn k places₁) stations places frames
     → columnsIn (length (N .station)) buses ≡ columnsIn (length (N .station)) buses₁
     → spansIn (length (N .station)) buses
     ≡ Bars.spans (N .station) (kinds (N .station) (N .from) (N .to) (N .service)) (fromRowsIn (length (N .from)) ends) (toRowsIn (length (N .from)) ends)
     → Holds o N k unit buses ends blocks places frames
-settled-held o N k unit finite search stations₁ stations buses₁ buses ends places₁ blocks places frames below I se S cl sp =
+settled-held o N k unit search stations₁ stations buses₁ buses ends places₁ blocks places frames below I se S cl sp =
     drawing-held o N k unit search buses ends blocks places frames below (cl ∙ I .columns) sp (I .fromRows) (I .toRows) (I .sizes) (I .scales) (I .unitIs) se
     (S .placed
     ∙ ap

@@ -10,7 +10,6 @@ use bars::span::spans;
 use exits::write_exits;
 use network::options::Options;
 use network::options::search_of;
-use plan::Inside;
 use plan::interiors;
 use plan::settle;
 use units::Measures;
@@ -22,7 +21,7 @@ fn search_in(o: Options) -> usize
     search_of(o.search)
 }
 
-// Lays a drawing out: rows, sizes, places and boxes of its stations, and the exits of its lines.
+// Lays a drawing out: rows, sizes, places and boxes of its stations, and the exits of its lines. Answers the unit.
 pub(crate) fn lay(
     o: Options,
     sub: &[u32],
@@ -44,13 +43,13 @@ pub(crate) fn lay(
     blocks: &mut [f64],
     frames: &mut [f64],
     path: &mut [f64],
-) -> Inside
+) -> f64
     requires { ⌜ (k ≡ stationCount (now sub)) × (length (now sub) ≤ 4096) × (k ≤ length (now sub)) × (length (now from) ≤ 8192) × (length (now kv) ≡ length (now sub)) × (searchOf (o .search) ≤ 20) ⌝ }
     requires { ⌜ (2 * length (now sub) ≤ length (now stations)) × (3 * length (now sub) ≤ length (now buses)) × (4 * length (now from) ≤ length (now ends)) × (2 * length (now sub) + 4 * length (now from) ≤ length (now places)) × (3 * length (now sub) ≤ length (now blocks)) × (4 * length (now sub) ≤ length (now frames)) × (2 * length (now sub) ≤ length (now path)) ⌝ }
     requires { ⌜ (length (now sub) + 2 * length (now from) ≤ length (now sorted)) × (length (now sub) + 2 * length (now from) ≤ length (now spare)) × (length (now sub) + 2 * length (now from) ≤ length (now keys)) ⌝ }
-    ensures { λ r. ⌜ Laid o (network (now (sub .entry)) (now (kv .entry)) (now (from .entry)) (now (to .entry)) (now (service .entry)) (now (xy .entry)) (now (corners .entry)) (now (twins .entry))) k (r .unit) (r .finite) (now (stations .exit)) (now (buses .exit)) (now (ends .exit)) (now (blocks .exit)) (now (places .exit)) (now (frames .exit)) ⌝ }
+    ensures { λ r. ⌜ Laid o (network (now (sub .entry)) (now (kv .entry)) (now (from .entry)) (now (to .entry)) (now (service .entry)) (now (xy .entry)) (now (corners .entry)) (now (twins .entry))) k r (now (stations .exit)) (now (buses .exit)) (now (ends .exit)) (now (blocks .exit)) (now (places .exit)) (now (frames .exit)) ⌝ }
 {
-    let inside = interiors(
+    let unit = interiors(
         o,
         sub,
         kv,
@@ -73,10 +72,7 @@ pub(crate) fn lay(
     spans(sub, from, to, service, ends, buses);
     let search = search_in(o);
     let gaps = o.gaps;
-    let measures = Measures {
-        unit: inside.unit,
-        gaps,
-    };
+    let measures = Measures { unit, gaps };
     settle(
         sub,
         kv,
@@ -102,5 +98,5 @@ pub(crate) fn lay(
         frames,
         places,
     );
-    inside
+    unit
 }

@@ -13,16 +13,13 @@ ghost use Rattle.chart.specs.Stages.Held.{Laid};
 ghost use Rattle.chart.specs.Stages.Charted.{Charted};
 use crate::lay::lay;
 use network::options::Options;
-use pieces::both;
 use placement::sized::ill_sized;
-use plan::Inside;
 use routes::route_lines;
 use units::Measures;
 
-// The unit, whether all seeds and crossing places are finite, and the late refusal so far, 8, 9 or 10, 0 for none.
+// The unit, and the late refusal so far, 8, 9 or 10, 0 for none.
 pub struct Course {
     pub unit: f64,
-    pub finite: bool,
     pub late: u32,
 }
 
@@ -39,7 +36,7 @@ fn route(
     corners: &[u32],
     twins: &[u32],
     k: usize,
-    inside: Inside,
+    unit: f64,
     room: usize,
     stations: &mut [u32],
     buses: &[u32],
@@ -59,20 +56,15 @@ fn route(
     requires { ⌜ (3 * room ≤ length (now numbers)) × (room ≤ length (now along)) × (2 * room ≤ length (now ways)) × (room ≤ length (now sorted)) × (room ≤ length (now spare)) × (room ≤ length (now keys)) ⌝ }
     requires { ⌜ (4 * length (now from) + 4 * min (length (now corners)) 24576 + 4 ≤ length (now ends)) × (min (length (now corners)) 24576 ≤ length (now sorted)) × (min (length (now corners)) 24576 ≤ length (now spare)) × (min (length (now corners)) 24576 ≤ length (now keys)) × (2 * k + 3 * min (length (now corners)) 24576 + 16 ≤ length (now path)) ⌝ }
     requires { ⌜ ill ≡ illSized (boxesIn k (now frames)) (occupied (countsIn k (now stations))) ⌝ }
-    requires { ⌜ Laid o (network (now sub) (now kv) (now from) (now to) (now service) (now xy) (now corners) (now twins)) k (inside .unit) (inside .finite) (now stations) (now buses) (now ends) (now blocks) (now places) (now frames) ⌝ }
-    ensures { λ r. ⌜ Charted o (network (now (sub .entry)) (now (kv .entry)) (now (from .entry)) (now (to .entry)) (now (service .entry)) (now (xy .entry)) (now (corners .entry)) (now (twins .entry))) k room (r .unit) (r .finite) (r .late) (now (stations .exit)) (now (buses .entry)) (now (ends .exit)) (now (blocks .entry)) (now (places .entry)) (now (frames .entry)) (now (path .exit)) (now (ways .exit)) ⌝ }
+    requires { ⌜ Laid o (network (now sub) (now kv) (now from) (now to) (now service) (now xy) (now corners) (now twins)) k unit (now stations) (now buses) (now ends) (now blocks) (now places) (now frames) ⌝ }
+    ensures { λ r. ⌜ Charted o (network (now (sub .entry)) (now (kv .entry)) (now (from .entry)) (now (to .entry)) (now (service .entry)) (now (xy .entry)) (now (corners .entry)) (now (twins .entry))) k room (r .unit) (r .late) (now (stations .exit)) (now (buses .entry)) (now (ends .exit)) (now (blocks .entry)) (now (places .entry)) (now (frames .entry)) (now (path .exit)) (now (ways .exit)) ⌝ }
 {
-    let unit = inside.unit;
     if ill {
-        return Course {
-            unit,
-            finite: false,
-            late: 8,
-        };
+        return Course { unit, late: 8 };
     }
     let gaps = o.gaps;
     let measures = Measures { unit, gaps };
-    let found = route_lines(
+    let late = route_lines(
         o.route_iterations,
         room,
         sub,
@@ -96,12 +88,7 @@ fn route(
         along,
         ways,
     );
-    let finite = both(inside.finite, found.finite);
-    Course {
-        unit,
-        finite,
-        late: found.late,
-    }
+    Course { unit, late }
 }
 
 // Lays a drawing out and routes its lines.
@@ -136,9 +123,9 @@ pub fn chart(
     requires { ⌜ (length (now sub) + 2 * length (now from) ≤ length (now sorted)) × (length (now sub) + 2 * length (now from) ≤ length (now spare)) × (length (now sub) + 2 * length (now from) ≤ length (now keys)) ⌝ }
     requires { ⌜ (3 * room ≤ length (now numbers)) × (room ≤ length (now along)) × (2 * room ≤ length (now ways)) × (room ≤ length (now sorted)) × (room ≤ length (now spare)) × (room ≤ length (now keys)) ⌝ }
     requires { ⌜ (4 * length (now from) + 4 * min (length (now corners)) 24576 + 4 ≤ length (now ends)) × (min (length (now corners)) 24576 ≤ length (now sorted)) × (min (length (now corners)) 24576 ≤ length (now spare)) × (min (length (now corners)) 24576 ≤ length (now keys)) × (2 * length (now sub) + 3 * min (length (now corners)) 24576 + 16 ≤ length (now path)) ⌝ }
-    ensures { λ r. ⌜ Charted o (network (now (sub .entry)) (now (kv .entry)) (now (from .entry)) (now (to .entry)) (now (service .entry)) (now (xy .entry)) (now (corners .entry)) (now (twins .entry))) k room (r .unit) (r .finite) (r .late) (now (stations .exit)) (now (buses .exit)) (now (ends .exit)) (now (blocks .exit)) (now (places .exit)) (now (frames .exit)) (now (path .exit)) (now (ways .exit)) ⌝ }
+    ensures { λ r. ⌜ Charted o (network (now (sub .entry)) (now (kv .entry)) (now (from .entry)) (now (to .entry)) (now (service .entry)) (now (xy .entry)) (now (corners .entry)) (now (twins .entry))) k room (r .unit) (r .late) (now (stations .exit)) (now (buses .exit)) (now (ends .exit)) (now (blocks .exit)) (now (places .exit)) (now (frames .exit)) (now (path .exit)) (now (ways .exit)) ⌝ }
 {
-    let inside = lay(
+    let unit = lay(
         o,
         sub,
         kv,
@@ -173,7 +160,7 @@ pub fn chart(
         corners,
         twins,
         k,
-        inside,
+        unit,
         room,
         stations,
         buses,

@@ -3,4 +3,5 @@ pub mod Choosing
 pub mod Shifting
 pub mod Detours
 pub mod DetourSizes
+pub mod CostSizes
 pub mod Lending

@@ -37,8 +37,8 @@ lists-eq : {a a' b b' c c' d d' : List Float} {e e' : List ℕ} {f f' : List Flo
     → a ≡ a' → b ≡ b' → c ≡ c' → d ≡ d' → e ≡ e' → f ≡ f' → g ≡ g' → lists a b c d e f g ≡ lists a' b' c' d' e' f' g'
 lists-eq p q r s t u w = rw (p, q, r, s, t, u, w)
 
-module _ (o : Options) (N : Network) (k : ℕ) (R : Room) (unit : Float) (fin : Bool) (l : ℕ) (stations buses ends : List ℕ) (blocks places frames path ways : List Float)
-    (C : Charted o N k (crossingRoom R) unit fin l stations buses ends blocks places frames path ways) where
+module _ (o : Options) (N : Network) (k : ℕ) (R : Room) (unit : Float) (l : ℕ) (stations buses ends : List ℕ) (blocks places frames path ways : List Float)
+    (C : Charted o N k (crossingRoom R) unit l stations buses ends blocks places frames path ways) where
   -- Where the chart is refused, so is the drawing.
   pub refused : (l ≡ 0 → ⊥) → (L : Lists) → Drew o N (late (drawing o N) R) L (Refused l) L
   unfolding late lateBy routedLate answerFor answerBy listsAfter after

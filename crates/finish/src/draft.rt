@@ -63,7 +63,7 @@ pub(crate) fn judge(
     ways: &[f64],
 ) -> Draft
     requires { ⌜ (length (now sub) ≤ 4096) × (length (now from) ≤ 8192) × (k ≤ 4096) × (2 * k ≤ length (now stations)) × (4 * k ≤ length (now frames)) × (3 * k ≤ length (now blocks)) ⌝ }
-    requires { ⌜ Charted o (network (now sub) (now kv) (now from) (now to) (now service) (now xy) (now corners) (now twins)) k (crossingRoom room) (c .unit) (c .finite) (c .late) (now stations) (now buses) (now ends) (now blocks) (now places) (now frames) (now path) (now ways) ⌝ }
+    requires { ⌜ Charted o (network (now sub) (now kv) (now from) (now to) (now service) (now xy) (now corners) (now twins)) k (crossingRoom room) (c .unit) (c .late) (now stations) (now buses) (now ends) (now blocks) (now places) (now frames) (now path) (now ways) ⌝ }
     requires { ⌜ c .late ≡ 0 ⌝ }
     ensures { λ r. ⌜ Judged o (network (now (sub .entry)) (now (kv .entry)) (now (from .entry)) (now (to .entry)) (now (service .entry)) (now (xy .entry)) (now (corners .entry)) (now (twins .entry))) room (c .unit) (r .bounds) (r .pieces) (r .late) ⌝ }
     ensures { λ r. ⌜ r .cell ≡ cellSize (boxesIn k (now (frames .entry))) (occupied (countsIn k (now (stations .entry)))) ⌝ }
@@ -75,7 +75,7 @@ pub(crate) fn judge(
     let led = is_led(o);
     let cell = cell_size(k, stations, frames);
     index_boxes(led, cell, k, stations, frames, sorted);
-    let all = survey(
+    let pieces = survey(
         sub,
         from,
         to,
@@ -96,10 +96,10 @@ pub(crate) fn judge(
         path,
     );
     let bounds = bounds_of(k, stations, frames);
-    let late = late_of(0, all.pieces, room.pieces, room.branches);
+    let late = late_of(0, pieces, room.pieces, room.branches);
     Draft {
         bounds,
-        pieces: all.pieces,
+        pieces,
         late,
         cell,
     }

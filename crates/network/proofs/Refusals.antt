@@ -1,12 +1,12 @@
 -- The loops of refusals 6 and 15 and of the finiteness test: none found so far, one found, none at all.
 -- Assumes nothing.
-use Prim.Native.Nat.{ℕ, zero, suc, _+_, _*_, _<_, _≤_}
-use mathlib.Core.Path.{_≡_, refl, sym, ap, _∙_}
+use Prim.Native.Nat.{ℕ, suc, _+_, _*_, _<_, _≤_}
+use mathlib.Core.Path.{_≡_, sym, ap, _∙_}
 use mathlib.Core.Bool.{Bool, true, false, not, _&&_}
 use mathlib.Core.List.{List}
 use native.Mathlib.Numerals.{add-one}
 use native.Mathlib.Omega.{arith}
-use borrow.Author.Tests.{lt-ltb, le-ltb, ltb-true, ltb-false}
+use borrow.Author.Tests.{lt-ltb, le-ltb}
 use lib.Dec.{ltb}
 use lib.ListN.{length, getD}
 use lib.Ieee.{Float, nan, binary64, lt, ofBits}
@@ -16,7 +16,7 @@ use Rattle.order.specs.Table.{howMany}
 use Rattle.order.proofs.Tables.{howMany-zero, howMany-yes, howMany-no, howMany-mono}
 use Rattle.geometry.specs.declared.Point.{Point}
 use Rattle.geometry.specs.Plane.{pointAt}
-use Rattle.network.specs.Refusal.{isVoltage, strayVoltage, farOut, tooFar, everyFinite}
+use Rattle.network.specs.Refusal.{isVoltage, strayVoltage, farOut, tooFar}
 
 -- ---- 6, over the first i buses
 abbrev farAt : List Float → ℕ → Bool
@@ -82,28 +82,3 @@ module _ (kv : List ℕ) where
   pub voltages-all : (i : ℕ) → i ≡ length kv → Voltages kv i → false ≡ strayVoltage kv
   unfolding strayVoltage
   voltages-all i e h = let z : howMany (strayAt kv) (length kv) ≡ 0 = rw (← e) (h .none) in sym (le-ltb 0 (howMany (strayAt kv) (length kv)) (omega arith))
-
--- ---- the first i numbers are finite
-and-false : (a : Bool) → a && false ≡ false
-and-false true = refl
-and-false false = refl
-
-module _ (l : List Float) where
-  pub finite-none : everyFinite 0 l ≡ true
-  unfolding everyFinite
-  finite-none = refl
-
-  pub finite-more : (i : ℕ) → isFinite (getD l i nan) ≡ true → everyFinite i l ≡ true → everyFinite (i + 1) l ≡ true
-  unfolding everyFinite
-  finite-more i f h = rw (add-one i, h, f)
-
-  pub finite-not : (n i : ℕ) → i < n → isFinite (getD l i nan) ≡ false → false ≡ everyFinite n l
-  unfolding everyFinite
-  finite-not zero i h f = absurd (omega arith)
-  finite-not (suc n) i h f = go (ltb i n) refl (λ k. finite-not n i k f)
-    where
-      go : (b : Bool) → ltb i n ≡ b → (i < n → false ≡ everyFinite n l) → false ≡ everyFinite n l && isFinite (getD l n nan)
-      go true q k = ap (λ (a : Bool). a && isFinite (getD l n nan)) (k (ltb-true i n q))
-      go false q k =
-          let z : i ≡ n = omega (arith, ltb-false i n q) in
-          sym (ap (λ (a : Bool). everyFinite n l && a) (ap (λ (j : ℕ). isFinite (getD l j nan)) (sym z) ∙ f) ∙ and-false (everyFinite n l))

@@ -1,5 +1,5 @@
 -- Refusals 1 to 4, 15 and 6, each by its condition. Definitions only.
-use Prim.Native.Nat.{ℕ, zero, suc, _+_, _*_}
+use Prim.Native.Nat.{ℕ, _+_, _*_}
 use mathlib.Core.Bool.{Bool, true, false, not, _&&_, _||_}
 use mathlib.Core.List.{List}
 use lib.Dec.{eqb, ltb}
@@ -57,8 +57,3 @@ shapeRefusal sub kv from to =
     (refuse (toUnlike from to) 3
     (refuse (numberTooHigh sub) 4
     (refuse (strayVoltage kv) 15 0))))
-
--- whether the first c numbers of a list are finite
-unfoldable pub everyFinite : ℕ → List Float → Bool
-everyFinite zero l = true
-everyFinite (suc c) l = everyFinite c l && isFinite (getD l c nan)

@@ -1,12 +1,11 @@
 // The refusals that the input alone decides: 1 to 4, 15 and 6, and whether numbers are finite.
 ghost use mathlib.Core.Path.{_≡_};
 ghost use Prim.Native.Nat.{_+_, _<_};
-ghost use Rattle.network.specs.Refusal.{isVoltage, strayVoltage, shapeRefusal, above, farOut, tooFar, everyFinite};
+ghost use Rattle.network.specs.Refusal.{isVoltage, strayVoltage, shapeRefusal, above, farOut, tooFar};
 use crate::words::station_count;
 use float::bits::of_bits;
 use float::small::abs;
 use float::small::is_finite;
-use geometry::number_at;
 use geometry::point_at;
 
 // Whether a pattern is that of a voltage: finite and above zero.
@@ -96,18 +95,4 @@ pub fn too_far(n: usize, xy: &[f64]) -> bool
         i += 1;
     }
     false
-}
-
-// Whether the first c numbers of a list are finite.
-pub fn finite_to(list: &[f64], c: usize) -> bool
-    ensures { λ r. ⌜ r ≡ everyFinite c (now (list .entry)) ⌝ }
-{
-    let mut i = 0;
-    while i < c {
-        if !is_finite(number_at(list, i)) {
-            return false;
-        }
-        i += 1;
-    }
-    true
 }

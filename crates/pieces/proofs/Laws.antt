@@ -1,7 +1,7 @@
 -- Laws of the pieces through points: one point more, how many, and all of them in two passes.
 -- Assumes nothing.
 use mathlib.Core.Path.{_≡_, refl, sym, ap, _∙_}
-use mathlib.Core.Bool.{Bool, true, false, _&&_}
+use mathlib.Core.Bool.{Bool, true, false}
 use mathlib.Core.List.{List, [], _∷_, _++_, append-nil, append-assoc}
 use Prim.Native.Nat.{ℕ, zero, suc, _+_, _*_, _-_, _≤_, _<_}
 use native.Mathlib.Omega.{arith}
@@ -17,7 +17,6 @@ use Rattle.geometry.specs.declared.Point.{Point}
 use Rattle.geometry.specs.Plane.{pointAt}
 use Rattle.network.specs.Views.{pointsIn}
 use Rattle.runs.specs.Run.{Piece, apart, pieces}
-use Rattle.runs.specs.Finite.{allOf}
 use Rattle.pieces.specs.Stages.Pieces.{piece, Counted}
 
 pub apart-is : (a b : Float) (p q : Point) → a ≡ absOf (p .x ⊖ q .x) → b ≡ absOf (p .y ⊖ q .y) → lt f0 (a ⊕ b) ≡ apart p q
@@ -146,24 +145,3 @@ module _ {A : Type 0} (f : ℕ → List A) where
       let g : length (joined f n) ≤ c * n = joined-at-most c n (λ i k. h i (omega arith)) in
       let k : length (f n) ≤ c = h n (omega arith) in
       omega (arith, joined-length-suc n)
-
--- ---- a test of all elements
-allOf-snoc : {A : Type 0} (p : A → Bool) (l : List A) (x : A) → allOf p (l ++ (x ∷ [])) ≡ allOf p l && p x
-unfolding allOf
-allOf-snoc p [] x = go (p x)
-  where
-    go : (b : Bool) → b && true ≡ true && b
-    go true = refl
-    go false = refl
-allOf-snoc p (y ∷ ys) x = ap (λ (b : Bool). p y && b) (allOf-snoc p ys x) ∙ go (p y)
-  where
-    go : (b : Bool) → b && (allOf p ys && p x) ≡ (b && allOf p ys) && p x
-    go true = refl
-    go false = refl
-
-pub all-zero : {A : Type 0} (p : A → Bool) (f : ℕ → A) → allOf p (table f 0) ≡ true
-unfolding allOf tableFrom
-all-zero p f = refl
-
-pub all-suc : {A : Type 0} (p : A → Bool) (f : ℕ → A) (n : ℕ) → allOf p (table f (suc n)) ≡ allOf p (table f n) && p (f n)
-all-suc p f n = ap (allOf p) (table-suc f n) ∙ allOf-snoc p (table f n) (f n)

@@ -16,11 +16,9 @@ use Rattle.network.specs.Views.{pointsIn}
 use Rattle.runs.specs.Run.{pieces}
 use Rattle.runs.specs.Stages.Views.{Lead, ledRun, wayOf, wayCount, Ran}
 use Rattle.runs.proofs.Paths.{ran-of, line-few}
-use Rattle.runs.specs.Finite.{allOf, finitePoint}
-use Rattle.pieces.specs.declared.Totals.{Totals}
 use Rattle.requests.specs.declared.request.LineRequest.{LineRequest}
 use Rattle.requests.specs.Stages.Requests.{nothingAt}
-use Rattle.pieces.specs.Stages.Passes.{requestRun, requestPieces, listPieces, listFinite, Asks, AskAll, RoomFor, Passed}
+use Rattle.pieces.specs.Stages.Passes.{requestRun, requestPieces, listPieces, Asks, AskAll, RoomFor, Passed}
 use Rattle.pieces.proofs.Laws.{pieces-none}
 use Rattle.pieces.proofs.Adding.{Going, go-none, go-room, go-more, go-end, passed-of, passed-none, ran-room, ran-passed}
 
@@ -29,31 +27,31 @@ pub asks-same : (ends : List ℕ) (path path' : List Float) (r : LineRequest) �
 asks-same ends path path' r e h d = let z = h d in ((omega (arith, z .0 .0), z .0 .1), z .1)
 
 -- ---- leading a list of requests: after i of them
-module _ (L : Lead) (frames : List Float) (ends : List ℕ) (list : List LineRequest) (w : Bool) (t : Totals) (path n : List Float) (b : List ℕ) where
-  pub record Along (i : ℕ) (s : Totals) (path' n' : List Float) (b' : List ℕ) : Type 0 where
-    pub going : Going w (λ (j : ℕ). requestPieces L frames ends (getD list j (nothingAt 0))) (λ (j : ℕ). requestRun L frames ends (getD list j (nothingAt 0))) (length list) t n b i s n' b'
+module _ (L : Lead) (frames : List Float) (ends : List ℕ) (list : List LineRequest) (w : Bool) (at : ℕ) (path n : List Float) (b : List ℕ) where
+  pub record Along (i s : ℕ) (path' n' : List Float) (b' : List ℕ) : Type 0 where
+    pub going : Going w (λ (j : ℕ). requestPieces L frames ends (getD list j (nothingAt 0))) (length list) at n b i s n' b'
     pub sized : length path' ≡ length path
 
-  pub along-none : RoomFor w (t .pieces) (listPieces L frames ends list) n b → Along 0 t path n b
+  pub along-none : RoomFor w at (listPieces L frames ends list) n b → Along 0 at path n b
   unfolding listPieces
-  along-none h = record { going = go-none w _ _ (length list) t n b h; sized = refl }
+  along-none h = record { going = go-none w _ (length list) at n b h; sized = refl }
 
-  module _ {i : ℕ} {s : Totals} {path' n' : List Float} {b' : List ℕ} (I : Along i s path' n' b') where
+  module _ {i s : ℕ} {path' n' : List Float} {b' : List ℕ} (I : Along i s path' n' b') where
     pub along-asks : AskAll ends path list → i < length list → Asks ends path' (getD list i (nothingAt 0))
     along-asks h l = asks-same ends path path' (getD list i (nothingAt 0)) (I .sized) (h i l)
 
-    pub along-room : i < length list → RoomFor w (s .pieces) (requestPieces L frames ends (getD list i (nothingAt 0))) n' b'
-    along-room l = go-room w _ _ (length list) t n b (I .going) l
+    pub along-room : i < length list → RoomFor w s (requestPieces L frames ends (getD list i (nothingAt 0))) n' b'
+    along-room l = go-room w _ (length list) at n b (I .going) l
 
-    pub along-more : {r : Totals} {path'' n'' : List Float} {b'' : List ℕ} → i < length list
-        → Passed w s r (requestPieces L frames ends (getD list i (nothingAt 0))) (allOf finitePoint (requestRun L frames ends (getD list i (nothingAt 0)))) n' n'' b' b''
+    pub along-more : {r : ℕ} {path'' n'' : List Float} {b'' : List ℕ} → i < length list
+        → Passed w s r (requestPieces L frames ends (getD list i (nothingAt 0))) n' n'' b' b''
         → length path'' ≡ length path' → length n'' ≡ length n' → length b'' ≡ length b' → Along (suc i) r path'' n'' b''
     along-more {r} {path''} {n''} {b''} l P d e f =
-        subst (λ (j : ℕ). Along j r path'' n'' b'') (add-one i) (record { going = go-more w _ _ (length list) t n b (I .going) l P e f; sized = d ∙ I .sized })
+        subst (λ (j : ℕ). Along j r path'' n'' b'') (add-one i) (record { going = go-more w _ (length list) at n b (I .going) l P e f; sized = d ∙ I .sized })
 
-    pub along-end : length list ≤ i → Passed w t s (listPieces L frames ends list) (listFinite L frames ends list) n n' b b'
-    unfolding listPieces listFinite
-    along-end l = go-end w _ _ (length list) t n b (I .going) l
+    pub along-end : length list ≤ i → Passed w at s (listPieces L frames ends list) n n' b b'
+    unfolding listPieces
+    along-end l = go-end w _ (length list) at n b (I .going) l
 
 -- ---- what a request gets
 module _ (L : Lead) (frames : List Float) (ends : List ℕ) (r : LineRequest) where
@@ -70,11 +68,9 @@ module _ (L : Lead) (frames : List Float) (ends : List ℕ) (r : LineRequest) wh
       ap (λ (z : ℕ). ledBy z n) p ∙ ap (ledBy (wayOf ends (r .e))) q
       ∙ sym (ap (λ (b : Bool). pick b [] (ledBy (wayOf ends (r .e)) (wayCount ends (r .e)))) (ne-eqb (r .sa) (r .sb) h))
 
-  pub nothing-asked : (w : Bool) (t : Totals) (n : List Float) (b : List ℕ) → r .sa ≡ r .sb
-      → Passed w t t (requestPieces L frames ends r) (allOf finitePoint (requestRun L frames ends r)) n n b b
-  unfolding requestPieces allOf
-  nothing-asked w t n b e =
-      passed-of (passed-none w t n b) (sym (ap (pieces (r .e)) (request-none e) ∙ pieces-none (r .e))) (sym (ap (allOf finitePoint) (request-none e)))
+  pub nothing-asked : (w : Bool) (at : ℕ) (n : List Float) (b : List ℕ) → r .sa ≡ r .sb → Passed w at at (requestPieces L frames ends r) n n b b
+  unfolding requestPieces
+  nothing-asked w at n b e = passed-of (passed-none w at n b) (sym (ap (pieces (r .e)) (request-none e) ∙ pieces-none (r .e)))
 
   module _ {c : ℕ} {path : List Float} (w n : ℕ) (R : Ran c path (ledBy w n)) where
     pub line-short : n < 2 ^ 31 → c < 2 ^ 32
@@ -85,7 +81,7 @@ module _ (L : Lead) (frames : List Float) (ends : List ℕ) (r : LineRequest) wh
       unfolding requestPieces
       line-room at n' b' z = ran-room (ran-of R (request-line w n h p q)) wr (r .e) at n' b' z
 
-      pub line-passed : {t s : Totals} {n' n'' : List Float} {b' b'' : List ℕ} → Passed wr t s (pieces (r .e) (pointsIn c path)) (allOf finitePoint (pointsIn c path)) n' n'' b' b''
-          → Passed wr t s (requestPieces L frames ends r) (allOf finitePoint (requestRun L frames ends r)) n' n'' b' b''
+      pub line-passed : {at s : ℕ} {n' n'' : List Float} {b' b'' : List ℕ} → Passed wr at s (pieces (r .e) (pointsIn c path)) n' n'' b' b''
+          → Passed wr at s (requestPieces L frames ends r) n' n'' b' b''
       unfolding requestPieces
       line-passed P = ran-passed (ran-of R (request-line w n h p q)) wr (r .e) P

@@ -2,7 +2,7 @@
 -- Assumes nothing.
 use mathlib.Core.Path.{_≡_, refl, sym, ap, _∙_, subst}
 use mathlib.Core.Logic.{_≢_}
-use mathlib.Core.Bool.{Bool, true, false, not, _&&_}
+use mathlib.Core.Bool.{Bool, true, false, not}
 use mathlib.Core.List.{List, [], _∷_, _++_, map, append-nil, append-assoc}
 use Prim.Native.Nat.{ℕ, zero, suc, _+_, _*_, _^_, _-_, _≤_, _<_}
 use native.Mathlib.Omega.{arith}
@@ -12,8 +12,8 @@ use lib.IntN.{ℤ, negsuc}
 use lib.ListN.{length, drop, getD, length-append, length-map, List·getD-eq-default}
 use lib.Ieee.{Float}
 use Rattle.order.specs.Order.{pick}
-use Rattle.order.specs.Table.{table, joined}
-use Rattle.order.proofs.Tables.{length-table, getD-table, table-ext, joined-zero, joined-suc, joined-ext}
+use Rattle.order.specs.Table.{joined}
+use Rattle.order.proofs.Tables.{length-table, getD-table, joined-zero, joined-suc, joined-ext}
 use Rattle.geometry.specs.declared.Point.{Point}
 use Rattle.network.specs.declared.words.Kind.{Kind}
 use Rattle.network.specs.declared.words.Kind.the-variants.{Undrawn, Open, Internal, Line}
@@ -22,21 +22,19 @@ use Rattle.network.proofs.Branches.{kind-safe}
 use Rattle.network.specs.Views.{pointsIn}
 use Rattle.units.specs.declared.Measures.{Measures}
 use Rattle.runs.specs.Run.{Piece, apart, pieces, isLine, allPieces}
-use Rattle.runs.specs.Finite.{allOf, finitePoint}
 use Rattle.runs.specs.Lists.{flat, pieceNumbers, after}
 use Rattle.order.specs.Over.{over}
 use Rattle.runs.specs.Stages.Views.{Held, openFrom, internalFrom, lineFrom, runFrom, runIn, otherRun, wayCount, wayOf, Fits, Ran}
 use Rattle.runs.proofs.Paths.{run-few, other-is}
-use Rattle.pieces.specs.declared.Totals.{Totals}
 use Rattle.requests.specs.declared.request.LineRequest.{LineRequest}
-use Rattle.pieces.specs.Stages.Pieces.{piece, branchOf, runAt, runsIn, passRun, passAt, passIn, passFinite, othersIn, othersFinite, blockIn, blockFinite, FitAll, RoomIf, Put}
+use Rattle.pieces.specs.Stages.Pieces.{piece, branchOf, runAt, runsIn, passRun, passAt, passIn, othersIn, blockIn, FitAll, RoomIf, Put}
 use Rattle.requests.specs.Stages.Requests.{Lists, lists, nothingAt, lineRequest, requestOf, FilledTo}
-use Rattle.pieces.specs.Stages.Passes.{requestRun, requestPieces, listPieces, listFinite, Asks, AskAll, RoomFor, Passed}
-use Rattle.pieces.proofs.Laws.{pieces-none, joined-mono, joined-at-most, all-zero, all-suc}
+use Rattle.pieces.specs.Stages.Passes.{requestRun, requestPieces, listPieces, Asks, AskAll, RoomFor, Passed}
+use Rattle.pieces.proofs.Laws.{pieces-none, joined-mono, joined-at-most}
 use Rattle.pieces.proofs.Puts.{put-of, length-flat}
 use Rattle.pieces.proofs.Adding.{Going, go-none, go-room, go-more, go-end, passed-of, passed-none, passed-more, ran-room, ran-passed}
 
--- ---- more of a table or of joined lists, and none past an end
+-- ---- more of joined lists, and none past an end
 module _ {A : Type 0} (f : ℕ → List A) where
   pub joined-plus : (a k : ℕ) → joined f (a + k) ≡ joined f a ++ joined (λ (i : ℕ). f (a + i)) k
   joined-plus a zero =
@@ -66,36 +64,6 @@ module _ {A : Type 0} (f : ℕ → List A) where
             let e : a + (m - a) ≡ m = omega arith in
             omega (arith, joined-mono f a (m - a), ap (λ (k : ℕ). length (joined f k)) e)
         go false q = let l : m ≤ a = ltb-false a m q in omega (arith, ap length (joined-past a l))
-
-module _ {A : Type 0} (p : A → Bool) (f : ℕ → A) where
-  and-true : (b : Bool) → (b && true) ≡ b
-  and-true true = refl
-  and-true false = refl
-
-  and-and : (x y z : Bool) → ((x && y) && z) ≡ (x && (y && z))
-  and-and true y z = refl
-  and-and false y z = refl
-
-  pub all-plus : (a k : ℕ) → allOf p (table f (a + k)) ≡ (allOf p (table f a) && allOf p (table (λ (i : ℕ). f (a + i)) k))
-  all-plus a zero =
-      let e : a + 0 ≡ a = omega arith in
-      ap (λ (n : ℕ). allOf p (table f n)) e ∙ sym (and-true (allOf p (table f a))) ∙ ap (λ (z : Bool). allOf p (table f a) && z) (sym (all-zero p (λ (i : ℕ). f (a + i))))
-  all-plus a (suc k) =
-      let e : a + suc k ≡ suc (a + k) = omega arith in
-      ap (λ (n : ℕ). allOf p (table f n)) e ∙ all-suc p f (a + k) ∙ ap (λ (z : Bool). z && p (f (a + k))) (all-plus a k)
-      ∙ and-and (allOf p (table f a)) (allOf p (table (λ (i : ℕ). f (a + i)) k)) (p (f (a + k)))
-      ∙ ap (λ (z : Bool). allOf p (table f a) && z) (sym (all-suc p (λ (i : ℕ). f (a + i)) k))
-
-  module _ (m : ℕ) (past : (i : ℕ) → m ≤ i → p (f i) ≡ true) where
-    all-past-by : (k : ℕ) → allOf p (table f (m + k)) ≡ allOf p (table f m)
-    all-past-by zero = let e : m + 0 ≡ m = omega arith in ap (λ (n : ℕ). allOf p (table f n)) e
-    all-past-by (suc k) =
-        let e : m + suc k ≡ suc (m + k) = omega arith in
-        ap (λ (n : ℕ). allOf p (table f n)) e ∙ all-suc p f (m + k) ∙ ap (λ (z : Bool). allOf p (table f (m + k)) && z) (past (m + k) (omega arith))
-        ∙ and-true (allOf p (table f (m + k))) ∙ all-past-by k
-
-    pub all-past : (a : ℕ) → m ≤ a → allOf p (table f a) ≡ allOf p (table f m)
-    all-past a h = let e : a ≡ m + (a - m) = omega arith in ap (λ (n : ℕ). allOf p (table f n)) e ∙ all-past-by (a - m)
 
 -- ---- what the passes take together
 module _ (H : Held) (from to : List ℤ) (service : List ℕ) where
@@ -138,38 +106,6 @@ module _ (H : Held) (from to : List ℤ) (service : List ℕ) where
       ap (λ (n : ℕ). joined f n ++ joined g n) length-kinds
       ∙ ap (λ (l : List Piece). l ++ joined g (length from)) (joined-ext f (passAt false H from to service) (length from) others-pass)
       ∙ ap (λ (l : List Piece). joined (passAt false H from to service) (length from) ++ l) (joined-ext g (passAt true H from to service) (length from) lines-pass)
-
-  -- whether all points are finite
-  both-finite : (n : ℕ)
-      → (allOf (allOf finitePoint) (table (passRun false H from to service) n) && allOf (allOf finitePoint) (table (passRun true H from to service) n))
-      ≡ allOf (allOf finitePoint) (table (runAt H from to service) n)
-  unfolding passRun allOf
-  both-finite zero = rw (all-zero (allOf finitePoint) (passRun false H from to service), all-zero (allOf finitePoint) (passRun true H from to service), all-zero (allOf finitePoint) (runAt H from to service))
-  both-finite (suc n) =
-      rw (all-suc (allOf finitePoint) (passRun false H from to service) n, all-suc (allOf finitePoint) (passRun true H from to service) n, all-suc (allOf finitePoint) (runAt H from to service) n, ← both-finite n)
-      (go (isLine (kind n)) (allOf (allOf finitePoint) (table (passRun false H from to service) n)) (allOf (allOf finitePoint) (table (passRun true H from to service) n)) (runAt H from to service n))
-    where
-      go : (b x y : Bool) (ps : List Point)
-          → ((x && allOf finitePoint (pick (pick b false (not false)) ps [])) && (y && allOf finitePoint (pick (pick b true (not true)) ps [])))
-          ≡ ((x && y) && allOf finitePoint ps)
-      go true true true ps = refl
-      go true true false ps = refl
-      go true false y ps = refl
-      go false true true ps = at (allOf finitePoint ps)
-        where
-          at : (z : Bool) → (z && (true && true)) ≡ z
-          at true = refl
-          at false = refl
-      go false true false ps = at (allOf finitePoint ps)
-        where
-          at : (z : Bool) → (z && (false && true)) ≡ false
-          at true = refl
-          at false = refl
-      go false false y ps = refl
-
-  pub all-finite : (passFinite false H from to service && passFinite true H from to service) ≡ allOf (allOf finitePoint) (runsIn H from to service)
-  unfolding passFinite runsIn
-  all-finite = both-finite (length from)
 
   -- how many pieces there are
   few-points : (e : ℕ) (ps : List Point) (n : ℕ) → length ps ≤ n → length (pieces e ps) ≤ n
@@ -214,10 +150,6 @@ module _ (H : Held) (from to : List ℤ) (service : List ℕ) where
   pub others-are : othersIn (H .sub) (H .measures) (H .buses) (H .ends) (H .blocks) (H .frames) from to service ≡ passIn false H from to service
   unfolding othersIn passIn
   others-are = joined-ext (λ (e : ℕ). pieces e (other e)) (passAt false H from to service) (length from) (λ e h. ap (pieces e) (other-pass e))
-
-  pub others-finite : othersFinite (H .sub) (H .measures) (H .buses) (H .ends) (H .blocks) (H .frames) from to service ≡ passFinite false H from to service
-  unfolding othersFinite passFinite
-  others-finite = ap (allOf (allOf finitePoint)) (table-ext other (passRun false H from to service) (length from) (λ e h. other-pass e))
 
 -- ---- no branch past the last
 no-line : true ≡ isLine Undrawn → ⊥
@@ -291,12 +223,6 @@ module _ (H : Held) where
         ap (joined (λ (i : ℕ). requestPieces (H .lead) (H .frames) (H .ends) (getD list i (nothingAt 0)))) count
         ∙ joined-ext (λ (i : ℕ). requestPieces (H .lead) (H .frames) (H .ends) (getD list i (nothingAt 0))) (λ (i : ℕ). passAt true H from to service (start + i)) 16 pieces-in-block
 
-    pub block-finite : listFinite (H .lead) (H .frames) (H .ends) list ≡ blockFinite H from to service start
-    unfolding listFinite blockFinite
-    block-finite =
-        ap (λ (n : ℕ). allOf (allOf finitePoint) (table (λ (i : ℕ). requestRun (H .lead) (H .frames) (H .ends) (getD list i (nothingAt 0))) n)) count
-        ∙ ap (allOf (allOf finitePoint)) (table-ext (λ (i : ℕ). requestRun (H .lead) (H .frames) (H .ends) (getD list i (nothingAt 0))) (λ (i : ℕ). passRun true H from to service (start + i)) 16 run-in)
-
     pub block-room : (w : Bool) (at : ℕ) (n : List Float) (b : List ℕ) → RoomFor w at (blockIn H from to service start) n b → RoomFor w at (listPieces (H .lead) (H .frames) (H .ends) list) n b
     block-room w at n b h = subst (λ (z : List Piece). RoomFor w at z n b) (sym block-pieces) h
 
@@ -315,86 +241,79 @@ module _ (sub : List ℕ) (measures : Measures) (buses ends : List ℕ) (blocks 
   pub other-few : (c : ℕ) (path : List Float) → Ran c path (otherRun sub measures buses ends blocks frames e K) → c < 2 ^ 32
   other-few c path R = omega (arith, R .count, other-short)
 
-module _ (sub : List ℕ) (measures : Measures) (buses ends : List ℕ) (blocks frames : List Float) (from to : List ℤ) (service : List ℕ) (w : Bool) (t : Totals) (path n : List Float) (b : List ℕ) where
+module _ (sub : List ℕ) (measures : Measures) (buses ends : List ℕ) (blocks frames : List Float) (from to : List ℤ) (service : List ℕ) (w : Bool) (at : ℕ) (path n : List Float) (b : List ℕ) where
   abbrev otherAt : ℕ → List Point
   otherAt e = otherRun sub measures buses ends blocks frames e (kindOf sub from to service e)
 
-  pub record Others (e : ℕ) (s : Totals) (path' n' : List Float) (b' : List ℕ) : Type 0 where
-    pub going : Going w (λ (i : ℕ). pieces i (otherAt i)) otherAt (length from) t n b e s n' b'
+  pub record Others (e s : ℕ) (path' n' : List Float) (b' : List ℕ) : Type 0 where
+    pub going : Going w (λ (i : ℕ). pieces i (otherAt i)) (length from) at n b e s n' b'
     pub sized : length path' ≡ length path
 
-  pub others-none : RoomFor w (t .pieces) (othersIn sub measures buses ends blocks frames from to service) n b → Others 0 t path n b
+  pub others-none : RoomFor w at (othersIn sub measures buses ends blocks frames from to service) n b → Others 0 at path n b
   unfolding othersIn
-  others-none h = record { going = go-none w _ _ (length from) t n b h; sized = refl }
+  others-none h = record { going = go-none w _ (length from) at n b h; sized = refl }
 
-  module _ {e : ℕ} {s : Totals} {path' n' : List Float} {b' : List ℕ} (I : Others e s path' n' b') where
+  module _ {e s : ℕ} {path' n' : List Float} {b' : List ℕ} (I : Others e s path' n' b') where
     module _ {c : ℕ} {path'' : List Float} (R : Ran c path'' (otherAt e)) (l : e < length from) where
-      pub others-room : RoomFor w (s .pieces) (pieces e (pointsIn c path'')) n' b'
-      others-room = ran-room R w e (s .pieces) n' b' (go-room w _ _ (length from) t n b (I .going) l)
+      pub others-room : RoomFor w s (pieces e (pointsIn c path'')) n' b'
+      others-room = ran-room R w e s n' b' (go-room w _ (length from) at n b (I .going) l)
 
-      pub others-more : {r : Totals} {n'' : List Float} {b'' : List ℕ} → Passed w s r (pieces e (pointsIn c path'')) (allOf finitePoint (pointsIn c path'')) n' n'' b' b''
+      pub others-more : {r : ℕ} {n'' : List Float} {b'' : List ℕ} → Passed w s r (pieces e (pointsIn c path'')) n' n'' b' b''
           → length path'' ≡ length path' → length n'' ≡ length n' → length b'' ≡ length b' → Others (e + 1) r path'' n'' b''
-      others-more P d f g = record { going = go-more w _ _ (length from) t n b (I .going) l (ran-passed R w e P) f g; sized = d ∙ I .sized }
+      others-more P d f g = record { going = go-more w _ (length from) at n b (I .going) l (ran-passed R w e P) f g; sized = d ∙ I .sized }
 
-    pub others-end : length from ≤ e → Passed w t s (othersIn sub measures buses ends blocks frames from to service) (othersFinite sub measures buses ends blocks frames from to service) n n' b b'
-    unfolding othersIn othersFinite
-    others-end l = go-end w _ _ (length from) t n b (I .going) l
+    pub others-end : length from ≤ e → Passed w at s (othersIn sub measures buses ends blocks frames from to service) n n' b b'
+    unfolding othersIn
+    others-end l = go-end w _ (length from) at n b (I .going) l
 
 -- ---- the loop over blocks of lines: after the branches below `start`
-module _ (H : Held) (from to : List ℤ) (service : List ℕ) (w : Bool) (t : Totals) (path n : List Float) (b : List ℕ) where
+module _ (H : Held) (from to : List ℤ) (service : List ℕ) (w : Bool) (at : ℕ) (path n : List Float) (b : List ℕ) where
   abbrev F : ℕ → List Piece
   F = passAt true H from to service
 
-  abbrev R : ℕ → List Point
-  R = passRun true H from to service
-
-  past-run : (e : ℕ) → length from ≤ e → R e ≡ []
+  past-run : (e : ℕ) → length from ≤ e → passRun true H from to service e ≡ []
   unfolding passRun isLine
   past-run e h = ap (λ (K : Kind). pick (pick (isLine K) true (not true)) (runAt H from to service e) []) (past-kind (H .sub) from to service e h)
 
   past-pieces : (e : ℕ) → length from ≤ e → F e ≡ []
   past-pieces e h = ap (pieces e) (past-run e h) ∙ pieces-none e
 
-  past-finite : (e : ℕ) → length from ≤ e → allOf finitePoint (R e) ≡ true
-  unfolding allOf
-  past-finite e h = ap (allOf finitePoint) (past-run e h)
-
-  pub record Blocks (start : ℕ) (s : Totals) (path' n' : List Float) (b' : List ℕ) : Type 0 where
+  pub record Blocks (start s : ℕ) (path' n' : List Float) (b' : List ℕ) : Type 0 where
     pub near : start < length from + 16
-    pub passed : Passed w t s (joined F start) (allOf (allOf finitePoint) (table R start)) n n' b b'
-    pub room : RoomFor w (t .pieces) (joined F (length from)) n b
+    pub passed : Passed w at s (joined F start) n n' b b'
+    pub room : RoomFor w at (joined F (length from)) n b
     pub sized4 : length n' ≡ length n
     pub sized1 : length b' ≡ length b
     pub sized : length path' ≡ length path
 
-  pub blocks-none : RoomFor w (t .pieces) (passIn true H from to service) n b → Blocks 0 t path n b
+  pub blocks-none : RoomFor w at (passIn true H from to service) n b → Blocks 0 at path n b
   unfolding passIn
   blocks-none h =
       record {
         near = omega arith;
-        passed = passed-of (passed-none w t n b) (sym (joined-zero F)) (sym (all-zero (allOf finitePoint) R));
+        passed = passed-of (passed-none w at n b) (sym (joined-zero F));
         room = h;
         sized4 = refl;
         sized1 = refl;
         sized = refl;
       }
 
-  module _ {start : ℕ} {s : Totals} {path' n' : List Float} {b' : List ℕ} (I : Blocks start s path' n' b') where
+  module _ {start s : ℕ} {path' n' : List Float} {b' : List ℕ} (I : Blocks start s path' n' b') where
     block-most : length (joined F start) + length (blockIn H from to service start) ≤ length (joined F (length from))
     unfolding blockIn
     block-most =
         let z : length (joined F (start + 16)) ≤ length (joined F (length from)) = joined-most F (length from) past-pieces (start + 16) in
         omega (arith, ap length (joined-plus F start 16), length-append (joined F start) (joined (λ (i : ℕ). F (start + i)) 16))
 
-    pub blocks-room : RoomFor w (s .pieces) (blockIn H from to service start) n' b'
+    pub blocks-room : RoomFor w s (blockIn H from to service start) n' b'
     blocks-room =
-        let e : s .pieces ≡ t .pieces + length (joined F start) = I .passed .count in
+        let e : s ≡ at + length (joined F start) = I .passed .count in
         let z = block-most in
         (omega (arith, I .room .0), λ k. (omega (arith, I .room .1 k .0, I .sized4), omega (arith, I .room .1 k .1, I .sized1)))
 
-    pub blocks-more : {r : Totals} {path'' n'' : List Float} {b'' : List ℕ} → start < length from → Passed w s r (blockIn H from to service start) (blockFinite H from to service start) n' n'' b' b''
+    pub blocks-more : {r : ℕ} {path'' n'' : List Float} {b'' : List ℕ} → start < length from → Passed w s r (blockIn H from to service start) n' n'' b' b''
         → length path'' ≡ length path' → length n'' ≡ length n' → length b'' ≡ length b' → Blocks (start + 16) r path'' n'' b''
-    unfolding blockIn blockFinite
+    unfolding blockIn
     blocks-more l P d f g =
         let z = block-most in
         let y = length-append (joined F start) (joined (λ (i : ℕ). F (start + i)) 16) in
@@ -402,16 +321,16 @@ module _ (H : Held) (from to : List ℤ) (service : List ℕ) (w : Bool) (t : To
           near = omega arith;
           passed =
               passed-of (passed-more (I .passed) P (omega (arith, I .room .0), λ k. (omega (arith, I .room .1 k .0), omega (arith, I .room .1 k .1))))
-              (sym (joined-plus F start 16)) (sym (all-plus (allOf finitePoint) R start 16));
+              (sym (joined-plus F start 16));
           room = I .room;
           sized4 = f ∙ I .sized4;
           sized1 = g ∙ I .sized1;
           sized = d ∙ I .sized;
         }
 
-    pub blocks-end : length from ≤ start → Passed w t s (passIn true H from to service) (passFinite true H from to service) n n' b b'
-    unfolding passIn passFinite
-    blocks-end l = passed-of (I .passed) (joined-past F (length from) past-pieces start l) (all-past (allOf finitePoint) R (length from) past-finite start l)
+    pub blocks-end : length from ≤ start → Passed w at s (passIn true H from to service) n n' b b'
+    unfolding passIn
+    blocks-end l = passed-of (I .passed) (joined-past F (length from) past-pieces start l)
 
 -- ---- both passes
 pub unwritten : {X : Type 0} → false ≡ true → X
@@ -442,9 +361,6 @@ module _ (H : Held) (from to : List ℤ) (service : List ℕ) (path : List Float
   abbrev others : List Piece
   others = othersIn (H .sub) (H .measures) (H .buses) (H .ends) (H .blocks) (H .frames) from to service
 
-  abbrev others-ok : Bool
-  others-ok = othersFinite (H .sub) (H .measures) (H .buses) (H .ends) (H .blocks) (H .frames) from to service
-
   sum : length all ≡ length others + length (passIn true H from to service)
   sum = ap length (all-passes H from to service) ∙ length-append (passIn false H from to service) (passIn true H from to service)
       ∙ ap (λ (z : List Piece). length z + length (passIn true H from to service)) (sym (others-are H from to service))
@@ -461,37 +377,29 @@ module _ (H : Held) (from to : List ℤ) (service : List ℕ) (path : List Float
   pub others-below : 0 + length others < 2 ^ 64
   others-below = omega (arith, few-others)
 
-  pub lines-below : (s : Totals) → s .pieces ≡ 0 + length others → s .pieces + length (passIn true H from to service) < 2 ^ 64
+  pub lines-below : (s : ℕ) → s ≡ 0 + length others → s + length (passIn true H from to service) < 2 ^ 64
   lines-below s c = omega (arith, c, few-others, pass-small H from to service path fit small)
 
   module _ (l : ℕ) (n : List Float) (b : List ℕ) (room : RoomIf l all n b) (z : l ≡ 0) where
     pub others-room-at : RoomFor true 0 others n b
     others-room-at = (omega (arith, few-others), λ k. (omega (arith, room z .0, sum), omega (arith, room z .1, sum)))
 
-    pub lines-room-at : (s : Totals) (n' : List Float) (b' : List ℕ) → s .pieces ≡ 0 + length others → length n' ≡ length n → length b' ≡ length b
-        → RoomFor true (s .pieces) (passIn true H from to service) n' b'
+    pub lines-room-at : (s : ℕ) (n' : List Float) (b' : List ℕ) → s ≡ 0 + length others → length n' ≡ length n → length b' ≡ length b
+        → RoomFor true s (passIn true H from to service) n' b'
     lines-room-at s n' b' c d f =
         (omega (arith, c, few-others, pass-small H from to service path fit small), λ k. (omega (arith, room z .0, sum, c), omega (arith, room z .1, sum, c)))
 
-    pub both-written : {t s r : Totals} {n' n'' : List Float} {b' b'' : List ℕ} {f g : Bool} → t .pieces ≡ 0 → Passed true t s others f n n' b b'
-        → Passed true s r (passIn true H from to service) g n' n'' b' b'' → Put 0 (r .pieces) all n n'' b b''
-    both-written {t} {s} {r} {n'} {n''} {b'} {b''} {f} {g} e P Q =
+    pub both-written : {s r : ℕ} {n' n'' : List Float} {b' b'' : List ℕ} → Passed true 0 s others n n' b b' → Passed true s r (passIn true H from to service) n' n'' b' b''
+        → Put 0 r all n n'' b b''
+    both-written P Q =
         let k : length (others ++ passIn true H from to service) ≡ length all = length-append others (passIn true H from to service) ∙ sym sum in
-        let X : Passed true t r (others ++ passIn true H from to service) (f && g) n n'' b b'' =
-        passed-more P Q (omega (arith, e, few-others, length-append others (passIn true H from to service), pass-small H from to service path fit small), λ h. (omega (arith, room z .0), omega (arith, room z .1))) in
-        subst (λ (i : ℕ). Put i (r .pieces) all n n'' b b'') e
-        (put-of (X .written refl) (ap (λ (y : List Piece). y ++ passIn true H from to service) (others-are H from to service) ∙ sym (all-passes H from to service)))
+        let X = passed-more P Q (omega (arith, few-others, length-append others (passIn true H from to service), pass-small H from to service path fit small), λ h. (omega (arith, room z .0), omega (arith, room z .1))) in
+        put-of (X .written refl) (ap (λ (y : List Piece). y ++ passIn true H from to service) (others-are H from to service) ∙ sym (all-passes H from to service))
 
-  -- the survey's totals
-  module _ {t s r : Totals} {n n' n'' : List Float} {b b' b'' : List ℕ} {w : Bool} (e : t .pieces ≡ 0) (f : t .finite ≡ true) (P : Passed w t s others others-ok n n' b b')
-      (Q : Passed w s r (passIn true H from to service) (passFinite true H from to service) n' n'' b' b'') where
-    pub survey-count : r .pieces ≡ length all
-    survey-count = omega (arith, P .count, Q .count, e, sum)
+  -- how many pieces the survey counts
+  module _ {s r : ℕ} {n n' n'' : List Float} {b b' b'' : List ℕ} {w : Bool} (P : Passed w 0 s others n n' b b') (Q : Passed w s r (passIn true H from to service) n' n'' b' b'') where
+    pub survey-count : r ≡ length all
+    survey-count = omega (arith, P .count, Q .count, sum)
 
-    pub survey-finite : r .finite ≡ allOf (allOf finitePoint) (runsIn H from to service)
-    survey-finite =
-        Q .tested ∙ ap (λ (x : Bool). x && passFinite true H from to service) (P .tested ∙ ap (λ (x : Bool). x && others-ok) f ∙ others-finite H from to service)
-        ∙ all-finite H from to service
-
-    pub survey-few : r .pieces ≤ 2 ^ 45
+    pub survey-few : r ≤ 2 ^ 45
     survey-few = omega (arith, survey-count, sum, few-others, pass-small H from to service path fit small)

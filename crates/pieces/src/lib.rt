@@ -2,31 +2,22 @@
 pub mod lines;
 
 ghost use mathlib.Core.Path.{_≡_};
-ghost use mathlib.Core.Bool.{_&&_};
 ghost use mathlib.Core.List.{[], _∷_, map};
 ghost use Prim.Native.Nat.{_+_, _*_, _<_, _≤_, _^_};
 ghost use lib.ListN.{length};
 ghost use Rattle.network.specs.Words.{kinds};
 ghost use Rattle.network.specs.Views.{pointsIn};
-ghost use Rattle.runs.specs.Finite.{allOf, finitePoint};
 ghost use Rattle.runs.specs.Run.{apart, pieces, allPieces};
 ghost use Rattle.runs.specs.Lists.{flat, pieceNumbers, after};
 ghost use Rattle.runs.specs.Stages.Views.{held, lead, Stands};
-ghost use Rattle.pieces.specs.Stages.Pieces.{piece, branchOf, Counted, runsIn, othersIn, othersFinite, FitAll, RoomIf, Put};
+ghost use Rattle.pieces.specs.Stages.Pieces.{piece, branchOf, Counted, runsIn, othersIn, FitAll, RoomIf, Put};
 ghost use Rattle.pieces.specs.Stages.Passes.{RoomFor, Passed};
 use crate::lines::lead_lines;
 use float::small::abs;
-use float::small::is_finite;
 use geometry::Point;
 use geometry::point_at;
 use runs::run::run;
 use units::Measures;
-
-// How many pieces all runs have, and whether all their points are finite.
-pub struct Totals {
-    pub pieces: usize,
-    pub finite: bool,
-}
 
 // Whether two points differ.
 fn apart(p: Point, q: Point) -> bool
@@ -51,34 +42,6 @@ fn count_pieces(path: &[f64], c: usize) -> usize
         }
     }
     n
-}
-
-// Whether both hold.
-pub fn both(a: bool, b: bool) -> bool
-    ensures { λ r. ⌜ r ≡ a && b ⌝ }
-{
-    if a { b } else { false }
-}
-
-// Whether a point is finite.
-fn finite_point(p: Point) -> bool
-    ensures { λ r. ⌜ r ≡ finitePoint p ⌝ }
-{
-    both(is_finite(p.x), is_finite(p.y))
-}
-
-// Whether the first c points are finite.
-fn finite_points(path: &[f64], c: usize) -> bool
-    requires { ⌜ c < 2 ^ 32 ⌝ }
-    ensures { λ r. ⌜ r ≡ allOf finitePoint (pointsIn c (now (path .entry))) ⌝ }
-{
-    let mut all = true;
-    let mut j = 0;
-    while j < c {
-        all = both(all, finite_point(point_at(path, j)));
-        j += 1;
-    }
-    all
 }
 
 // Writes piece number k: branch e, from p to q.
@@ -121,35 +84,30 @@ fn put_pieces(
     k
 }
 
-// Adds the run of branch e, the first c points of path, to the totals of a pass, and writes its pieces where it is to write.
+// Counts the pieces of branch e through the first c points from number `first` on, writes them where it is to write, and answers the number after the last.
 pub(crate) fn tally(
     write: bool,
-    t: Totals,
+    first: usize,
     e: usize,
     path: &[f64],
     c: usize,
     numbers: &mut [f64],
     branches: &mut [u32],
-) -> Totals
+) -> usize
     requires { ⌜ (c < 2 ^ 32) × (e < 2 ^ 32) ⌝ }
-    requires { ⌜ RoomFor write (t .pieces) (pieces e (pointsIn c (now path))) (now numbers) (now branches) ⌝ }
-    ensures { λ r. ⌜ Passed write t r (pieces e (pointsIn c (now (path .entry)))) (allOf finitePoint (pointsIn c (now (path .entry)))) (now (numbers .entry)) (now (numbers .exit)) (now (branches .entry)) (now (branches .exit)) ⌝ }
+    requires { ⌜ RoomFor write first (pieces e (pointsIn c (now path))) (now numbers) (now branches) ⌝ }
+    ensures { λ r. ⌜ Passed write first r (pieces e (pointsIn c (now (path .entry)))) (now (numbers .entry)) (now (numbers .exit)) (now (branches .entry)) (now (branches .exit)) ⌝ }
 {
-    let finite = both(t.finite, finite_points(path, c));
     if write {
-        let n = put_pieces(path, c, e as u32, t.pieces, numbers, branches);
-        return Totals { pieces: n, finite };
+        return put_pieces(path, c, e as u32, first, numbers, branches);
     }
-    Totals {
-        pieces: t.pieces + count_pieces(path, c),
-        finite,
-    }
+    first + count_pieces(path, c)
 }
 
-// Adds the runs of the branches that are no lines to the totals of a pass.
+// Counts the pieces of the branches that are no lines from number `first` on, writes them where it is to write, and answers the number after the last.
 fn pass_others(
     write: bool,
-    t: Totals,
+    first: usize,
     sub: &[u32],
     from: &[i64],
     to: &[i64],
@@ -162,12 +120,12 @@ fn pass_others(
     path: &mut [f64],
     numbers: &mut [f64],
     branches: &mut [u32],
-) -> Totals
+) -> usize
     requires { ⌜ (length (now from) ≤ 8192) × (length (now sub) ≤ 4096) × (0 < length (now from) → 8 ≤ length (now path)) ⌝ }
-    requires { ⌜ RoomFor write (t .pieces) (othersIn (now sub) measures (now buses) (now ends) (now blocks) (now frames) (now from) (now to) (now service)) (now numbers) (now branches) ⌝ }
-    ensures { λ r. ⌜ Passed write t r (othersIn (now (sub .entry)) measures (now (buses .entry)) (now (ends .entry)) (now (blocks .entry)) (now (frames .entry)) (now (from .entry)) (now (to .entry)) (now (service .entry))) (othersFinite (now (sub .entry)) measures (now (buses .entry)) (now (ends .entry)) (now (blocks .entry)) (now (frames .entry)) (now (from .entry)) (now (to .entry)) (now (service .entry))) (now (numbers .entry)) (now (numbers .exit)) (now (branches .entry)) (now (branches .exit)) ⌝ }
+    requires { ⌜ RoomFor write first (othersIn (now sub) measures (now buses) (now ends) (now blocks) (now frames) (now from) (now to) (now service)) (now numbers) (now branches) ⌝ }
+    ensures { λ r. ⌜ Passed write first r (othersIn (now (sub .entry)) measures (now (buses .entry)) (now (ends .entry)) (now (blocks .entry)) (now (frames .entry)) (now (from .entry)) (now (to .entry)) (now (service .entry))) (now (numbers .entry)) (now (numbers .exit)) (now (branches .entry)) (now (branches .exit)) ⌝ }
 {
-    let mut done = t;
+    let mut next = first;
     let mut e = 0;
     while e < from.len() {
         let c = run(
@@ -183,13 +141,13 @@ fn pass_others(
             e,
             path,
         );
-        done = tally(write, done, e, path, c, numbers, branches);
+        next = tally(write, next, e, path, c, numbers, branches);
         e += 1;
     }
-    done
+    next
 }
 
-// Counts the pieces of all runs, and tests their points. `index` enters boxes by cell, or none.
+// Counts the pieces of all runs. `index` enters boxes by cell, or none.
 pub fn survey(
     sub: &[u32],
     from: &[i64],
@@ -209,22 +167,18 @@ pub fn survey(
     index: &[u32],
     ways: &[f64],
     path: &mut [f64],
-) -> Totals
+) -> usize
     requires { ⌜ (length (now from) ≤ 8192) × (length (now sub) ≤ 4096) ⌝ }
     requires { ⌜ FitAll (now from) (now ends) (now path) ⌝ }
     requires { ⌜ Stands cell k (now stations) (now frames) (now index) ⌝ }
-    ensures { λ r. ⌜ r .pieces ≡ length (allPieces (kinds (now (sub .entry)) (now (from .entry)) (now (to .entry)) (now (service .entry))) (runsIn (held (now (sub .entry)) measures (now (buses .entry)) (now (ends .entry)) (now (blocks .entry)) (now (places .entry)) (now (frames .entry)) (lead led cell gap k (now (stations .entry)) (now (ways .entry)))) (now (from .entry)) (now (to .entry)) (now (service .entry)))) ⌝ }
-    ensures { λ r. ⌜ r .finite ≡ allOf (allOf finitePoint) (runsIn (held (now (sub .entry)) measures (now (buses .entry)) (now (ends .entry)) (now (blocks .entry)) (now (places .entry)) (now (frames .entry)) (lead led cell gap k (now (stations .entry)) (now (ways .entry)))) (now (from .entry)) (now (to .entry)) (now (service .entry))) ⌝ }
-    ensures { λ r. ⌜ r .pieces ≤ 2 ^ 45 ⌝ }
+    ensures { λ r. ⌜ r ≡ length (allPieces (kinds (now (sub .entry)) (now (from .entry)) (now (to .entry)) (now (service .entry))) (runsIn (held (now (sub .entry)) measures (now (buses .entry)) (now (ends .entry)) (now (blocks .entry)) (now (places .entry)) (now (frames .entry)) (lead led cell gap k (now (stations .entry)) (now (ways .entry)))) (now (from .entry)) (now (to .entry)) (now (service .entry)))) ⌝ }
+    ensures { λ r. ⌜ r ≤ 2 ^ 45 ⌝ }
 {
     let mut numbers = [0.0; 1];
     let mut branches: [u32; 1] = [0; 1];
-    let t = pass_others(
+    let next = pass_others(
         false,
-        Totals {
-            pieces: 0,
-            finite: true,
-        },
+        0,
         sub,
         from,
         to,
@@ -240,7 +194,7 @@ pub fn survey(
     );
     lead_lines(
         false,
-        t,
+        next,
         sub,
         from,
         to,
@@ -298,12 +252,9 @@ pub fn write_pieces(
     if l != 0 {
         return;
     }
-    let t = pass_others(
+    let next = pass_others(
         true,
-        Totals {
-            pieces: 0,
-            finite: true,
-        },
+        0,
         sub,
         from,
         to,
@@ -319,7 +270,7 @@ pub fn write_pieces(
     );
     lead_lines(
         true,
-        t,
+        next,
         sub,
         from,
         to,

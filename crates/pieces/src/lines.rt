@@ -3,11 +3,9 @@ ghost use mathlib.Core.Path.{_≡_};
 ghost use mathlib.Core.Bool.{true};
 ghost use Prim.Native.Nat.{_<_, _≤_, _^_};
 ghost use lib.ListN.{length};
-ghost use Rattle.runs.specs.Finite.{allOf, finitePoint};
 ghost use Rattle.runs.specs.Stages.Views.{held, lead, Stands};
-ghost use Rattle.pieces.specs.Stages.Pieces.{FitAll, passIn, passFinite, blockIn, blockFinite};
-ghost use Rattle.pieces.specs.Stages.Passes.{requestRun, requestPieces, listPieces, listFinite, Asks, AskAll, RoomFor, Passed};
-use crate::Totals;
+ghost use Rattle.pieces.specs.Stages.Pieces.{FitAll, passIn, blockIn};
+ghost use Rattle.pieces.specs.Stages.Passes.{requestPieces, listPieces, Asks, AskAll, RoomFor, Passed};
 use crate::tally;
 use order::at;
 use requests::request::LineRequest;
@@ -16,11 +14,11 @@ use requests::request::requests_from;
 use runs::run::run_line;
 use units::Measures;
 
-// Leads the line that a request asks for, and adds its run to the totals.
+// Leads the line that a request asks for, counts its pieces from number `first` on, writes them where it is to write, and answers the number after the last.
 fn lead_line(
     r: LineRequest,
     write: bool,
-    t: Totals,
+    first: usize,
     led: bool,
     cell: f64,
     gap: f64,
@@ -33,12 +31,12 @@ fn lead_line(
     path: &mut [f64],
     numbers: &mut [f64],
     branches: &mut [u32],
-) -> Totals
-    requires { ⌜ (Stands cell k (now stations) (now frames) (now index)) × (Asks (now ends) (now path) r) × (RoomFor write (t .pieces) (requestPieces (lead led cell gap k (now stations) (now ways)) (now frames) (now ends) r) (now numbers) (now branches)) ⌝ }
-    ensures { λ s. ⌜ Passed write t s (requestPieces (lead led cell gap k (now (stations .entry)) (now (ways .entry))) (now (frames .entry)) (now (ends .entry)) r) (allOf finitePoint (requestRun (lead led cell gap k (now (stations .entry)) (now (ways .entry))) (now (frames .entry)) (now (ends .entry)) r)) (now (numbers .entry)) (now (numbers .exit)) (now (branches .entry)) (now (branches .exit)) ⌝ }
+) -> usize
+    requires { ⌜ (Stands cell k (now stations) (now frames) (now index)) × (Asks (now ends) (now path) r) × (RoomFor write first (requestPieces (lead led cell gap k (now stations) (now ways)) (now frames) (now ends) r) (now numbers) (now branches)) ⌝ }
+    ensures { λ s. ⌜ Passed write first s (requestPieces (lead led cell gap k (now (stations .entry)) (now (ways .entry))) (now (frames .entry)) (now (ends .entry)) r) (now (numbers .entry)) (now (numbers .exit)) (now (branches .entry)) (now (branches .exit)) ⌝ }
 {
     if r.sa == r.sb {
-        return t;
+        return first;
     }
     let e = r.e;
     let w = at(ends, 4 * e + 2) as usize;
@@ -62,14 +60,14 @@ fn lead_line(
         n,
         path,
     );
-    tally(write, t, e, path, c, numbers, branches)
+    tally(write, first, e, path, c, numbers, branches)
 }
 
 // Leads the lines that a lent list of requests asks for, one after the other.
 fn lead_requests(
     list: &[LineRequest],
     write: bool,
-    t: Totals,
+    first: usize,
     led: bool,
     cell: f64,
     gap: f64,
@@ -82,18 +80,18 @@ fn lead_requests(
     path: &mut [f64],
     numbers: &mut [f64],
     branches: &mut [u32],
-) -> Totals
-    requires { ⌜ (Stands cell k (now stations) (now frames) (now index)) × (AskAll (now ends) (now path) (now list)) × (RoomFor write (t .pieces) (listPieces (lead led cell gap k (now stations) (now ways)) (now frames) (now ends) (now list)) (now numbers) (now branches)) ⌝ }
-    ensures { λ s. ⌜ Passed write t s (listPieces (lead led cell gap k (now (stations .entry)) (now (ways .entry))) (now (frames .entry)) (now (ends .entry)) (now (list .entry))) (listFinite (lead led cell gap k (now (stations .entry)) (now (ways .entry))) (now (frames .entry)) (now (ends .entry)) (now (list .entry))) (now (numbers .entry)) (now (numbers .exit)) (now (branches .entry)) (now (branches .exit)) ⌝ }
+) -> usize
+    requires { ⌜ (Stands cell k (now stations) (now frames) (now index)) × (AskAll (now ends) (now path) (now list)) × (RoomFor write first (listPieces (lead led cell gap k (now stations) (now ways)) (now frames) (now ends) (now list)) (now numbers) (now branches)) ⌝ }
+    ensures { λ s. ⌜ Passed write first s (listPieces (lead led cell gap k (now (stations .entry)) (now (ways .entry))) (now (frames .entry)) (now (ends .entry)) (now (list .entry))) (now (numbers .entry)) (now (numbers .exit)) (now (branches .entry)) (now (branches .exit)) ⌝ }
 {
-    let mut done = t;
+    let mut next = first;
     let mut i = 0;
     while i < list.len() {
         let r = request_at(list, i);
-        done = lead_line(
+        next = lead_line(
             r,
             write,
-            done,
+            next,
             led,
             cell,
             gap,
@@ -109,14 +107,14 @@ fn lead_requests(
         );
         i += 1;
     }
-    done
+    next
 }
 
 // Lends a block of requests.
 fn lead_list(
     list: [LineRequest; 16],
     write: bool,
-    t: Totals,
+    first: usize,
     led: bool,
     cell: f64,
     gap: f64,
@@ -129,14 +127,14 @@ fn lead_list(
     path: &mut [f64],
     numbers: &mut [f64],
     branches: &mut [u32],
-) -> Totals
-    requires { ⌜ (Stands cell k (now stations) (now frames) (now index)) × (AskAll (now ends) (now path) list) × (RoomFor write (t .pieces) (listPieces (lead led cell gap k (now stations) (now ways)) (now frames) (now ends) list) (now numbers) (now branches)) ⌝ }
-    ensures { λ s. ⌜ Passed write t s (listPieces (lead led cell gap k (now (stations .entry)) (now (ways .entry))) (now (frames .entry)) (now (ends .entry)) list) (listFinite (lead led cell gap k (now (stations .entry)) (now (ways .entry))) (now (frames .entry)) (now (ends .entry)) list) (now (numbers .entry)) (now (numbers .exit)) (now (branches .entry)) (now (branches .exit)) ⌝ }
+) -> usize
+    requires { ⌜ (Stands cell k (now stations) (now frames) (now index)) × (AskAll (now ends) (now path) list) × (RoomFor write first (listPieces (lead led cell gap k (now stations) (now ways)) (now frames) (now ends) list) (now numbers) (now branches)) ⌝ }
+    ensures { λ s. ⌜ Passed write first s (listPieces (lead led cell gap k (now (stations .entry)) (now (ways .entry))) (now (frames .entry)) (now (ends .entry)) list) (now (numbers .entry)) (now (numbers .exit)) (now (branches .entry)) (now (branches .exit)) ⌝ }
 {
     lead_requests(
         &list,
         write,
-        t,
+        first,
         led,
         cell,
         gap,
@@ -156,7 +154,7 @@ fn lead_list(
 fn lead_block(
     start: usize,
     write: bool,
-    t: Totals,
+    first: usize,
     sub: &[u32],
     from: &[i64],
     to: &[i64],
@@ -177,12 +175,12 @@ fn lead_block(
     path: &mut [f64],
     numbers: &mut [f64],
     branches: &mut [u32],
-) -> Totals
+) -> usize
     requires { ⌜ (length (now from) ≤ 8192) × (length (now sub) ≤ 4096) ⌝ }
     requires { ⌜ FitAll (now from) (now ends) (now path) ⌝ }
     requires { ⌜ Stands cell k (now stations) (now frames) (now index) ⌝ }
-    requires { ⌜ (start < 2 ^ 31) × RoomFor write (t .pieces) (blockIn (held (now sub) measures (now buses) (now ends) (now blocks) (now places) (now frames) (lead led cell gap k (now stations) (now ways))) (now from) (now to) (now service) start) (now numbers) (now branches) ⌝ }
-    ensures { λ s. ⌜ Passed write t s (blockIn (held (now (sub .entry)) measures (now (buses .entry)) (now (ends .entry)) (now (blocks .entry)) (now (places .entry)) (now (frames .entry)) (lead led cell gap k (now (stations .entry)) (now (ways .entry)))) (now (from .entry)) (now (to .entry)) (now (service .entry)) start) (blockFinite (held (now (sub .entry)) measures (now (buses .entry)) (now (ends .entry)) (now (blocks .entry)) (now (places .entry)) (now (frames .entry)) (lead led cell gap k (now (stations .entry)) (now (ways .entry)))) (now (from .entry)) (now (to .entry)) (now (service .entry)) start) (now (numbers .entry)) (now (numbers .exit)) (now (branches .entry)) (now (branches .exit)) ⌝ }
+    requires { ⌜ (start < 2 ^ 31) × RoomFor write first (blockIn (held (now sub) measures (now buses) (now ends) (now blocks) (now places) (now frames) (lead led cell gap k (now stations) (now ways))) (now from) (now to) (now service) start) (now numbers) (now branches) ⌝ }
+    ensures { λ s. ⌜ Passed write first s (blockIn (held (now (sub .entry)) measures (now (buses .entry)) (now (ends .entry)) (now (blocks .entry)) (now (places .entry)) (now (frames .entry)) (lead led cell gap k (now (stations .entry)) (now (ways .entry)))) (now (from .entry)) (now (to .entry)) (now (service .entry)) start) (now (numbers .entry)) (now (numbers .exit)) (now (branches .entry)) (now (branches .exit)) ⌝ }
 {
     let list = requests_from(
         sub,
@@ -200,7 +198,7 @@ fn lead_block(
     lead_list(
         list,
         write,
-        t,
+        first,
         led,
         cell,
         gap,
@@ -219,7 +217,7 @@ fn lead_block(
 // Leads all lines, each by branch number.
 pub(crate) fn lead_lines(
     write: bool,
-    t: Totals,
+    first: usize,
     sub: &[u32],
     from: &[i64],
     to: &[i64],
@@ -240,20 +238,20 @@ pub(crate) fn lead_lines(
     path: &mut [f64],
     numbers: &mut [f64],
     branches: &mut [u32],
-) -> Totals
+) -> usize
     requires { ⌜ (length (now from) ≤ 8192) × (length (now sub) ≤ 4096) ⌝ }
     requires { ⌜ FitAll (now from) (now ends) (now path) ⌝ }
     requires { ⌜ Stands cell k (now stations) (now frames) (now index) ⌝ }
-    requires { ⌜ RoomFor write (t .pieces) (passIn true (held (now sub) measures (now buses) (now ends) (now blocks) (now places) (now frames) (lead led cell gap k (now stations) (now ways))) (now from) (now to) (now service)) (now numbers) (now branches) ⌝ }
-    ensures { λ s. ⌜ Passed write t s (passIn true (held (now (sub .entry)) measures (now (buses .entry)) (now (ends .entry)) (now (blocks .entry)) (now (places .entry)) (now (frames .entry)) (lead led cell gap k (now (stations .entry)) (now (ways .entry)))) (now (from .entry)) (now (to .entry)) (now (service .entry))) (passFinite true (held (now (sub .entry)) measures (now (buses .entry)) (now (ends .entry)) (now (blocks .entry)) (now (places .entry)) (now (frames .entry)) (lead led cell gap k (now (stations .entry)) (now (ways .entry)))) (now (from .entry)) (now (to .entry)) (now (service .entry))) (now (numbers .entry)) (now (numbers .exit)) (now (branches .entry)) (now (branches .exit)) ⌝ }
+    requires { ⌜ RoomFor write first (passIn true (held (now sub) measures (now buses) (now ends) (now blocks) (now places) (now frames) (lead led cell gap k (now stations) (now ways))) (now from) (now to) (now service)) (now numbers) (now branches) ⌝ }
+    ensures { λ s. ⌜ Passed write first s (passIn true (held (now (sub .entry)) measures (now (buses .entry)) (now (ends .entry)) (now (blocks .entry)) (now (places .entry)) (now (frames .entry)) (lead led cell gap k (now (stations .entry)) (now (ways .entry)))) (now (from .entry)) (now (to .entry)) (now (service .entry))) (now (numbers .entry)) (now (numbers .exit)) (now (branches .entry)) (now (branches .exit)) ⌝ }
 {
-    let mut done = t;
+    let mut next = first;
     let mut start = 0;
     while start < from.len() {
-        done = lead_block(
+        next = lead_block(
             start,
             write,
-            done,
+            next,
             sub,
             from,
             to,
@@ -277,5 +275,5 @@ pub(crate) fn lead_lines(
         );
         start += 16;
     }
-    done
+    next
 }

@@ -1,8 +1,7 @@
 -- What each stage ensures, joined.
 -- Assumes nothing.
-use Prim.Native.Nat.{ℕ, _*_}
+use Prim.Native.Nat.{ℕ}
 use mathlib.Core.Path.{_≡_, sym, ap, _∙_, subst}
-use mathlib.Core.Bool.{Bool}
 use mathlib.Core.List.{List}
 use lib.IntN.{ℤ}
 use lib.ListN.{length}
@@ -13,7 +12,6 @@ use Rattle.network.specs.declared.options.Options.{Options}
 use Rattle.network.specs.declared.words.Kind.{Kind}
 use Rattle.network.specs.Words.{busCounts, kinds}
 use Rattle.network.specs.Seed as Seed
-use Rattle.network.specs.Refusal.{everyFinite}
 use Rattle.network.specs.Views.{countsIn, columnsIn, orderIn, fromRowsIn, toRowsIn, pointsIn, boxesIn}
 use Rattle.stations.specs.Column as Column
 use Rattle.stations.specs.Row as Row
@@ -36,7 +34,7 @@ module _ (o : Options) (sub kv : List ℕ) (from to : List ℤ) (service : List 
   ss : List Point
   ss = Seed.seeds sub xy
 
-  pub interiors-joined : (unit : Float) (finite : Bool) (st₁ st₂ st buses ends : List ℕ) (places blocks : List Float)
+  pub interiors-joined : (unit : Float) (st₁ st₂ st buses ends : List ℕ) (places blocks : List Float)
       → countsIn k st₁ ≡ busCounts sub
       → pointsIn k places ≡ Seed.seeds sub xy
       → columnsIn (length sub) buses ≡ Column.columns sub kv
@@ -48,10 +46,9 @@ module _ (o : Options) (sub kv : List ℕ) (from to : List ℤ) (service : List 
       → unit ≡ Unit.unitFor (o .fill) (Unit.spacing (pointsIn k places) (countsIn k st)) (Unit.typical (Size.sizesFor (o .gaps) (countsIn k st) (rowCountsIn k st)) (countsIn k st))
       → sizesIn k blocks ≡ Size.sizesFor (o .gaps) (countsIn k st) (rowCountsIn k st)
       → scalesIn k blocks ≡ Scale.scales o (pointsIn k places) (countsIn k st) (Unit.spacing (pointsIn k places) (countsIn k st))
-      → finite ≡ everyFinite (2 * k) places
-      → Interiors o sub kv from to service xy k unit finite st buses ends places blocks
+      → Interiors o sub kv from to service xy k unit st buses ends places blocks
   unfolding ks ss
-  interiors-joined unit finite st₁ st₂ st buses ends places blocks c₁ p col c₂ fr tr rs c₃ u z sc f =
+  interiors-joined unit st₁ st₂ st buses ends places blocks c₁ p col c₂ fr tr rs c₃ u z sc =
       let c : countsIn k st ≡ busCounts sub = c₃ ∙ c₂ ∙ c₁ in
       let v : Size.sizesFor (o .gaps) (countsIn k st) (rowCountsIn k st) ≡ Size.sizes (o .gaps) sub ks (busCounts sub) = sizes-view _ _ _ _ _ _ c rs in
       record {
@@ -63,7 +60,6 @@ module _ (o : Options) (sub kv : List ℕ) (from to : List ℤ) (service : List 
         sizes = z ∙ v;
         scales = sc ∙ cc (p, c);
         unitIs = u ∙ cc (p, c, v);
-        finiteIs = f;
       }
 
 pub settled-joined : (sub kv : List ℕ) (k r : ℕ) (measures : Measures) (search : ℕ) (blocks : List Float) (seeds : List Point) (st : List ℕ) (places frames : List Float)

@@ -6,7 +6,6 @@ ghost use Rattle.network.specs.Words.{stationCount, busCounts};
 ghost use Rattle.network.specs.Views.{countsIn, pointsIn};
 ghost use Rattle.plan.specs.Stages.Plan.{Interiors, Settled};
 use network::options::Options;
-use network::refuse::finite_to;
 use network::seed::seeds;
 use network::words::bus_counts;
 use placement::search::place_by_table;
@@ -17,13 +16,7 @@ use turns::turns::placement_order;
 use units::Measures;
 use units::units;
 
-// The unit of a drawing, and whether all seeds are finite.
-pub struct Inside {
-    pub unit: f64,
-    pub finite: bool,
-}
-
-// Bus counts, seeds, columns, rows, sizes, the unit and scales of k stations.
+// Bus counts, seeds, columns, rows, sizes and scales of k stations; answers the unit.
 pub fn interiors(
     o: Options,
     sub: &[u32],
@@ -43,11 +36,11 @@ pub fn interiors(
     blocks: &mut [f64],
     frames: &mut [f64],
     path: &mut [f64],
-) -> Inside
+) -> f64
     requires { ⌜ (k ≡ stationCount (now sub)) × (length (now sub) ≤ 4096) × (k ≤ 4096) × (length (now from) ≤ 8192) × (length (now kv) ≡ length (now sub)) ⌝ }
     requires { ⌜ (2 * k ≤ length (now stations)) × (3 * length (now sub) ≤ length (now buses)) × (4 * length (now from) ≤ length (now ends)) × (2 * k ≤ length (now places)) × (3 * k ≤ length (now blocks)) × (4 * k ≤ length (now frames)) × (2 * k ≤ length (now path)) ⌝ }
     requires { ⌜ (length (now sub) + 2 * length (now from) ≤ length (now sorted)) × (length (now sub) + 2 * length (now from) ≤ length (now spare)) × (length (now sub) + 2 * length (now from) ≤ length (now keys)) × (k ≤ length (now sub)) ⌝ }
-    ensures { λ r. ⌜ Interiors o (now (sub .entry)) (now (kv .entry)) (now (from .entry)) (now (to .entry)) (now (service .entry)) (now (xy .entry)) k (r .unit) (r .finite) (now (stations .exit)) (now (buses .exit)) (now (ends .exit)) (now (places .exit)) (now (blocks .exit)) ⌝ }
+    ensures { λ r. ⌜ Interiors o (now (sub .entry)) (now (kv .entry)) (now (from .entry)) (now (to .entry)) (now (service .entry)) (now (xy .entry)) k r (now (stations .exit)) (now (buses .exit)) (now (ends .exit)) (now (places .exit)) (now (blocks .exit)) ⌝ }
 {
     bus_counts(sub, k, stations);
     seeds(sub, xy, k, stations, places);
@@ -65,7 +58,7 @@ pub fn interiors(
         sorted,
         spare,
     );
-    let unit = units(
+    units(
         o,
         k,
         stations,
@@ -76,9 +69,7 @@ pub fn interiors(
         keys,
         sorted,
         spare,
-    );
-    let finite = finite_to(places, 2 * k);
-    Inside { unit, finite }
+    )
 }
 
 // The places of k stations, from their seeds, and their boxes.

@@ -1,12 +1,11 @@
 -- The bounds of a drawing station by station, and bars bus by bus: what is left of a scan. Assumes nothing.
-use mathlib.Core.Path.{_≡_, refl, sym, ap, _∙_}
-use mathlib.Core.Bool.{Bool, true, false, _&&_}
-use mathlib.Core.List.{List, [], _∷_}
-use Prim.Native.Nat.{ℕ, suc, _+_, _*_, _≤_, _<_}
+use mathlib.Core.Path.{_≡_, sym, ap, _∙_}
+use mathlib.Core.Bool.{Bool, true, false}
+use mathlib.Core.List.{List}
+use Prim.Native.Nat.{ℕ, _+_, _*_, _≤_, _<_}
 use lib.ListN.{getD}
 use lib.Ieee.{Float}
 use Rattle.order.specs.Order.{pick}
-use Rattle.order.specs.Table.{table}
 use Rattle.float.specs.Ops.{f0, f1}
 use Rattle.float.specs.Small.{isFinite}
 use Rattle.geometry.specs.declared.Box.{Box}
@@ -14,9 +13,8 @@ use Rattle.geometry.specs.Plane.{boxAt}
 use Rattle.network.specs.Words.{occupied}
 use Rattle.network.specs.Views.{countsIn, boxesIn}
 use Rattle.network.proofs.Views.{getD-boxes}
-use Rattle.placement.specs.Place.{noBox, boxIn}
-use Rattle.placement.proofs.Rest.{rest, rest-start, rest-more, rest-end, onward, onward-start, onward-yes, onward-no, onward-end}
-use Rattle.runs.specs.Finite.{allOf}
+use Rattle.placement.specs.Place.{noBox}
+use Rattle.placement.proofs.Rest.{onward, onward-start, onward-yes, onward-no, onward-end}
 use Rattle.results.specs.Bounds.{around, aroundAll, nowhere, boundsOf}
 
 -- ---- the box around the occupied stations' boxes
@@ -55,25 +53,3 @@ module _ (bs : List Box) (ss : List ℕ) (b : Box) (t : Bool) (e : b ≡ aroundA
 
   pub bounds-none : t ≡ false → unit-box ≡ boundsOf bs ss
   bounds-none h = ap (λ (x : Bool). pick x b unit-box) (sym h) ∙ bounds-by
-
--- ---- whether all of a table pass a test
-module _ {A : Type 0} (p : A → Bool) (f : ℕ → A) (n : ℕ) where
-  abbrev pub Left : ℕ → Type 0
-  Left i = allOf p (rest f n i) ≡ allOf p (table f n)
-
-  pub all-start : Left 0
-  all-start = ap (allOf p) (rest-start f n)
-
-  all-at : (i : ℕ) (x : A) (b : Bool) → i < n → x ≡ f i → b ≡ p x → allOf p (rest f n i) ≡ b && allOf p (rest f n (i + 1))
-  unfolding allOf
-  all-at i x b h e q = ap (allOf p) (rest-more f n i h) ∙ ap (λ (t : Bool). t && allOf p (rest f n (i + 1))) (ap p (sym e) ∙ sym q)
-
-  pub all-yes : (i : ℕ) (x : A) (b : Bool) → i < n → x ≡ f i → b ≡ p x → b ≡ true → Left i → Left (i + 1)
-  all-yes i x b h e q t l = sym (all-at i x b h e q ∙ ap (λ (y : Bool). y && allOf p (rest f n (i + 1))) t) ∙ l
-
-  pub all-fails : (i : ℕ) (x : A) (b : Bool) → i < n → x ≡ f i → b ≡ p x → b ≡ false → Left i → false ≡ allOf p (table f n)
-  all-fails i x b h e q t l = sym (all-at i x b h e q ∙ ap (λ (y : Bool). y && allOf p (rest f n (i + 1))) t) ∙ l
-
-  pub all-end : (i : ℕ) → n ≤ i → Left i → true ≡ allOf p (table f n)
-  unfolding allOf
-  all-end i h l = sym (ap (allOf p) (rest-end f n i h)) ∙ l

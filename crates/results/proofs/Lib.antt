@@ -2,4 +2,3 @@
 pub mod Writes
 pub mod Bounding
 pub mod Turns
-pub mod Finites

@@ -1,51 +1,21 @@
--- The rounds' end: all places finite, and what the steps of the code give together. Assumes nothing.
+-- The rounds' end: what the steps of the code give together. Assumes nothing.
 use mathlib.Core.Path.{_≡_, refl, sym, ap, _∙_, subst}
-use mathlib.Core.Bool.{Bool, true, false, _&&_}
 use mathlib.Core.List.{List, [], _∷_, _++_, map}
 use Prim.Native.Nat.{ℕ, zero, suc, _+_, _*_, _≤_, _<_}
 use native.Mathlib.Omega.{arith}
 use lib.IntN.{ℤ}
 use lib.ListN.{length, getD, take, length-map, length-take}
-use lib.Seq.{take-suc}
 use lib.Ieee.{Float, nan}
-use Rattle.float.specs.Small.{isFinite}
 use Rattle.order.specs.Table.{table, strided}
 use Rattle.order.proofs.Tables.{table-ext}
 use Rattle.network.specs.Views.{pointsIn, fromRowsIn, toRowsIn}
-use Rattle.network.specs.Refusal.{everyFinite}
 use Rattle.units.specs.declared.Measures.{Measures}
-use Rattle.runs.specs.Finite.{allOf}
 use Rattle.crossings.specs.Route.{Scene, Routing, Crossing, pointOf, roundsTo, routing}
 use Rattle.crossings.specs.Stages.Views.{grid, sceneIn, Stored}
 use Rattle.wishes.specs.Stages.Held.{Held, held, edgeIn, pointHeld, pointIn, roundsIn, stationIn, Cornered, Ranged, Ready, Entered}
 use Rattle.grouping.specs.Stages.Grouped.{Grouped}
 use Rattle.rounds.proofs.Meaning.{Means, point-is, rounds-are}
 use Rattle.rounds.proofs.Holding.{G, S, R, H, cornered, means, ready}
-
--- ---- all of the first c are finite
-
-and-more : (a b : Bool) (p : Bool) → (a && b) && p ≡ a && (b && p)
-and-more true b p = refl
-and-more false b p = refl
-
-and-true : (p : Bool) → p && true ≡ p
-and-true true = refl
-and-true false = refl
-
-all-more : (p : Float → Bool) (l : List Float) (y : Float) → allOf p (l ++ (y ∷ [])) ≡ allOf p l && p y
-unfolding allOf
-all-more p [] y = and-true (p y)
-all-more p (x ∷ xs) y = ap (λ (b : Bool). p x && b) (all-more p xs y) ∙ sym (and-more (p x) (allOf p xs) (p y))
-
-every-all : (c : ℕ) (l : List Float) → c ≤ length l → everyFinite c l ≡ allOf isFinite (take c l)
-unfolding everyFinite allOf
-every-all zero l h = refl
-every-all (suc c) l h =
-    ap (λ (b : Bool). b && isFinite (getD l c nan)) (every-all c l (omega arith))
-    ∙ sym (all-more isFinite (take c l) (getD l c nan))
-    ∙ ap (allOf isFinite) (sym (take-suc l c nan h))
-
--- ---- the steps together
 
 module _ (sub : List ℕ) (from to : List ℤ) (service : List ℕ) (measures : Measures) (ends : List ℕ) (blocks places frames : List Float) (k c : ℕ) (stations : List ℕ) (centres : List Float)
     (corners twins numbers : List ℕ) (along : List Float) (channels crossings : ℕ)
@@ -76,12 +46,6 @@ module _ (sub : List ℕ) (from to : List ℤ) (service : List ℕ) (measures : 
       (subst (λ (t : ℕ). Ready H′ (length (R′ .channels)) t) (sym (entered .crossings-are))
       (ready sub from to service measures ends blocks places frames k c stations centres corners twins numbers along ends′ numbers′ centres′ (entered .mesh) (entered .exits) (entered .boxes) (entered .occupied) (entered .stored) grouped-all))
 
-  long : crossings ≤ length along
-  long =
-      let e = ap length (entered .stored .placed) ∙ length-map (R′ .crossings) (λ (x : Crossing). x .place) in
-      let f = length-take (length (R′ .crossings)) along in
-      omega (arith, entered .crossings-are)
-
   started : take (length (R′ .crossings)) along ≡ roundsTo S′ R′ 0
   unfolding roundsTo
   started = entered .stored .placed
@@ -100,7 +64,3 @@ module _ (sub : List ℕ) (from to : List ℤ) (service : List ℕ) (measures : 
         e
         ∙ table-ext (pointHeld H′ l) (pointOf S′ R′ (roundsTo S′ R′ n)) crossings
         (λ x g. point-is S′ R′ c H′ meaning l x (omega (arith, entered .crossings-are)) ∙ ap (λ (t : List Float). pointOf S′ R′ t x) places-are)
-
-    pub finite-are : (b : Bool) → length l ≡ length along → b ≡ everyFinite crossings l → b ≡ allOf isFinite (roundsTo S′ R′ n)
-    finite-are b e q =
-        q ∙ every-all crossings l (omega (arith, long)) ∙ ap (λ (t : ℕ). allOf isFinite (take t l)) (entered .crossings-are) ∙ ap (allOf isFinite) places-are

@@ -10,7 +10,6 @@ use lib.IntN.{ℤ}
 use lib.ListN.{length, getD, List·getD-map}
 use lib.Ieee.{Float, nan}
 use borrow.Author.Tests.{ltb-false, le-ltb}
-use Rattle.float.specs.Small.{isFinite}
 use Rattle.order.specs.Order.{upFrom}
 use Rattle.order.specs.Table.{table, tableFrom, strided}
 use Rattle.order.proofs.Tables.{getD-table, length-table, table-ext}
@@ -26,7 +25,6 @@ use Rattle.network.specs.Refusal.{refuse}
 use Rattle.network.specs.Views.{fromRowsIn, toRowsIn, pointsIn, orderIn}
 use Rattle.detour.specs.Stages.Paths.{pathIn}
 use Rattle.units.specs.declared.Measures.{Measures}
-use Rattle.runs.specs.Finite.{allOf}
 use Rattle.runs.specs.Stages.Views.{wayOf, wayCount}
 use Rattle.crossings.specs.Route as Route
 use Rattle.crossings.specs.Route.{Scene, Path, noPath, pathAt, pointOf, routing, roundsTo, waypoints}
@@ -57,24 +55,23 @@ crossings-many : (S : Scene) (n : ℕ) → length (crossingsOf S n) ≡ length (
 unfolding crossingsOf
 crossings-many S n = length-rounds S (routing S) n
 
-module _ (S : Scene) (m : ℕ) (corners before behind : List ℕ) (iterations room : ℕ) (finite : Bool) (ways : List Float) (rows : SameRows m before behind) where
+module _ (S : Scene) (m : ℕ) (corners before behind : List ℕ) (iterations room : ℕ) (ways : List Float) (rows : SameRows m before behind) where
   -- late, where it isn't 0
-  led-late : (fits : Bool) (late : ℕ) → 0 < late → late ≡ routeRefusal fits (length (crossingsOf S iterations)) room → Led S m corners before fits iterations room late finite behind ways
+  led-late : (fits : Bool) (late : ℕ) → 0 < late → late ≡ routeRefusal fits (length (crossingsOf S iterations)) room → Led S m corners before fits iterations room late behind ways
   led-late fits late h e =
       record {
         lateIs = e;
         fromRows = rows .from;
         toRows = rows .to;
-        finiteIs = λ z. absurd (omega arith);
         along = λ z i l. absurd (omega arith);
         short = λ z i l. absurd (omega arith);
       }
 
-  pub led-nine : (fits : Bool) → fits ≡ false → Led S m corners before fits iterations room 9 finite behind ways
+  pub led-nine : (fits : Bool) → fits ≡ false → Led S m corners before fits iterations room 9 behind ways
   unfolding routeRefusal
   led-nine fits e = led-late fits 9 (omega arith) (ap (λ (b : Bool). refuse (not b) 9 (refuse (ltb room (length (crossingsOf S iterations))) 10 0)) (sym e))
 
-  pub led-ten : (fits full : Bool) (x : ℕ) → fits ≡ true → x ≡ length (routing S .crossings) → full ≡ ltb room x → full ≡ true → Led S m corners before fits iterations room 10 finite behind ways
+  pub led-ten : (fits full : Bool) (x : ℕ) → fits ≡ true → x ≡ length (routing S .crossings) → full ≡ ltb room x → full ≡ true → Led S m corners before fits iterations room 10 behind ways
   led-ten fits full x e c h z =
       led-late fits 10 (omega arith)
       (room-full full room (length (crossingsOf S iterations)) (h ∙ ap (ltb room) (c ∙ sym (crossings-many S iterations))) z
@@ -103,11 +100,6 @@ along-from f l i (suc n) x h e =
 
 -- ---- without a mesh there is nothing to cross
 
-none-of : (l : List Float) → length l ≤ 0 → true ≡ allOf isFinite l
-unfolding allOf
-none-of [] h = refl
-none-of (x ∷ xs) h = absurd (omega arith)
-
 nothing-along : (f : ℕ → Point) (i n j o : ℕ) (l : List Float) → n ≤ 0 → o ≤ 0 → pathIn j o l ≡ map f (upFrom i n)
 unfolding pathIn tableFrom upFrom
 nothing-along f i zero j zero l h g = refl
@@ -132,13 +124,12 @@ module _ (S : Scene) (m : ℕ) (corners before behind : List ℕ) (iterations ro
       (omega (arith, f .each e (omega arith)))
       (omega (arith, read-zero 3 m behind e h (p .counts)))
 
-  pub led-none : Led S m corners before true iterations room 0 true behind ways
+  pub led-none : Led S m corners before true iterations room 0 behind ways
   led-none =
       record {
         lateIs = room-left room (length (crossingsOf S iterations)) (omega (arith, none-many));
         fromRows = p .rows .from;
         toRows = p .rows .to;
-        finiteIs = λ z. none-of (crossingsOf S iterations) none-many;
         along = λ z e h. none-along e h;
         short = λ z e h. (omega (arith, read-zero 3 m behind e h (p .counts)), omega (arith, read-zero 3 m behind e h (p .counts), read-zero 2 m behind e h (p .firsts)));
       }
@@ -181,9 +172,9 @@ module _ (sub : List ℕ) (from to : List ℤ) (service : List ℕ) (measures : 
   abbrev sceneOf : List ℕ → Scene
   sceneOf l = sceneIn (gridOf l) k c stations centres corners twins
 
-  pub led-full : (iterations : ℕ) (finite : Bool) (ways : List Float) → r .full ≡ true → Led (sceneOf before) (length from) corners before (meshOk corners twins c) iterations room 10 finite ends ways
-  led-full iterations finite ways h =
-      led-ten (sceneOf before) (length from) corners before ends iterations room finite ways (traced .rows) (meshOk corners twins c) (r .full) (r .crossings) ok (traced .crossings k (gridOf before)) (traced .full) h
+  pub led-full : (iterations : ℕ) (ways : List Float) → r .full ≡ true → Led (sceneOf before) (length from) corners before (meshOk corners twins c) iterations room 10 ends ways
+  led-full iterations ways h =
+      led-ten (sceneOf before) (length from) corners before ends iterations room ways (traced .rows) (meshOk corners twins c) (r .full) (r .crossings) ok (traced .crossings k (gridOf before)) (traced .full) h
 
   module _ (left : r .full ≡ false) (boxes : 4 * k ≤ length frames) (occupied : (v : ℕ) → v < c → stationIn stations v < k) where
     pub entered : Exited (gridOf before) → Entered (gridOf ends) k c stations centres corners twins numbers along (r .channels) (r .crossings)
@@ -216,9 +207,8 @@ module _ (sub : List ℕ) (from to : List ℤ) (service : List ℕ) (measures : 
     pub room-enough : length from ≤ 8192 → (r .channels ≤ length corners) × (length corners ≤ 24576) × (r .crossings ≤ room) × (r .crossings ≤ 8192 * 24576)
     room-enough h = (channels-few, mesh-room corners twins c ok .0, crossings-fit, crossings-few h)
 
-    module _ (h : length from ≤ 8192) (iterations : ℕ) (behind : List ℕ) (finite : Bool) (ways : List Float)
+    module _ (h : length from ≤ 8192) (iterations : ℕ) (behind : List ℕ) (ways : List Float)
         (points : pointsIn (r .crossings) ways ≡ table (pointOf (sceneOf ends) (routing (sceneOf ends)) (roundsTo (sceneOf ends) (routing (sceneOf ends)) iterations)) (r .crossings))
-        (all : finite ≡ allOf isFinite (roundsTo (sceneOf ends) (routing (sceneOf ends)) iterations))
         (kept : (fromRowsIn (length from) behind ≡ fromRowsIn (length from) ends) × (toRowsIn (length from) behind ≡ toRowsIn (length from) ends) × (strided 4 2 0 (length from) behind ≡ strided 4 2 0 (length from) ends) × (strided 4 3 0 (length from) behind ≡ strided 4 3 0 (length from) ends)) where
       abbrev S : Scene
       S = sceneOf ends
@@ -246,23 +236,18 @@ module _ (sub : List ℕ) (from to : List ℤ) (service : List ℕ) (measures : 
       count-short : (e : ℕ) → e < length from → wayCount behind e ≤ length corners
       count-short e l = omega (arith, count-is e l, routing-short S .each e (omega (arith, number)), ap length (scene-corners (gridOf ends) k c stations centres corners twins))
 
-      finite-is : finite ≡ allOf isFinite (crossingsOf S iterations)
-      unfolding crossingsOf
-      finite-is = all
-
-      led-own : Led S (length from) corners before true iterations room 0 finite behind ways
+      led-own : Led S (length from) corners before true iterations room 0 behind ways
       led-own =
           record {
             lateIs = room-left room (length (crossingsOf S iterations)) (omega (arith, crossings-many S iterations, traced .crossings k (gridOf ends), crossings-fit));
             fromRows = kept .0 ∙ traced .rows .from;
             toRows = kept .1 ∙ traced .rows .to;
-            finiteIs = λ z. finite-is;
             along = λ z e l. along-is e l;
             short = λ z e l. (omega (arith, count-short e l, mesh-room corners twins c ok .0), omega (arith, inside e l, crossings-few h));
           }
 
-      pub led-all : Led (sceneOf before) (length from) corners before (meshOk corners twins c) iterations room 0 finite behind ways
+      pub led-all : Led (sceneOf before) (length from) corners before (meshOk corners twins c) iterations room 0 behind ways
       led-all =
-          subst (λ (s : Scene). Led s (length from) corners before (meshOk corners twins c) iterations room 0 finite behind ways)
+          subst (λ (s : Scene). Led s (length from) corners before (meshOk corners twins c) iterations room 0 behind ways)
           (scene-same sub from to service measures blocks places frames before ends (traced .rows) k c stations centres corners twins)
-          (subst (λ (b : Bool). Led S (length from) corners before b iterations room 0 finite behind ways) (sym ok) led-own)
+          (subst (λ (b : Bool). Led S (length from) corners before b iterations room 0 behind ways) (sym ok) led-own)

@@ -76,34 +76,33 @@ module _ (G : Grid) (k : ℕ) (before corners twins : List ℕ) (iterations : �
 
   -- ---- what routing leaves
 
-  module _ (room late : ℕ) (finite : Bool) (stations behind : List ℕ) (ways : List Float) (counts : countsIn k stations ≡ countsIn k before) where
-    led-routes : Led routed (length (G .from)) corners (G .ends) (meshFits corners twins (length occ) iterations) iterations room late finite behind ways
-        → Routes G k before corners twins iterations room late finite stations behind ways
+  module _ (room late : ℕ) (stations behind : List ℕ) (ways : List Float) (counts : countsIn k stations ≡ countsIn k before) where
+    led-routes : Led routed (length (G .from)) corners (G .ends) (meshFits corners twins (length occ) iterations) iterations room late behind ways
+        → Routes G k before corners twins iterations room late stations behind ways
     led-routes l =
         record {
           lateIs = l .lateIs;
           counts = counts;
           fromRows = l .fromRows;
           toRows = l .toRows;
-          finiteIs = l .finiteIs;
           along = l .along;
           short = l .short;
         }
 
     pub routes-used : (c : ℕ) (u : Bool) (path : List Float) → c ≡ length occ → u ≡ meshUsed c iterations → u ≡ true → orderIn c stations ≡ occ
         → take (2 * c) path ≡ coordinates (pointsIn k (G .places)) occ
-        → Led (sceneIn G k c stations path corners twins) (length (G .from)) corners (G .ends) (meshOk corners twins c) iterations room late finite behind ways
-        → Routes G k before corners twins iterations room late finite stations behind ways
+        → Led (sceneIn G k c stations path corners twins) (length (G .from)) corners (G .ends) (meshOk corners twins c) iterations room late behind ways
+        → Routes G k before corners twins iterations room late stations behind ways
     routes-used c u path n e t o p l =
         let w : meshUsed (length occ) iterations ≡ true = used-of c true n (sym e ∙ t) in
         led-routes
-        (subst (λ (b : Bool). Led routed (length (G .from)) corners (G .ends) b iterations room late finite behind ways) (ap (meshOk corners twins) n ∙ sym (fits-used w))
-        (subst (λ (s : Scene). Led s (length (G .from)) corners (G .ends) (meshOk corners twins c) iterations room late finite behind ways) (scene-used c stations path w o p) l))
+        (subst (λ (b : Bool). Led routed (length (G .from)) corners (G .ends) b iterations room late behind ways) (ap (meshOk corners twins) n ∙ sym (fits-used w))
+        (subst (λ (s : Scene). Led s (length (G .from)) corners (G .ends) (meshOk corners twins c) iterations room late behind ways) (scene-used c stations path w o p) l))
 
   pub routes-unused : (room : ℕ) (stations behind : List ℕ) (ways : List Float) → countsIn k stations ≡ countsIn k before → (c : ℕ) (u : Bool) → c ≡ length occ → u ≡ meshUsed c iterations → u ≡ false
-      → Pathless (length (G .from)) (G .ends) behind → Routes G k before corners twins iterations room 0 true stations behind ways
+      → Pathless (length (G .from)) (G .ends) behind → Routes G k before corners twins iterations room 0 stations behind ways
   routes-unused room stations behind ways counts c u n e t p =
       let w : meshUsed (length occ) iterations ≡ false = used-of c false n (sym e ∙ t) in
-      led-routes room 0 true stations behind ways counts
-      (subst (λ (b : Bool). Led routed (length (G .from)) corners (G .ends) b iterations room 0 true behind ways) (sym (fits-unused w))
+      led-routes room 0 stations behind ways counts
+      (subst (λ (b : Bool). Led routed (length (G .from)) corners (G .ends) b iterations room 0 behind ways) (sym (fits-unused w))
       (led-none routed (length (G .from)) corners (G .ends) behind iterations room ways (scene-unused w) routed-lines p))

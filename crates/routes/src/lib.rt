@@ -18,12 +18,6 @@ use routing::routes::clear_paths;
 use routing::routes::trace_all;
 use units::Measures;
 
-// A late refusal, 9 or 10, else 0, and whether all crossing places are finite.
-pub struct Found {
-    pub late: u32,
-    pub finite: bool,
-}
-
 // Whether the mesh is looked at.
 fn mesh_used(stations: usize, iterations: u32) -> bool
     ensures { λ r. ⌜ r ≡ meshUsed stations iterations ⌝ }
@@ -59,19 +53,16 @@ fn route_used(
     numbers: &mut [u32],
     along: &mut [f64],
     ways: &mut [f64],
-) -> Found
+) -> u32
     requires { ⌜ (length (now from) ≤ 8192) × (c ≤ 4096) × (4 * k ≤ length (now frames)) × (2 * c + 3 * min (length (now corners)) 24576 ≤ length (now path)) × (length (now sub) ≤ 4096) × Exited (grid (now sub) (now from) (now to) (now service) measures (now ends) (now blocks) (now places) (now frames)) ⌝ }
     requires { ⌜ (3 * room ≤ length (now numbers)) × (room ≤ length (now along)) × (2 * room ≤ length (now ways)) × (room ≤ length (now sorted)) × (room ≤ length (now spare)) × (room ≤ length (now keys)) ⌝ }
     requires { ⌜ (4 * length (now from) + 4 * min (length (now corners)) 24576 + 4 ≤ length (now ends)) × (min (length (now corners)) 24576 ≤ length (now sorted)) × (min (length (now corners)) 24576 ≤ length (now spare)) × (min (length (now corners)) 24576 ≤ length (now keys)) ⌝ }
     requires { ⌜ Rising (orderIn c (now stations)) ⌝ }
     requires { ⌜ ((v : ℕ) → v < c → stationIn (now stations) v < k) ⌝ }
-    ensures { λ r. ⌜ Led (sceneIn (grid (now (sub .entry)) (now (from .entry)) (now (to .entry)) (now (service .entry)) measures (now (ends .entry)) (now (blocks .entry)) (now (places .entry)) (now (frames .entry))) k c (now (stations .entry)) (now (path .entry)) (now (corners .entry)) (now (twins .entry))) (length (now (from .entry))) (now (corners .entry)) (now (ends .entry)) (meshOk (now (corners .entry)) (now (twins .entry)) c) iterations room (r .late) (r .finite) (now (ends .exit)) (now (ways .exit)) ⌝ }
+    ensures { λ r. ⌜ Led (sceneIn (grid (now (sub .entry)) (now (from .entry)) (now (to .entry)) (now (service .entry)) measures (now (ends .entry)) (now (blocks .entry)) (now (places .entry)) (now (frames .entry))) k c (now (stations .entry)) (now (path .entry)) (now (corners .entry)) (now (twins .entry))) (length (now (from .entry))) (now (corners .entry)) (now (ends .entry)) (meshOk (now (corners .entry)) (now (twins .entry)) c) iterations room r (now (ends .exit)) (now (ways .exit)) ⌝ }
 {
     if !mesh_ok(corners, twins, c) {
-        return Found {
-            late: 9,
-            finite: true,
-        };
+        return 9;
     }
     let t = trace_all(
         sub,
@@ -92,12 +83,9 @@ fn route_used(
         along,
     );
     if t.full {
-        return Found {
-            late: 10,
-            finite: true,
-        };
+        return 10;
     }
-    let finite = space_all_rounds(
+    space_all_rounds(
         sub,
         from,
         to,
@@ -123,7 +111,7 @@ fn route_used(
         spare,
         keys,
     );
-    Found { late: 0, finite }
+    0
 }
 
 // Routes the lines of the network, whose exits stand in `places`, through the mesh, where the crossing list holds `room` crossings.
@@ -150,19 +138,16 @@ pub fn route_lines(
     numbers: &mut [u32],
     along: &mut [f64],
     ways: &mut [f64],
-) -> Found
+) -> u32
     requires { ⌜ (length (now from) ≤ 8192) × (k ≤ 4096) × (2 * k ≤ length (now stations)) × (2 * k ≤ length (now places)) × (4 * k ≤ length (now frames)) × (2 * k + 3 * min (length (now corners)) 24576 ≤ length (now path)) × (length (now sub) ≤ 4096) × Exited (grid (now sub) (now from) (now to) (now service) measures (now ends) (now blocks) (now places) (now frames)) ⌝ }
     requires { ⌜ (3 * room ≤ length (now numbers)) × (room ≤ length (now along)) × (2 * room ≤ length (now ways)) × (room ≤ length (now sorted)) × (room ≤ length (now spare)) × (room ≤ length (now keys)) ⌝ }
     requires { ⌜ (4 * length (now from) + 4 * min (length (now corners)) 24576 + 4 ≤ length (now ends)) × (min (length (now corners)) 24576 ≤ length (now sorted)) × (min (length (now corners)) 24576 ≤ length (now spare)) × (min (length (now corners)) 24576 ≤ length (now keys)) ⌝ }
-    ensures { λ r. ⌜ Routes (grid (now (sub .entry)) (now (from .entry)) (now (to .entry)) (now (service .entry)) measures (now (ends .entry)) (now (blocks .entry)) (now (places .entry)) (now (frames .entry))) k (now (stations .entry)) (now (corners .entry)) (now (twins .entry)) iterations room (r .late) (r .finite) (now (stations .exit)) (now (ends .exit)) (now (ways .exit)) ⌝ }
+    ensures { λ r. ⌜ Routes (grid (now (sub .entry)) (now (from .entry)) (now (to .entry)) (now (service .entry)) measures (now (ends .entry)) (now (blocks .entry)) (now (places .entry)) (now (frames .entry))) k (now (stations .entry)) (now (corners .entry)) (now (twins .entry)) iterations room r (now (stations .exit)) (now (ends .exit)) (now (ways .exit)) ⌝ }
 {
     let c = occupied_corners(k, stations, places, path);
     if !mesh_used(c, iterations) {
         clear_paths(from.len(), ends);
-        return Found {
-            late: 0,
-            finite: true,
-        };
+        return 0;
     }
     route_used(
         iterations,

@@ -1,19 +1,16 @@
 -- A drawing charted in the work lists. Definitions only.
 use Prim.Native.Nat.{ℕ, _<_}
 use mathlib.Core.Path.{_≡_}
-use mathlib.Core.Bool.{Bool, _&&_}
 use mathlib.Core.List.{List}
 use lib.Dec.{ltb}
 use lib.ListN.{length}
 use lib.Ieee.{Float}
-use Rattle.float.specs.Small.{isFinite}
 use Rattle.network.specs.declared.options.Options.{Options}
 use Rattle.network.specs.Words.{occupied}
 use Rattle.network.specs.Views.{countsIn, boxesIn}
 use Rattle.units.specs.Stages.Views.{scalesIn}
 use Rattle.placement.specs.Sized.{illSized}
 use Rattle.cells.specs.Cells.{cellSize}
-use Rattle.runs.specs.Finite.{allOf, finitePoint}
 use Rattle.runs.specs.Stages.Views.{held, lead, Fits}
 use Rattle.pieces.specs.Stages.Pieces.{runsIn}
 use Rattle.results.specs.Stages.Bars.{barsIn}
@@ -27,15 +24,14 @@ unfoldable pub routedLate : Options → Network → ℕ → ℕ
 routedLate o N room =
     routedBy (illSized (drawing o N .boxes) (occupied (drawing o N .counts))) (drawing o N .meshFits) (length (drawing o N .crossings)) room
 
--- The lists hold the drawing with its routes, where nothing is refused so far. `finite` says whether all seeds and crossing places are finite.
-pub record Charted (o : Options) (N : Network) (k room : ℕ) (unit : Float) (finite : Bool) (late : ℕ) (stations buses ends : List ℕ) (blocks places frames path ways : List Float) : Type 0 where
+-- The lists hold the drawing with its routes, where nothing is refused so far.
+pub record Charted (o : Options) (N : Network) (k room : ℕ) (unit : Float) (late : ℕ) (stations buses ends : List ℕ) (blocks places frames path ways : List Float) : Type 0 where
   pub unitIs : unit ≡ drawing o N .unit
   pub counts : countsIn k stations ≡ drawing o N .counts
   pub scales : scalesIn k blocks ≡ drawing o N .scales
   pub boxes : boxesIn k frames ≡ drawing o N .boxes
   pub bars : barsIn (N .station) (measuresOf o unit) buses blocks frames ≡ drawing o N .bars
   pub lateIs : late ≡ routedLate o N room
-  pub finiteIs : late ≡ 0 → finite ≡ (allOf finitePoint (drawing o N .seeds) && allOf isFinite (drawing o N .crossings))
   pub runs : late ≡ 0 → (cell : Float) → cell ≡ cellSize (boxesIn k frames) (occupied (countsIn k stations))
       → runsIn (held (N .station) (measuresOf o unit) buses ends blocks places frames (lead (ltb 0 (o .«route_iterations»)) cell (gapOf unit) k stations ways)) (N .from) (N .to) (N .service)
       ≡ drawing o N .runs

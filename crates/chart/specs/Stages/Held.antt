@@ -1,7 +1,6 @@
 -- What the lent work lists hold of a drawing once its boxes stand. Definitions only.
 use Prim.Native.Nat.{ℕ}
 use mathlib.Core.Path.{_≡_}
-use mathlib.Core.Bool.{Bool}
 use mathlib.Core.List.{List, map}
 use lib.ListN.{length}
 use lib.Ieee.{Float}
@@ -11,7 +10,6 @@ use Rattle.network.specs.Views.{countsIn, fromRowsIn, toRowsIn, pointsIn, boxes
 use Rattle.units.specs.Stages.Views.{scalesIn}
 use Rattle.placement.specs.Place.{Frame}
 use Rattle.placement.specs.Stages.Views.{framesIn}
-use Rattle.runs.specs.Finite.{allOf, finitePoint}
 use Rattle.results.specs.Stages.Bars.{barsIn}
 use Rattle.crossings.specs.Stages.Views.{grid}
 use Rattle.exits.specs.Stages.Exits.{Exited}
@@ -38,9 +36,8 @@ pub record Holds (o : Options) (N : Network) (k : ℕ) (unit : Float) (buses end
       (barsIn (N .station) (measuresOf o unit) buses blocks frames)
       ≡ planned o N .scene
 
--- The same with the stations' bus counts and every line's exits; `finite` says whether all seeds are finite.
-pub record Laid (o : Options) (N : Network) (k : ℕ) (unit : Float) (finite : Bool) (stations buses ends : List ℕ) (blocks places frames : List Float) : Type 0 where
+-- The same with the stations' bus counts and every line's exits.
+pub record Laid (o : Options) (N : Network) (k : ℕ) (unit : Float) (stations buses ends : List ℕ) (blocks places frames : List Float) : Type 0 where
   pub holds : Holds o N k unit buses ends blocks places frames
   pub counts : countsIn k stations ≡ busCounts (N .station)
-  pub finiteIs : finite ≡ allOf finitePoint (planned o N .seeds)
   pub exits : Exited (grid (N .station) (N .from) (N .to) (N .service) (measuresOf o unit) ends blocks places frames)

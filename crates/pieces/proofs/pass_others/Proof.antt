@@ -12,11 +12,11 @@ use Rattle.pieces.proofs.tally.Reads as tally-reads
 use Rattle.runs.proofs.run.run.Reads as run-reads
 
 abbrev Inv-loop : tie.InvT-loop
-Inv-loop write sub from to service measures buses ends blocks frames path₀ numbers₀ branches₀ done₀ e₀ path numbers branches done e =
-    Others sub measures buses ends blocks frames from to service write done₀ path₀ numbers₀ branches₀ e done path numbers branches
+Inv-loop write first sub from to service measures buses ends blocks frames path₀ numbers₀ branches₀ next₀ e₀ path numbers branches next e =
+    Others sub measures buses ends blocks frames from to service write next₀ path₀ numbers₀ branches₀ e next path numbers branches
 
 abbrev μ-loop : tie.MeasureT-loop
-μ-loop write sub from to service measures buses ends blocks frames path₀ numbers₀ branches₀ done₀ e₀ path numbers branches done e =
+μ-loop write first sub from to service measures buses ends blocks frames path₀ numbers₀ branches₀ next₀ e₀ path numbers branches next e =
     length from - e
 
 loop-holds : tie.Need-loop-holds Inv-loop μ-loop

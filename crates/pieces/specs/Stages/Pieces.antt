@@ -13,7 +13,6 @@ use Rattle.network.specs.Words.{kindOf}
 use Rattle.units.specs.declared.Measures.{Measures}
 use Rattle.runs.specs.Run.{Piece, pieces, isLine}
 use Rattle.runs.specs.Lists.{flat, pieceNumbers}
-use Rattle.runs.specs.Finite.{allOf, finitePoint}
 use Rattle.runs.specs.Stages.Views.{Held, runIn, otherRun, Fits}
 
 abbrev pub piece : ℕ → Point → Point → Piece
@@ -40,28 +39,18 @@ passRun lines H from to service e = pick (pick (isLine (kindOf (H .sub) from to 
 abbrev pub passAt : Bool → Held → List ℤ → List ℤ → List ℕ → ℕ → List Piece
 passAt lines H from to service e = pieces e (passRun lines H from to service e)
 
--- those of all branches, each by branch number, and whether all points are finite
+-- those of all branches, each by branch number
 unfoldable pub passIn : Bool → Held → List ℤ → List ℤ → List ℕ → List Piece
 passIn lines H from to service = joined (passAt lines H from to service) (length from)
-
-unfoldable pub passFinite : Bool → Held → List ℤ → List ℤ → List ℕ → Bool
-passFinite lines H from to service = allOf (allOf finitePoint) (table (passRun lines H from to service) (length from))
 
 -- those of the branches that are no lines, by the lists that they are drawn from
 unfoldable pub othersIn : List ℕ → Measures → List ℕ → List ℕ → List Float → List Float → List ℤ → List ℤ → List ℕ → List Piece
 othersIn sub measures buses ends blocks frames from to service =
     joined (λ e. pieces e (otherRun sub measures buses ends blocks frames e (kindOf sub from to service e))) (length from)
 
-unfoldable pub othersFinite : List ℕ → Measures → List ℕ → List ℕ → List Float → List Float → List ℤ → List ℤ → List ℕ → Bool
-othersFinite sub measures buses ends blocks frames from to service =
-    allOf (allOf finitePoint) (table (λ e. otherRun sub measures buses ends blocks frames e (kindOf sub from to service e)) (length from))
-
 -- those of the lines among 16 branches from `start` on
 unfoldable pub blockIn : Held → List ℤ → List ℤ → List ℕ → ℕ → List Piece
 blockIn H from to service start = joined (λ i. passAt true H from to service (start + i)) 16
-
-unfoldable pub blockFinite : Held → List ℤ → List ℤ → List ℕ → ℕ → Bool
-blockFinite H from to service start = allOf (allOf finitePoint) (table (λ i. passRun true H from to service (start + i)) 16)
 
 -- a list has room for the run of every branch
 abbrev pub FitAll : List ℤ → List ℕ → List Float → Type 0

@@ -1,7 +1,6 @@
 -- What the stages of a drawing leave in the lent work lists. Definitions only.
-use Prim.Native.Nat.{ℕ, _*_}
+use Prim.Native.Nat.{ℕ}
 use mathlib.Core.Path.{_≡_}
-use mathlib.Core.Bool.{Bool}
 use mathlib.Core.List.{List}
 use lib.IntN.{ℤ}
 use lib.ListN.{length}
@@ -11,7 +10,6 @@ use Rattle.network.specs.declared.options.Options.{Options}
 use Rattle.network.specs.declared.words.Kind.{Kind}
 use Rattle.network.specs.Words.{busCounts, kinds}
 use Rattle.network.specs.Seed as Seed
-use Rattle.network.specs.Refusal.{everyFinite}
 use Rattle.network.specs.Views.{countsIn, columnsIn, fromRowsIn, toRowsIn, pointsIn, boxesIn}
 use Rattle.stations.specs.Column as Column
 use Rattle.stations.specs.Row as Row
@@ -25,8 +23,8 @@ use Rattle.turns.specs.Turns.{placementOrder}
 use Rattle.placement.specs.Place as Place
 use Rattle.placement.specs.Stages.Views.{framesIn}
 
--- The stations' bus counts, the buses' columns, the branches' rows, the seeds, sizes and scales, and the unit; and whether all seeds are finite.
-pub record Interiors (o : Options) (sub kv : List ℕ) (from to : List ℤ) (service : List ℕ) (xy : List Float) (k : ℕ) (unit : Float) (finite : Bool)
+-- The stations' bus counts, the buses' columns, the branches' rows, the seeds, sizes and scales, and the unit.
+pub record Interiors (o : Options) (sub kv : List ℕ) (from to : List ℤ) (service : List ℕ) (xy : List Float) (k : ℕ) (unit : Float)
     (stations buses ends : List ℕ) (places blocks : List Float) : Type 0 where
   pub counts : countsIn k stations ≡ busCounts sub
   pub columns : columnsIn (length sub) buses ≡ Column.columns sub kv
@@ -39,7 +37,6 @@ pub record Interiors (o : Options) (sub kv : List ℕ) (from to : List ℤ) (ser
       unit
       ≡ Unit.unitFor (o .fill) (Unit.spacing (Seed.seeds sub xy) (busCounts sub))
       (Unit.typical (Size.sizes (o .gaps) sub (kinds sub from to service) (busCounts sub)) (busCounts sub))
-  pub finiteIs : finite ≡ everyFinite (2 * k) places
 
 -- The stations' places and boxes, by their frames and seeds.
 pub record Settled (sub kv : List ℕ) (k : ℕ) (measures : Measures) (search : ℕ) (blocks : List Float) (seeds : List Point) (stations : List ℕ) (places frames : List Float) : Type 0 where

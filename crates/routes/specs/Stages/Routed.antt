@@ -1,18 +1,15 @@
 -- What routing reads from the lent lists and leaves in them. Definitions only.
 use Prim.Native.Nat.{ℕ, _+_, _^_, _≤_, _<_, min}
 use mathlib.Core.Path.{_≡_}
-use mathlib.Core.Bool.{Bool}
 use mathlib.Core.List.{List, []}
 use lib.ListN.{length}
 use lib.Ieee.{Float}
-use Rattle.float.specs.Small.{isFinite}
 use Rattle.order.specs.Order.{pick}
 use Rattle.network.specs.Words.{occupied}
 use Rattle.network.specs.Views.{countsIn, fromRowsIn, toRowsIn, pointsIn, boxesIn}
 use Rattle.units.specs.Unit.{coordinates}
 use Rattle.units.specs.Stages.Views.{scalesIn}
 use Rattle.detour.specs.Stages.Paths.{pathIn}
-use Rattle.runs.specs.Finite.{allOf}
 use Rattle.runs.specs.Stages.Views.{wayOf, wayCount}
 use Rattle.crossings.specs.Route.{Scene, routing, waypoints}
 use Rattle.crossings.specs.Stages.Views.{Grid, linesIn}
@@ -35,8 +32,8 @@ routedIn G k stations corners twins iterations =
       lines = linesIn G;
     }
 
--- What routing leaves: bus counts and rows are as before; where nothing is refused, each branch's waypoints stand in a list, and `finite` says whether all crossing places are finite.
-pub record Routes (G : Grid) (k : ℕ) (stations corners twins : List ℕ) (iterations room late : ℕ) (finite : Bool) (stations' ends' : List ℕ) (ways : List Float) : Type 0 where
+-- What routing leaves: bus counts and rows are as before; where nothing is refused, each branch's waypoints stand in a list.
+pub record Routes (G : Grid) (k : ℕ) (stations corners twins : List ℕ) (iterations room late : ℕ) (stations' ends' : List ℕ) (ways : List Float) : Type 0 where
   pub lateIs :
       late
       ≡ routeRefusal
@@ -46,7 +43,6 @@ pub record Routes (G : Grid) (k : ℕ) (stations corners twins : List ℕ) (iter
   pub counts : countsIn k stations' ≡ countsIn k stations
   pub fromRows : fromRowsIn (length (G .from)) ends' ≡ fromRowsIn (length (G .from)) (G .ends)
   pub toRows : toRowsIn (length (G .from)) ends' ≡ toRowsIn (length (G .from)) (G .ends)
-  pub finiteIs : late ≡ 0 → finite ≡ allOf isFinite (crossingsOf (routedIn G k stations corners twins iterations) iterations)
   pub along : late ≡ 0 → (e : ℕ) → e < length (G .from)
       → pathIn (wayOf ends' e) (wayCount ends' e) ways
       ≡ waypoints

@@ -42,7 +42,7 @@ same-length-2 : tie.Need-same-length-2
 same-length-2 c = c .before .before .before .before .survey .kept .1 .1 .1 .1 .1 .1 .1 .1 .1 .1 .1 .1 .1 .1 .1 .1 .1 .0
 
 returns : tie.Need-returns
-returns c = (judged _ _ _ _ _ _ _ _ _ _ _ _ _ _ _ (c .before .before .before .before .before .before .before .before .before .before .before .before .before .before .before .before .before .before .before .before .before .before .before .before .before .before .before .before .before .before .pre .1 .0) (c .before .before .before .before .before .before .before .before .before .before .before .before .before .before .before .before .before .before .before .before .before .before .before .before .before .before .before .before .before .before .pre .1 .1) _ _ _ (c .before .before .before .before .before .before .before .before .before .before .before .before .cell-size .ensures) (c .before .before .before .before .before .before .before .gap-of .ensures) (c .before .before .before .before .before .before .before .before .before .before .before .before .before .is-led .ensures) _ _ _ (c .before .before .before .before .survey .ensures .0) (c .before .bounds-of .ensures) (c .late-of .ensures), (c .before .before .before .before .before .before .before .before .before .before .before .before .cell-size .ensures, c .before .before .before .before .before .before .before .before .before .before .index-boxes .ensures))
+returns c = (judged _ _ _ _ _ _ _ _ _ _ _ _ _ _ (c .before .before .before .before .before .before .before .before .before .before .before .before .before .before .before .before .before .before .before .before .before .before .before .before .before .before .before .before .before .before .pre .1 .0) (c .before .before .before .before .before .before .before .before .before .before .before .before .before .before .before .before .before .before .before .before .before .before .before .before .before .before .before .before .before .before .pre .1 .1) _ _ _ (c .before .before .before .before .before .before .before .before .before .before .before .before .cell-size .ensures) (c .before .before .before .before .before .before .before .gap-of .ensures) (c .before .before .before .before .before .before .before .before .before .before .before .before .before .is-led .ensures) _ _ _ (c .before .before .before .before .survey .ensures .0) (c .before .bounds-of .ensures) (c .late-of .ensures), (c .before .before .before .before .before .before .before .before .before .before .before .before .cell-size .ensures, c .before .before .before .before .before .before .before .before .before .before .index-boxes .ensures))
 
 pub judge-spec : {M : Type 1} → statement M
 judge-spec =

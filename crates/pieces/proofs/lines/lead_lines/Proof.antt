@@ -11,11 +11,11 @@ use Rattle.pieces.proofs.lines.lead_lines.Lts as lts
 use Rattle.pieces.proofs.lines.lead_block.Reads as lead-block-reads
 
 abbrev Inv-loop : tie.InvT-loop
-Inv-loop write sub from to service measures buses ends blocks places frames led cell gap k stations index ways path₀ numbers₀ branches₀ done₀ start₀ path numbers branches done start =
-    Blocks (held sub measures buses ends blocks places frames (lead led cell gap k stations ways)) from to service write done₀ path₀ numbers₀ branches₀ start done path numbers branches
+Inv-loop write first sub from to service measures buses ends blocks places frames led cell gap k stations index ways path₀ numbers₀ branches₀ next₀ start₀ path numbers branches next start =
+    Blocks (held sub measures buses ends blocks places frames (lead led cell gap k stations ways)) from to service write next₀ path₀ numbers₀ branches₀ start next path numbers branches
 
 abbrev μ-loop : tie.MeasureT-loop
-μ-loop write sub from to service measures buses ends blocks places frames led cell gap k stations index ways path₀ numbers₀ branches₀ done₀ start₀ path numbers branches done start =
+μ-loop write first sub from to service measures buses ends blocks places frames led cell gap k stations index ways path₀ numbers₀ branches₀ next₀ start₀ path numbers branches next start =
     length from - start
 
 loop-holds : tie.Need-loop-holds Inv-loop μ-loop
