@@ -1,21 +1,26 @@
 //! Layout and audit calls of every kind, from a seed, for networks of up to a given number of buses.
 use crate::audit::{Drawing, Room};
+use crate::detours;
 use crate::extremes;
 use crate::gaps::{self, Gaps};
-use crate::layout::{layout, Lent};
+use crate::judge::layout;
+use crate::layout::Lent;
 use crate::mesh;
 use crate::network::{Mesh, Network, Options};
 use crate::random::{Random, EDGES};
 use crate::witness;
 
 /// What calls are generated: ordinary ones with slips, the same without iterations, ones of extreme scale (oracle/extremes.rs),
-/// or ones of either sort with other gaps than the four old numbers.
+/// or ones of either sort with other gaps than the four old numbers; lines with boxes in their way (oracle/detours.rs), with
+/// the four old numbers or other gaps.
 #[derive(Clone, Copy, PartialEq)]
 pub enum Kind {
     Plain,
     Straight,
     Extreme,
     Gaps,
+    Detours,
+    WideDetours,
 }
 
 impl Kind {
@@ -26,8 +31,15 @@ impl Kind {
             "straight" => Some(Self::Straight),
             "extreme" => Some(Self::Extreme),
             "gaps" => Some(Self::Gaps),
+            "detours" => Some(Self::Detours),
+            "wide-detours" => Some(Self::WideDetours),
             _ => None,
         }
+    }
+
+    /// Whether calls have other gaps than the four old numbers.
+    fn has_gaps(self) -> bool {
+        matches!(self, Self::Gaps | Self::WideDetours)
     }
 }
 
@@ -211,7 +223,13 @@ fn gaps(r: &mut Random, most: usize) -> Gaps {
 
 /// A network, its options and its mesh of one kind; where straight, iterations in range become 0.
 fn ordered(r: &mut Random, most: usize, kind: Kind) -> (Network, Options, Mesh) {
-    let gaps = if kind == Kind::Gaps { gaps(r, most) } else { gaps::OLD };
+    let gaps = if kind.has_gaps() { gaps(r, most) } else { gaps::OLD };
+    if matches!(kind, Kind::Detours | Kind::WideDetours) {
+        let (net, options) = (detours::network(r, most), detours::options(r, gaps));
+        let points = if r.one_in(6) { middles(&net, &options).unwrap_or_default() } else { Vec::new() };
+        let mesh = if points.len() < 3 { Mesh::default() } else { mesh::delaunay(&extremes::shrunk(&points)) };
+        return (net, options, mesh);
+    }
     if kind == Kind::Extreme || kind == Kind::Gaps && r.one_in(3) {
         let (net, options) = (extremes::network(r, most), Options { gaps, ..extremes::options(r) });
         let points = middles(&net, &options).unwrap_or_default();

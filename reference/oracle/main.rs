@@ -6,11 +6,13 @@ mod tx_schematic;
 mod audit;
 mod calls;
 mod compare;
+mod detours;
 mod drawlist;
 mod extremes;
 mod gaps;
 mod generate;
 mod hypot;
+mod judge;
 mod layout;
 mod mesh;
 mod neighbours;
@@ -21,6 +23,9 @@ mod selfcheck;
 mod vectors;
 mod witness;
 mod words;
+
+#[path = "../second/mod.rs"]
+mod second;
 
 /// Stress seeding waits (01), so it is left out here.
 mod stress {
@@ -36,11 +41,11 @@ const USAGE: &str = "usage: oracle SUBCOMMAND
   generate SEED COUNT CLASS         drawlist inputs, each closed by ====  (CLASS: any, small, large, grid, far, odd, malformed)
   compare PROGRAM SEED COUNT CLASS  runs PROGRAM and drawlist on generated inputs
   vectors SEED COUNT                single calls of the original's functions, COUNT lines of each name
-  layout                            layout calls on standard input, answers on standard output (oracle/request.rs)
-  audit                             audit calls likewise
-  calls SEED COUNT BUSES [KIND]     layout calls for networks of up to BUSES buses (KIND: plain, straight, extreme)
+  layout [JUDGE]                    layout calls on standard input, answers on standard output (oracle/request.rs)
+  audit [JUDGE]                     audit calls likewise (JUDGE: original, or second or nearest, reference/second)
+  calls SEED COUNT BUSES [KIND]     layout calls for networks of up to BUSES buses (KIND: plain, straight, extreme, detours)
   audits SEED COUNT BUSES [KIND]    audit calls likewise
-  hypot                             a line of two patterns in, the exact hypot's pattern out
+  hypot [second]                    a line of two patterns in, the exact hypot's pattern out; that of reference/second
   selfcheck                         the scope's worked examples";
 
 fn everything() -> Vec<u8> {
@@ -74,13 +79,13 @@ fn calls(count: u64, text: impl Fn(u64) -> String) {
     }
 }
 
-fn hypots() {
+fn hypots(hypot: fn(f64, f64) -> f64) {
     let mut out = BufWriter::new(stdout());
     for line in stdin().lock().lines() {
         let line = line.expect("text");
         let value = |w: &str| f64::from_bits(words::bits(w.as_bytes()).expect("pattern"));
         let (a, b) = line.split_once(' ').expect("two patterns");
-        let root = hypot::hypot(value(a), value(b));
+        let root = hypot(value(a), value(b));
         writeln!(out, "{}", words::float(root, false)).expect("standard output");
     }
 }
@@ -104,8 +109,14 @@ fn main() {
             compare::compare(program, number(seed), number(count), class)
         }
         ["vectors", seed, count] => vectors::vectors(number(seed), number(count)),
-        ["layout"] => answers(|r| r.layout()),
-        ["audit"] => answers(|r| r.audit()),
+        ["layout", ref judge @ ..] => {
+            judge.iter().for_each(|word| judge::choose(word));
+            answers(|r| r.layout())
+        }
+        ["audit", ref judge @ ..] => {
+            judge.iter().for_each(|word| judge::choose(word));
+            answers(|r| r.audit())
+        }
         ["calls", seed, count, buses, ref kind @ ..] => {
             let (seed, buses, kind) = (number(seed), number(buses) as usize, kind_of(kind));
             calls(number(count), |i| calls::layout_call(seed, i, buses, kind).text())
@@ -114,7 +125,8 @@ fn main() {
             let (seed, buses, kind) = (number(seed), number(buses) as usize, kind_of(kind));
             calls(number(count), |i| calls::audit_call(seed, i, buses, kind).text())
         }
-        ["hypot"] => hypots(),
+        ["hypot"] => hypots(hypot::hypot),
+        ["hypot", "second"] => hypots(second::hypot),
         ["selfcheck"] => selfcheck::selfcheck(),
         _ => {
             eprintln!("{USAGE}");

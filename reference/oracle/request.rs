@@ -9,10 +9,11 @@
 //!   room displacement spacing lengths                                     (ample where absent)
 use std::collections::HashMap;
 
-use crate::audit::{audit, Drawing, Room};
+use crate::audit::{Drawing, Room};
 use crate::calls::{AuditCall, Call};
 use crate::gaps::{self, Gaps};
-use crate::layout::{layout, Lent};
+use crate::judge::{audit, layout};
+use crate::layout::Lent;
 use crate::network::{Mesh, Network, Options};
 use crate::words::{bits, float, hex, line, whole};
 

@@ -1,10 +1,13 @@
-//! The scope's worked examples and the places where a quick reading of it goes wrong: each said, run and compared.
-use crate::audit::{audit, Drawing, Figures, Room};
+//! The scope's worked examples and the places where a quick reading of it goes wrong: each said, run by the original and by the
+//! second implementation, and compared.
+use crate::audit::{Drawing, Figures, Room};
 use crate::drawlist::drawlist;
 use crate::hypot::hypot;
-use crate::layout::{layout, Lent};
 use crate::gaps::{self, Gaps};
+use crate::judge::{self, audit, layout};
+use crate::layout::Lent;
 use crate::network::{Mesh, Network, Options};
+use crate::second::{first_box, Frame, Point, Rule};
 use crate::tx_schematic::{inside, tx_layout_quality, TxLayout};
 
 const ROOM: Room = Room { displacement: usize::MAX, spacing: usize::MAX, lengths: usize::MAX };
@@ -238,11 +241,33 @@ fn orders(c: &mut Check) {
     c.that("exits on the right of both", s[2] == b[2] && s[s.len() - 4] == b[6]);
 }
 
+/// Change 9 and the walk over cells, by the second implementation.
+fn boxes_met(c: &mut Check) {
+    let none = usize::MAX;
+    let met = |boxes: &[Frame], p: Point, q: Point| {
+        [Rule::Cells, Rule::Nearest].map(|rule| first_box(boxes, p, q, [none; 2], rule))
+    };
+    let across = [[1.0, 0.0, 3.0, 9.0], [3.25, 0.0, 4.25, 1.0]];
+    c.that("the box entered first", met(&across, (0.0, 0.5), (10.0, 0.5)) == [Some(1), Some(0)]);
+    let own = first_box(&across, (0.0, 0.5), (10.0, 0.5), [none, 0], Rule::Nearest);
+    c.that("a station of the line's", own == Some(1));
+    let both = [[-1.0, -1.0, 1.0, 1.0], [-2.0, -1.0, 1.0, 1.0]];
+    c.that("a start in two boxes", met(&both, (0.0, 0.0), (10.0, 0.0))[1] == Some(0));
+    c.that("a corner touched", met(&[[0.0, 0.0, 1.0, 1.0]], (-1.0, 1.0), (1.0, -1.0)) == [None, Some(0)]);
+    let beyond = [[1.0 + 0.5f64.powi(14), -1.0, 3.0, 1.0]];
+    c.that("a box beyond the end, by rounding", met(&beyond, (-(2f64.powi(40)), 0.0), (1.0, 0.0))[1] == Some(0));
+    c.that("a box behind the start", met(&[[-1.0, -1.0, 0.0, 1.0]], (5e-324, 0.0), (10.0, 0.0))[1] == Some(0));
+}
+
 pub fn selfcheck() {
     let mut c = Check { wrong: 0, made: 0 };
-    for part in [worked, refusals, crossings, neighbours, audits, orders] {
-        part(&mut c);
+    for judge in ["original", "second", "nearest"] {
+        judge::choose(judge);
+        for part in [worked, refusals, crossings, neighbours, audits, orders] {
+            part(&mut c);
+        }
     }
+    boxes_met(&mut c);
     println!("{} examples, {} wrong", c.made, c.wrong);
     std::process::exit((c.wrong > 0).into());
 }

@@ -1,6 +1,7 @@
 //! An audit call of ours beside the oracle's.
-use crate::audit::{audit, Figures};
+use crate::audit::Figures;
 use crate::calls::AuditCall;
+use crate::judge::audit;
 use crate::layouts::MANY;
 use crate::library;
 use crate::lists::Lent;

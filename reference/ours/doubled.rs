@@ -5,6 +5,8 @@ mod tx_schematic;
 
 #[path = "../oracle/audit.rs"]
 mod audit;
+#[path = "../oracle/detours.rs"]
+mod detours;
 #[path = "../oracle/extremes.rs"]
 mod extremes;
 #[path = "../oracle/calls.rs"]
@@ -13,6 +15,8 @@ mod calls;
 mod gaps;
 #[path = "../oracle/hypot.rs"]
 mod hypot;
+#[path = "../oracle/judge.rs"]
+mod judge;
 #[path = "../oracle/layout.rs"]
 mod layout;
 #[path = "../oracle/mesh.rs"]
@@ -25,6 +29,8 @@ mod network;
 mod random;
 #[path = "../oracle/request.rs"]
 mod request;
+#[path = "../second/mod.rs"]
+mod second;
 #[path = "../oracle/witness.rs"]
 mod witness;
 #[path = "../oracle/words.rs"]

@@ -1,4 +1,5 @@
-//! Runs our calls and the oracle's on generated inputs and compares answers, lists, and what stands past and in work lists.
+//! Runs our calls and those of a judge on generated inputs and compares answers, lists, and what stands past and in work lists.
+//! Compiled with `--cfg alone` it runs the original's calls in the place of ours, and needs no library.
 #[cfg_attr(not(gaps), path = "../../target/reference/tx_schematic.rs")]
 #[cfg_attr(gaps, path = "../../target/reference/gapped.rs")]
 mod tx_schematic;
@@ -7,12 +8,16 @@ mod tx_schematic;
 mod audit;
 #[path = "../oracle/calls.rs"]
 mod calls;
+#[path = "../oracle/detours.rs"]
+mod detours;
 #[path = "../oracle/extremes.rs"]
 mod extremes;
 #[path = "../oracle/gaps.rs"]
 mod gaps;
 #[path = "../oracle/hypot.rs"]
 mod hypot;
+#[path = "../oracle/judge.rs"]
+mod judge;
 #[path = "../oracle/layout.rs"]
 mod layout;
 #[path = "../oracle/mesh.rs"]
@@ -25,15 +30,24 @@ mod network;
 mod random;
 #[path = "../oracle/request.rs"]
 mod request;
+#[path = "../second/mod.rs"]
+mod second;
 #[path = "../oracle/witness.rs"]
 mod witness;
 #[path = "../oracle/words.rs"]
 mod words;
 
+#[cfg(not(alone))]
 mod audits;
+#[cfg(not(alone))]
 mod layouts;
+#[cfg(not(alone))]
 mod library;
+#[cfg(not(alone))]
 mod lists;
+#[cfg(alone)]
+#[path = "../second/beside.rs"]
+mod beside;
 
 /// Stress seeding waits (01), so it is left out here.
 mod stress {
@@ -43,6 +57,8 @@ mod stress {
 }
 
 use calls::{audit_call, layout_call, AuditCall, Call, Kind};
+use judge::Judge;
+use second::Rule;
 use std::collections::BTreeMap;
 use std::sync::mpsc::{channel, RecvTimeoutError};
 use std::thread;
@@ -51,19 +67,26 @@ use std::time::Duration;
 /// A case on which the original runs longer is left out and counted.
 const PATIENCE: Duration = Duration::from_secs(60);
 
-const USAGE: &str = "usage: compare layout SEED COUNT BUSES [KIND]
-       compare audit SEED COUNT BUSES [KIND]
+const USAGE: &str = "usage: compare layout SEED COUNT BUSES [KIND [JUDGE]]
+       compare audit SEED COUNT BUSES [KIND [JUDGE]]
   KIND   plain; straight: every call with 0 iterations; extreme: coordinates, options, meshes and drawings of extreme scale;
-         gaps: other gaps than the four old numbers, a third of the calls extreme ones (compiled with --cfg gaps)";
+         gaps: other gaps than the four old numbers, a third of the calls extreme ones; detours: lines with boxes in their way;
+         wide-detours: the same with other gaps (gaps and wide-detours judged by the original: compiled with --cfg gaps)
+  JUDGE  original; second: the second implementation; nearest: the same with change 9; undetoured: the original where
+         neither it nor `nearest` finds a detour";
 
 /// One kind of call: how a case arises, what the oracle answers, and what is wrong with ours.
 trait Compared: Clone + Send + 'static {
     type Want: Send + 'static;
+    /// Whether a detour makes the original no judge of the call, where change 9 is asked for.
+    const LEAVES_DETOURS: bool;
     fn case(seed: u64, case: u64, most: usize, kind: Kind) -> Self;
     fn want(&self, salt: u64) -> Self::Want;
     fn number(want: &Self::Want) -> u32;
     /// Whether some bus has no map point.
     fn unsurveyed(&self) -> bool;
+    /// What change 9 changes: whether a detour is found, before or after it, and whether an answer differs then.
+    fn moved(&self, salt: u64) -> (bool, bool);
     /// Whether a line is led through a mesh or round a box.
     fn routed(&self, want: &Self::Want) -> bool;
     fn wrong(&self, want: &Self::Want, salt: u64) -> Vec<String>;
@@ -104,11 +127,12 @@ fn network_without_bus(net: &network::Network) -> Option<network::Network> {
 
 impl Compared for Call {
     type Want = Result<tx_schematic::TxLayout, u32>;
+    const LEAVES_DETOURS: bool = true;
     fn case(seed: u64, case: u64, most: usize, kind: Kind) -> Self {
         layout_call(seed, case, most, kind)
     }
     fn want(&self, _: u64) -> Self::Want {
-        layout::layout(&self.net, &self.options, &self.mesh, &self.lent)
+        judge::layout(&self.net, &self.options, &self.mesh, &self.lent)
     }
     fn number(want: &Self::Want) -> u32 {
         want.as_ref().err().copied().unwrap_or(0)
@@ -116,11 +140,22 @@ impl Compared for Call {
     fn unsurveyed(&self) -> bool {
         self.net.unsurveyed()
     }
+    fn moved(&self, _: u64) -> (bool, bool) {
+        let drawn = |rule: Rule| {
+            let drawing = judge::second_layout(&self.net, &self.options, &self.mesh, &layout::Lent::ample(), rule);
+            (drawing.map(|d| (d.segments, d.segment_edge)), witness::seen().detours > 0)
+        };
+        let (before, after) = (drawn(Rule::Cells), drawn(Rule::Nearest));
+        (before.1 || after.1, before.0 != after.0)
+    }
     fn routed(&self, want: &Self::Want) -> bool {
         self.options.iterations > 0 && want.as_ref().is_ok_and(|d| bent(&d.segment_edge))
     }
     fn wrong(&self, want: &Self::Want, salt: u64) -> Vec<String> {
-        layouts::wrong(self, want, salt)
+        #[cfg(not(alone))]
+        return layouts::wrong(self, want, salt);
+        #[cfg(alone)]
+        return beside::layout_wrong(self, want, salt);
     }
     fn size(&self) -> usize {
         self.net.sub.len() + self.net.from.len() + self.mesh.corners.len()
@@ -138,11 +173,16 @@ impl Compared for Call {
 
 impl Compared for AuditCall {
     type Want = Result<audit::Figures, u32>;
+    const LEAVES_DETOURS: bool = false;
     fn case(seed: u64, case: u64, most: usize, kind: Kind) -> Self {
         audit_call(seed, case, most, kind)
     }
+    #[cfg_attr(alone, allow(unused_variables))]
     fn want(&self, salt: u64) -> Self::Want {
-        audits::expected(self, salt)
+        #[cfg(not(alone))]
+        return audits::expected(self, salt);
+        #[cfg(alone)]
+        return judge::audit(&self.net, &self.drawing, &self.room);
     }
     fn number(want: &Self::Want) -> u32 {
         want.as_ref().err().copied().unwrap_or(0)
@@ -150,11 +190,19 @@ impl Compared for AuditCall {
     fn unsurveyed(&self) -> bool {
         self.net.unsurveyed()
     }
+    fn moved(&self, _: u64) -> (bool, bool) {
+        let through = |rule: Rule| judge::second_audit(&self.net, &self.drawing, &self.room, rule).map(|f| f.through);
+        let (before, after) = (through(Rule::Cells), through(Rule::Nearest));
+        (before.is_ok_and(|t| t > 0) || after.is_ok_and(|t| t > 0), before != after)
+    }
     fn routed(&self, want: &Self::Want) -> bool {
         want.is_ok() && bent(&self.drawing.branches)
     }
     fn wrong(&self, want: &Self::Want, salt: u64) -> Vec<String> {
-        audits::wrong(self, want, salt)
+        #[cfg(not(alone))]
+        return audits::wrong(self, want, salt);
+        #[cfg(alone)]
+        return beside::audit_wrong(self, want, salt);
     }
     fn size(&self) -> usize {
         self.net.sub.len() + self.net.from.len() + self.drawing.branches.len()
@@ -187,11 +235,24 @@ fn patiently<T: Send + 'static>(work: impl FnOnce() -> T + Send + 'static) -> Ou
     }
 }
 
-/// What is wrong with a call; nothing where the original does not answer.
+/// What a call is judged by: the answer wanted, whether a detour is found, and whether change 9 makes another answer.
+fn judged<C: Compared>(call: &C, salt: u64) -> (C::Want, bool, bool) {
+    let want = call.want(salt);
+    let led = witness::seen().detours > 0;
+    let (found, other) = if judge::chosen() == Judge::Original { (false, false) } else { call.moved(salt) };
+    (want, led || found, other)
+}
+
+/// Whether a call is left out for its detour.
+fn apart<C: Compared>(found: bool) -> bool {
+    found && C::LEAVES_DETOURS && judge::chosen() == Judge::Undetoured
+}
+
+/// What is wrong with a call; nothing where the original does not answer, or is no judge.
 fn differ<C: Compared>(call: &C, salt: u64) -> Vec<String> {
     let asked = call.clone();
-    match patiently(move || asked.want(salt)) {
-        Outcome::Done(want) => call.wrong(&want, salt),
+    match patiently(move || judged(&asked, salt)) {
+        Outcome::Done((want, found, _)) if !apart::<C>(found) => call.wrong(&want, salt),
         _ => Vec::new(),
     }
 }
@@ -215,16 +276,17 @@ fn shrunk<C: Compared>(call: &C, salt: u64) -> C {
 
 fn compare<C: Compared>(seed: u64, count: u64, most: usize, kind: Kind) -> bool {
     let (mut compared, mut routed, mut unsurveyed, mut panicked, mut too_long) = (0, 0, 0, 0, 0);
+    let (mut detoured, mut moved, mut left_out) = (0, 0, 0);
     let mut answers: BTreeMap<u32, usize> = BTreeMap::new();
     let mut differing: Vec<(u64, C)> = Vec::new();
     for i in 0..count {
         let salt = seed ^ i << 20;
         let both = patiently(move || {
             let call = C::case(seed, i, most, kind);
-            let want = call.want(salt);
-            (call, want)
+            let (want, found, other) = judged(&call, salt);
+            (call, want, found, other)
         });
-        let (call, want) = match both {
+        let (call, want, found, other) = match both {
             Outcome::Done(both) => both,
             Outcome::Panicked => {
                 panicked += 1;
@@ -235,6 +297,12 @@ fn compare<C: Compared>(seed: u64, count: u64, most: usize, kind: Kind) -> bool 
                 continue;
             }
         };
+        detoured += usize::from(found);
+        moved += usize::from(other);
+        if apart::<C>(found) {
+            left_out += 1;
+            continue;
+        }
         compared += 1;
         routed += usize::from(call.routed(&want));
         unsurveyed += usize::from(call.unsurveyed());
@@ -249,6 +317,9 @@ fn compare<C: Compared>(seed: u64, count: u64, most: usize, kind: Kind) -> bool 
     }
     println!("  answer 0 with lines led through a mesh or round boxes: {routed}");
     println!("  with buses that have no map point: {unsurveyed}");
+    if judge::chosen() != Judge::Original {
+        println!("  with a line led round a box, or through one in the audit: {detoured}; by change 9 another answer: {moved}; left out for it: {left_out}");
+    }
     differing.sort_by_key(|(_, call)| call.size());
     if let Some((i, call)) = differing.first() {
         let salt = seed ^ i << 20;
@@ -266,6 +337,7 @@ fn main() {
     let words: Vec<&str> = words.iter().map(String::as_str).collect();
     let number = |w: &str| w.parse::<u64>().unwrap_or_else(|_| panic!("not a number: {w}"));
     let kind = words.get(4).map_or(Some(Kind::Plain), |word| Kind::named(word));
+    judge::choose(words.get(5).unwrap_or(&if cfg!(alone) { "second" } else { "original" }));
     let same = match (&words[..], kind) {
         (["layout", seed, count, buses, ..], Some(kind)) => {
             compare::<Call>(number(seed), number(count), number(buses) as usize, kind)

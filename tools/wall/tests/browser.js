@@ -215,6 +215,8 @@
     if (counted.size && !/by row for shaded boxes|rows are too close to be counted/.test(block)) wrong.push('the sheet does not say how to find what has no number');
 
     // Stretches: steps of a run that lie close to another for five millimetres and more belong to a marked pair.
+    const wide = (branch) => (runs.get(branch)[0].hasAttribute('stroke-dasharray') ? 0 : Number(runs.get(branch)[0].getAttribute('stroke-width')));
+    const far = (a, b) => Math.max(0.5, (wide(a) + wide(b)) / 2) - 0.05;
     const STEP = 0.25, near = new Map(), paths = new Map();
     const cell = (x, y) => `${Math.floor(x)} ${Math.floor(y)}`;
     for (const [branch, [run]] of runs) {
@@ -245,7 +247,7 @@
             const here = new Set();
             for (let i = -1; i <= 1; i++) for (let j = -1; j <= 1; j++) {
                 for (const [u, v, other] of near.get(cell(x + i, y + j)) || []) {
-                    if (other !== branch && Math.hypot(u - x, v - y) <= 0.45) here.add(other);
+                    if (other !== branch && Math.hypot(u - x, v - y) <= far(branch, other)) here.add(other);
                 }
             }
             for (const other of lengths.keys()) if (!here.has(other)) lengths.delete(other);

@@ -5,8 +5,14 @@ use help::{made, root, sheet, Folder};
 use std::collections::{BTreeSet, HashMap};
 use std::fs;
 
-/// The pairs of branches within half a millimetre of each other for five millimetres or more, found in steps of 0.05 mm.
+/// The pairs of branches within half a millimetre of each other, or so close that their strokes touch, none of
+/// them dashed, for five millimetres or more, found in steps of 0.05 mm.
 fn close(sheet: &str, slack: f64) -> BTreeSet<(usize, usize)> {
+    let wide = |e: &str| match attribute(e, "stroke-dasharray") {
+        Some(_) => 0.0,
+        None => attribute(e, "stroke-width").unwrap().parse::<f64>().unwrap(),
+    };
+    let widths: Vec<f64> = with(sheet, "data-branch").into_iter().map(wide).collect();
     let runs: Vec<(usize, Vec<[f64; 2]>)> = with(sheet, "data-branch")
         .into_iter()
         .map(|e| (attribute(e, "data-branch").unwrap().parse().unwrap(), whole(e)))
@@ -20,7 +26,12 @@ fn close(sheet: &str, slack: f64) -> BTreeSet<(usize, usize)> {
     for (i, (a, path)) in runs.iter().enumerate() {
         for (j, (b, other)) in runs.iter().enumerate() {
             let (p, q) = (boxes[i], boxes[j]);
-            if a < b && p[0] < q[2] && q[0] < p[2] && p[1] < q[3] && q[1] < p[3] && longest(path, other) >= 5.0 + slack
+            if a < b
+                && p[0] < q[2]
+                && q[0] < p[2]
+                && p[1] < q[3]
+                && q[1] < p[3]
+                && longest(path, other, f64::max(0.5, (widths[i] + widths[j]) / 2.0)) >= 5.0 + slack
             {
                 found.insert((*a, *b));
             }
@@ -38,7 +49,7 @@ fn whole(element: &str) -> Vec<[f64; 2]> {
     all
 }
 
-fn longest(path: &[[f64; 2]], other: &[[f64; 2]]) -> f64 {
+fn longest(path: &[[f64; 2]], other: &[[f64; 2]], far: f64) -> f64 {
     const STEP: f64 = 0.05;
     let (mut most, mut now) = (0.0_f64, 0.0);
     for two in path.windows(2) {
@@ -47,7 +58,7 @@ fn longest(path: &[[f64; 2]], other: &[[f64; 2]]) -> f64 {
         for s in 0..steps {
             let part = (s as f64 + 0.5) / steps as f64;
             let at = [two[0][0] + part * (two[1][0] - two[0][0]), two[0][1] + part * (two[1][1] - two[0][1])];
-            let near = other.windows(2).any(|two| away(at, two[0], two[1]) <= 0.5);
+            let near = other.windows(2).any(|two| away(at, two[0], two[1]) <= far);
             now = if near { now + long / steps as f64 } else { 0.0 };
             most = most.max(now);
         }

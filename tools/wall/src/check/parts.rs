@@ -116,7 +116,7 @@ impl<'a> Check<'a> {
             .map(|(number, bus)| Wanted { number, name: bus.name.clone(), row: self.network.bus_row(number) })
             .collect();
         let parts = self.matched(&self.reading.bars, &wanted, &Kind { thing: "bar", prefix: "bus-" });
-        let grid = self.reading.grid();
+        let grid = &self.reading.grid;
         let out = |b: &Boxed| grid.out() * (b.span.0[2] - b.span.0[0]) / grid.wide(b.bars);
         let holds = |b: &Boxed, bar: &Span| {
             let ([left, top, right, bottom], out) = (b.span.0, out(b));

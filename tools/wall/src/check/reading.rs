@@ -65,6 +65,7 @@ pub struct Reading<'a> {
     pub elements: Vec<Element<'a>>,
     pub looks: Vec<Look>,
     pub page: Span,
+    pub grid: Grid,
     pub boxes: Vec<Part>,
     pub bars: Vec<Part>,
     pub runs: Vec<Part>,
@@ -106,10 +107,12 @@ pub fn read<'a>(text: &'a str, file: &'a str) -> Result<Reading<'a>, Fault> {
         groups.push(own.unwrap_or_else(|| look.group.clone()));
         looks.push(look);
     }
+    let said = elements.iter().filter(|e| e.name == "desc").find_map(|e| Grid::said(&e.text));
     let mut reading = Reading {
         elements,
         looks,
         page,
+        grid: said.unwrap_or(Grid::USUAL),
         boxes: Vec::new(),
         bars: Vec::new(),
         runs: Vec::new(),
@@ -177,12 +180,6 @@ impl Reading<'_> {
                 self.dots.extend(middle.map(|span| span.middle()));
             }
         }
-    }
-
-    /// The grid inside the sheet's boxes.
-    pub fn grid(&self) -> Grid {
-        let said = self.elements.iter().filter(|e| e.name == "desc").find_map(|e| Grid::said(&e.text));
-        said.unwrap_or(Grid::USUAL)
     }
 
     /// Whether the sheet says that it was drawn from a file of this name with this SHA-256.

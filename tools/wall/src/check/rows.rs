@@ -33,7 +33,7 @@ impl Check<'_> {
 
     /// In each box, bars stand in the columns, each in its own.
     pub fn columns(&mut self, boxes: &HashMap<usize, Boxed>, bars: &HashMap<usize, Bar>) {
-        let grid = self.reading.grid();
+        let grid = &self.reading.grid;
         let mut taken: HashMap<(u32, i64), usize> = HashMap::new();
         for (number, bus) in self.network.buses.iter().enumerate() {
             let (Some(bar), Some(boxed)) = (bars.get(&number), boxes.get(&(bus.station as usize))) else { continue };
@@ -71,7 +71,7 @@ impl Check<'_> {
 
     fn rows_of(&mut self, station: usize, boxed: &Boxed, rows: usize, ends: &[(f64, usize)]) {
         let [left, top, right, bottom] = boxed.span.0;
-        let grid = self.reading.grid();
+        let grid = &self.reading.grid;
         let tall = (bottom - top) / grid.high(rows);
         let wide = (right - left) / grid.wide(boxed.bars);
         if tall < LEAST || wide < LEAST {

@@ -31,7 +31,7 @@ fn stroke(block: f64, part: f64, least: f64, most: f64) -> f64 {
 }
 
 /// A line with a light core is wider, so that it has as much ink.
-fn line_width(run: &Run, paint: Paint) -> f64 {
+pub fn line_width(run: &Run, paint: Paint) -> f64 {
     let more = if paint.style == Style::Solid { 1.0 } else { 1.35 };
     more * stroke(run.block, 0.13, 0.18, 0.6)
 }

@@ -67,11 +67,36 @@ impl Around<'_> {
         let whole = |s: &Rect| s.grown(0.01).holds(&Rect::around(p, q));
         let on = |&i: &usize| self.scene.stations[i].rect.overlaps(&rect) && !whole(&self.scene.stations[i].rect);
         let boxes = self.boxes.near(&rect).iter().filter(|i| on(i)).count();
-        let runs = self.scene.through(self.pieces, &rect, Some(cross.run));
+        let through = |rect: &Rect| self.scene.through(self.pieces, rect, Some(cross.run));
+        // On the stroke of another branch it would be read as that one's.
+        let struck = through(&cross.rect()) + 3 * through(&cross.rect().grown(-0.5 * cross.arm));
         let hidden = !self.scene.runs[cross.run]
             .shown
             .iter()
             .any(|part| Rect::around(part[0], part[1]).grown(1e-6).has(cross.at));
-        1000 * usize::from(hidden) + 10 * bars + 6 * boxes + 2 * runs
+        1000 * usize::from(hidden) + 10 * bars + 6 * boxes + 2 * through(&rect) + struck
+    }
+}
+
+#[cfg(test)]
+mod tests {
+    use super::*;
+    use crate::sheet::scene::Run;
+
+    fn run(branch: usize, role: u8, ends: [Point; 2]) -> Run {
+        let points = ends.to_vec();
+        Run { branch, role, shown: vec![points.clone()], points, level: None, block: 1.0, stations: [0, 1] }
+    }
+
+    /// Another branch beside it all the way: the cross stands where that one is farthest.
+    #[test]
+    fn off_another_stroke() {
+        let (open, live) = ([[0.0, 50.0], [100.0, 50.0]], [[0.0, 48.5], [100.0, 51.5]]);
+        let scene = Scene { stations: Vec::new(), bars: Vec::new(), runs: vec![run(0, 2, open), run(1, 0, live)] };
+        let page = Rect::new(0.0, 0.0, 100.0, 100.0);
+        let (pieces, boxes, bars) = (scene.pieces(&page), scene.boxes(&page), scene.bars_near(&page));
+        let all = placed(&scene, &pieces, &boxes, &bars, &page);
+        assert_eq!(all.len(), 1);
+        assert!((all[0].at[0] - 50.0).abs() * 0.03 > all[0].arm, "{:?}", all[0].at);
     }
 }

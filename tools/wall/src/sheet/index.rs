@@ -122,11 +122,12 @@ impl Contents<'_> {
         let row = |(i, stretch): (usize, &Stretch)| {
             let numbers = marks::numbers(self.network, &self.placed.scene, stretch).join(", ");
             let long = stretch.points.windows(2).map(|two| super::shape::distance(two[0], two[1])).sum::<f64>();
-            let cells = vec![numbers, self.squares.name(middle(&stretch.points)), format!("{} mm", short(long))];
-            (i.to_string(), cells)
+            let square = self.squares.name(middle(&stretch.points));
+            let label = if self.placed.marks[i].lines.is_empty() { "none" } else { "" };
+            (i.to_string(), vec![numbers, square, format!("{} mm", short(long)), label.to_string()])
         };
         let rows = self.placed.stretches.iter().enumerate().map(row).collect();
-        let heads = [("Branches", true), ("Square", false), ("Length", false)];
+        let heads = [("Branches", true), ("Square", false), ("Length", false), ("Label", false)];
         table("Circuits that run as one stroke", "data-together", &heads, rows)
     }
 

@@ -1,5 +1,6 @@
 //! Everything that the sheet shows, each at its place: what is placed later keeps clear of what is there.
 use super::block::Lost;
+use super::body::line_width;
 use super::bus_names::{self, BusName};
 use super::crosses::{self, Cross};
 use super::marks::{self, Mark};
@@ -7,7 +8,7 @@ use super::numbers::{self, Around, Numbers};
 use super::page::{Page, View};
 use super::palette::Palette;
 use super::rows::Rows;
-use super::scene::Scene;
+use super::scene::{Run, Scene};
 use super::station_names::{self, StationName};
 use super::taken::Taken;
 use super::together::{self, Stretch};
@@ -41,7 +42,10 @@ impl Placed {
         let numbers = numbers::placed(&around, &crosses, &mut taken);
         scene.stations.iter().for_each(|s| taken.add(s.rect));
         let station_names = station_names::placed(network, &scene, &pieces, 1.5 * page.text, &mut taken);
-        let stretches = together::found(&scene, &page.whole);
+        // Dashes are seen beside another stroke that they touch.
+        let width = |run: &Run| if run.is_open() { 0.0 } else { line_width(run, palette.paint(run.level)) };
+        let widths: Vec<f64> = scene.runs.iter().map(width).collect();
+        let stretches = together::found(&scene, &widths, &page.whole);
         let around = marks::Around { scene: &scene, pieces: &pieces, boxes: &boxes };
         let marks = marks::placed(network, &around, &stretches, &mut taken);
         let rows = rows(&scene, &numbers);

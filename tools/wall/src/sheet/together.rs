@@ -4,7 +4,7 @@ use super::scene::Scene;
 use super::shape::{between, distance, within, Point, Rect};
 use std::collections::BTreeMap;
 
-/// Runs this close, in millimetres, for this long are seen as one.
+/// Runs this close, in millimetres, for this long are seen as one; wider ones where their strokes touch.
 const CLOSE: f64 = 0.5;
 const LONG: f64 = 5.0;
 
@@ -23,30 +23,31 @@ struct Piece {
 }
 
 /// Which part of the way from p to q is at most so far from the piece from u to v.
-fn close(p: Point, q: Point, u: Point, v: Point) -> Option<[f64; 2]> {
-    let (d, long) = ([q[0] - p[0], q[1] - p[1]], distance(u, v));
-    let parts = [beside(p, d, u, v, long), round(p, d, u), round(p, d, v)];
+fn close(p: Point, q: Point, u: Point, v: Point, far: f64) -> Option<[f64; 2]> {
+    let d = [q[0] - p[0], q[1] - p[1]];
+    let parts = [beside(p, d, u, v, far), round(p, d, u, far), round(p, d, v, far)];
     let found = parts.into_iter().flatten().reduce(|a, b| [a[0].min(b[0]), a[1].max(b[1])])?;
     let held = [found[0].max(0.0), found[1].min(1.0)];
     (held[0] < held[1]).then_some(held)
 }
 
 /// The part beside the piece: a strip along it.
-fn beside(p: Point, d: Point, u: Point, v: Point, long: f64) -> Option<[f64; 2]> {
+fn beside(p: Point, d: Point, u: Point, v: Point, far: f64) -> Option<[f64; 2]> {
+    let long = distance(u, v);
     if long == 0.0 {
         return None;
     }
     let e = [(v[0] - u[0]) / long, (v[1] - u[1]) / long];
     let along = ((p[0] - u[0]) * e[0] + (p[1] - u[1]) * e[1], d[0] * e[0] + d[1] * e[1]);
     let across = ((p[0] - u[0]) * e[1] - (p[1] - u[1]) * e[0], d[0] * e[1] - d[1] * e[0]);
-    let lanes = [(along.0, along.1, 0.0, long), (across.0, across.1, -CLOSE, CLOSE)];
+    let lanes = [(along.0, along.1, 0.0, long), (across.0, across.1, -far, far)];
     within(lanes, [f64::NEG_INFINITY, f64::INFINITY])
 }
 
 /// The part round an end of the piece: a circle.
-fn round(p: Point, d: Point, c: Point) -> Option<[f64; 2]> {
+fn round(p: Point, d: Point, c: Point, far: f64) -> Option<[f64; 2]> {
     let (a, b) = (d[0] * d[0] + d[1] * d[1], d[0] * (p[0] - c[0]) + d[1] * (p[1] - c[1]));
-    let rest = (p[0] - c[0]) * (p[0] - c[0]) + (p[1] - c[1]) * (p[1] - c[1]) - CLOSE * CLOSE;
+    let rest = (p[0] - c[0]) * (p[0] - c[0]) + (p[1] - c[1]) * (p[1] - c[1]) - far * far;
     let under = b * b - a * rest;
     (a > 0.0 && under > 0.0).then(|| [(-b - under.sqrt()) / a, (-b + under.sqrt()) / a])
 }
@@ -63,8 +64,14 @@ fn pieces(scene: &Scene) -> Vec<Piece> {
     list
 }
 
+/// How far apart two runs with strokes of these widths are seen as one.
+fn reach(a: f64, b: f64) -> f64 {
+    CLOSE.max((a + b) / 2.0)
+}
+
 /// For each run, the stretches of it that a later run shares: from, to, and which.
-fn shared(scene: &Scene, page: &Rect) -> Vec<Vec<(f64, f64, usize)>> {
+fn shared(scene: &Scene, widths: &[f64], page: &Rect) -> Vec<Vec<(f64, f64, usize)>> {
+    let widest = widths.iter().copied().fold(0.0, f64::max);
     let list = pieces(scene);
     let mut near = Near::new(page);
     list.iter().enumerate().for_each(|(i, piece)| near.insert_piece(i, piece.ends[0], piece.ends[1]));
@@ -72,9 +79,10 @@ fn shared(scene: &Scene, page: &Rect) -> Vec<Vec<(f64, f64, usize)>> {
     for (number, piece) in list.iter().enumerate() {
         let [p, q] = piece.ends;
         let long = distance(p, q);
-        let later = near.later(number, p, q, CLOSE).into_iter().map(|i| &list[i]);
+        let later = near.later(number, p, q, reach(widest, widest)).into_iter().map(|i| &list[i]);
         for other in later.filter(|other| other.run > piece.run) {
-            if let Some([a, b]) = close(p, q, other.ends[0], other.ends[1]) {
+            let far = reach(widths[piece.run], widths[other.run]);
+            if let Some([a, b]) = close(p, q, other.ends[0], other.ends[1], far) {
                 let part = [piece.start + a * long, piece.start + b * long];
                 found[piece.run].entry(other.run).or_default().push(part);
             }
@@ -146,11 +154,12 @@ fn away(p: Point, points: &[Point]) -> f64 {
     points.windows(2).map(one).fold(f64::INFINITY, f64::min)
 }
 
-/// All stretches, by their first run; runs that join an earlier stretch, all along, are added to it.
-pub fn found(scene: &Scene, page: &Rect) -> Vec<Stretch> {
+/// All stretches, by their first run; runs that join an earlier stretch, all along, are added to it. The runs' strokes have these
+/// widths.
+pub fn found(scene: &Scene, widths: &[f64], page: &Rect) -> Vec<Stretch> {
     let mut list: Vec<Stretch> = Vec::new();
     let mut of_run: BTreeMap<usize, Vec<usize>> = BTreeMap::new();
-    for (run, mut parts) in shared(scene, page).into_iter().enumerate() {
+    for (run, mut parts) in shared(scene, widths, page).into_iter().enumerate() {
         parts.sort_by(|a, b| a.0.total_cmp(&b.0).then(a.2.cmp(&b.2)));
         for (from, to, mut runs) in grouped(parts) {
             runs.push(run);
@@ -158,7 +167,8 @@ pub fn found(scene: &Scene, page: &Rect) -> Vec<Stretch> {
             runs.dedup();
             let points = along(&scene.runs[run].points, from, to);
             let there = [points[0], middle(&points), points[points.len() - 1]];
-            let known = |i: &&usize| there.iter().all(|&p| away(p, &list[**i].points) < 2.0 * CLOSE);
+            let known =
+                |i: &&usize| there.iter().all(|&p| away(p, &list[**i].points) < 2.0 * reach(widths[run], widths[run]));
             let earlier = of_run.get(&run).and_then(|ids| ids.iter().find(known).copied());
             let place = earlier.unwrap_or_else(|| {
                 list.push(Stretch { runs: Vec::new(), points });
@@ -209,9 +219,16 @@ mod tests {
     }
 
     fn of(runs: &[&[Point]]) -> Vec<(Vec<usize>, f64)> {
+        of_width(runs, 0.3)
+    }
+
+    fn of_width(runs: &[&[Point]], wide: f64) -> Vec<(Vec<usize>, f64)> {
         let page = Rect::new(0.0, 0.0, 200.0, 200.0);
         let long = |points: &[Point]| points.windows(2).map(|two| distance(two[0], two[1])).sum::<f64>();
-        found(&scene(runs), &page).into_iter().map(|s| (s.runs, (long(&s.points) * 10.0).round() / 10.0)).collect()
+        found(&scene(runs), &vec![wide; runs.len()], &page)
+            .into_iter()
+            .map(|s| (s.runs, (long(&s.points) * 10.0).round() / 10.0))
+            .collect()
     }
 
     #[test]
@@ -223,6 +240,13 @@ mod tests {
         assert_eq!(of(&[line, &[[50.3, 10.0], [90.0, 10.0]]]), [], "end to end");
         assert_eq!(of(&[line, &[[45.4, 10.1], [90.0, 10.1]]]).len(), 1);
         assert_eq!(of(&[line, &[[45.6, 10.1], [90.0, 10.1]]]).len(), 0);
+    }
+
+    #[test]
+    fn wide_strokes() {
+        let two = |apart: f64| [vec![[0.0, 10.0], [50.0, 10.0]], vec![[0.0, 10.0 + apart], [50.0, 10.0 + apart]]];
+        let count = |apart: f64| of_width(&two(apart).iter().map(Vec::as_slice).collect::<Vec<_>>(), 0.6).len();
+        assert_eq!((count(0.55), count(0.65)), (1, 0), "no paper between them, and 0.05 mm");
     }
 
     #[test]
