@@ -8,8 +8,7 @@
  * come first, then the options, then the lists that it reads.
  *
  * n buses, m branches, k = highest station number + 1 (0 without buses),
- * L = mesh length = corners_len, counted as at most 24,576,
- * I = 4n + 257, above 128 buses 4n + 4097.
+ * L = mesh length = corners_len, counted as at most 24,576.
  *
  * Link with target/staticlib/libexports.a (`rt staticlib exports`), x86-64 Linux.
  */
@@ -97,7 +96,7 @@ tansygate_plotted tansygate_plot(
     uint32_t *stations, size_t stations_len,                /* 2n */
     uint32_t *buses, size_t buses_len,                      /* 3n */
     uint32_t *ends, size_t ends_len,                        /* 4m + 4L + 4 */
-    uint32_t *sorted, size_t sorted_len,                    /* n + 2m + L and at least I; also 1 a crossing */
+    uint32_t *sorted, size_t sorted_len,                    /* n + 2m + L and at least 5n; also 1 a crossing */
     uint32_t *spare, size_t spare_len,                      /* n + 2m + L; also 1 a crossing */
     uint64_t *keys, size_t keys_len,                        /* n + 2m + L; also 1 a crossing */
     double *places, size_t places_len,                      /* 2n + 4m */
@@ -139,7 +138,7 @@ tansygate_audited tansygate_audit(
     double *relative, size_t relative_len,                  /* one a piece: each line's drawn length over its straight length */
     /* work lists */
     uint32_t *stations, size_t stations_len,                /* 2n */
-    uint32_t *index, size_t index_len,                      /* I */
+    uint32_t *index, size_t index_len,                      /* 5n */
     uint32_t *spare, size_t spare_len,                      /* n */
     uint64_t *keys, size_t keys_len,                        /* n */
     double *points, size_t points_len,                      /* 2n */

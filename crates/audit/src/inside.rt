@@ -1,5 +1,4 @@
 // An audit once its input has passed: refusals 13 and 8, and the figures.
-ghost use mathlib.Core.Path.{_≡_};
 ghost use Prim.Native.Nat.{_*_, _≤_};
 ghost use lib.ListN.{length};
 ghost use Rattle.network.specs.Words.{stationCount};

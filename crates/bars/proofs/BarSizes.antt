@@ -1,6 +1,5 @@
 -- Bars, positions, row ends and exits have bounds: boxes within 2 ^ 70, blocks within 2 ^ 46, columns below 2 ^ 12, rows below 2 ^ 13, gaps of at most 8. Assumes nothing.
-use Prim.Native.Nat.{ℕ, zero, suc, _+_, _-_, _^_, _≤_, _<_, min, max}
-use native.Mathlib.Nat.{le-trans}
+use Prim.Native.Nat.{ℕ, zero, suc, _+_, _-_, _^_, _≤_}
 use native.Mathlib.Omega.{arith}
 use mathlib.Core.Bool.{Bool, true, false}
 use mathlib.Core.List.{List}

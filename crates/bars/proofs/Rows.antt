@@ -3,18 +3,18 @@ use mathlib.Core.Path.{_≡_, refl, sym, ap, _∙_, subst}
 use mathlib.Core.Logic.{_≢_}
 use mathlib.Core.Bool.{Bool, true, false}
 use mathlib.Core.List.{List}
-use Prim.Native.Nat.{ℕ, zero, suc, _+_, _*_, _≤_, _<_, min, max}
+use Prim.Native.Nat.{ℕ, zero, suc, _+_, _*_, _<_, min, max}
 use native.Mathlib.Omega.{arith}
 use native.Mathlib.Nat.{add-zero}
 use native.Mathlib.Numerals.{add-one}
 use borrow.Author.Count.{below-more}
-use borrow.Author.Tests.{eq-eqb, ne-eqb, eqb-true, eqb-false}
+use borrow.Author.Tests.{eqb-true, eqb-false}
 use lib.Dec.{eqb}
 use lib.IntN.{ℤ, negsuc}
 use lib.ListN.{length, getD, set, length-set}
 use lib.Seq.{getD-set-same, getD-set-other}
 use Rattle.order.specs.Order.{pick}
-use Rattle.order.specs.Table.{table, strided}
+use Rattle.order.specs.Table.{table}
 use Rattle.order.proofs.Tables.{length-table, getD-table, table-ext}
 use Rattle.order.proofs.Strides.{getD-strided, getD-first, strided-ext}
 use Rattle.network.specs.declared.words.Known.{Known}
@@ -23,7 +23,7 @@ use Rattle.network.specs.declared.words.Kind.{Kind}
 use Rattle.network.specs.declared.words.Kind.the-variants.{Undrawn, Open, Internal, Line}
 use Rattle.network.specs.Words.{Safe, stationOf, kindBy, kindFor, known, live, kindOf, kinds, kindAt}
 use Rattle.network.specs.Views.{columnsIn, fromRowsIn, toRowsIn}
-use Rattle.bars.specs.Bar.{Span, bare, rows, spanOf, include, includeEnd, includeBranch, spanTo, spans}
+use Rattle.bars.specs.Bar.{Span, bare, spanOf, include, includeEnd, includeBranch, spanTo, spans}
 use Rattle.bars.specs.Stages.Span.{spanAt, spansIn, firstWith, Included}
 
 -- ---- the two numbers of a bus's rows with one more row

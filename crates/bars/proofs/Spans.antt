@@ -3,7 +3,7 @@
 use mathlib.Core.Path.{_≡_, refl, ap}
 use Prim.Native.Nat.{ℕ, zero, suc, _-_, _<_}
 use native.Mathlib.Omega.{arith}
-use Rattle.bars.specs.Bar.{Span, bare, rows, spanOf}
+use Rattle.bars.specs.Bar.{bare, rows, spanOf}
 
 pub span-none : (first past : ℕ) → past ≡ 0 → spanOf first past ≡ bare
 unfolding spanOf

@@ -2,7 +2,7 @@
 pub mod span;
 
 ghost use mathlib.Core.Path.{_≡_};
-ghost use Prim.Native.Nat.{_≤_, _<_, _^_};
+ghost use Prim.Native.Nat.{_<_};
 ghost use Rattle.bars.specs.Bar.{barX, rowY, rows, bare, spanOf, reach, lengthened, barFor, position};
 ghost use Rattle.bars.specs.Exit.{exitX};
 use geometry::Box;

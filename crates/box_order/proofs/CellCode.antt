@@ -5,12 +5,12 @@ use mathlib.Core.Bool.{Bool, true, false, cond, true≢false}
 use Prim.Native.Nat.{ℕ, zero, suc, _+_, _-_, _*_, _/_, _^_, _≤_, _<_, min}
 use native.Mathlib.Nat.{div-lt-iff-lt-mul}
 use native.Mathlib.Omega.{arith}
-use borrow.Author.Tests.{ltb-true, ltb-false, le-ltb, lt-ltb}
-use lib.Dec.{T, ltb}
-use lib.IntN.{ℤ, pos, negsuc, negℤ, natAbs, subℕ, _+ℤ_}
+use borrow.Author.Tests.{ltb-true, ltb-false, le-ltb}
+use lib.Dec.{T}
+use lib.IntN.{ℤ, pos, negsuc, negℤ, natAbs, _+ℤ_}
 use lib.Signed.{nonNeg, mag}
 use lib.Ieee.{Float, nan, inf, fin, binary64, up, down, lt, neg, ofBits, ofFields, odd}
-use lib.Ieee.Fits.{down-pos, up-pos}
+use lib.Ieee.Fits.{down-pos}
 use mir.Syntax.{w64}
 use mir.Val.{Fits, SFits, toZ, ofZ}
 use mir.Facts.{toZ-ofZ}

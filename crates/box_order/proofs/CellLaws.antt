@@ -1,11 +1,11 @@
 -- The cell of an edge rises with the edge, so a box that overlaps lies in the stretch: for every box and unit, held cells, infinite quotients and unit 0 included. Assumes nothing.
-use mathlib.Core.Path.{_≡_, refl, sym, ap, _∙_, subst}
+use mathlib.Core.Path.{_≡_, refl, sym, _∙_, subst}
 use mathlib.Core.Bool.{Bool, true, false, _&&_, cond, true≢false}
-use Prim.Native.Nat.{ℕ, zero, suc, _+_, _-_, _*_, _^_, _≤_, _<_, min}
-use native.Mathlib.Nat.{le-refl, le-of-eq, le-trans}
+use Prim.Native.Nat.{ℕ, zero, suc, _+_, _-_, _^_, _≤_, min}
+use native.Mathlib.Nat.{le-refl, le-of-eq}
 use native.Mathlib.Omega.{arith}
 use lib.IntN.{ℤ, pos, negsuc, sucℤ}
-use lib.Dec.{T, ltb, leb, le→leb}
+use lib.Dec.{T, leb, le→leb}
 use lib.Ieee.{Float, nan, inf, fin, le, eq, lt, div}
 use lib.Ieee.Fits.{and-l, and-r, and-i}
 use lib.Ieee.Positive.{positive}

@@ -1,11 +1,11 @@
 -- The stretch in 02's words: over cells as whole numbers with a sign, the stretch is what it is over the numbers stored. Assumes nothing.
-use mathlib.Core.Path.{_≡_, refl, sym, ap, _∙_, subst}
+use mathlib.Core.Path.{_≡_, sym, ap, _∙_, subst}
 use mathlib.Core.Logic.{_⊎_, inl, inr}
 use mathlib.Core.Bool.{Bool, true, false, cond, _&&_}
-use Prim.Native.Nat.{ℕ, zero, suc, _+_, _-_, _*_, _/_, _^_, _≤_, _<_, min}
+use Prim.Native.Nat.{ℕ, zero, suc, _+_, _-_, _^_, _≤_, _<_, min}
 use native.Mathlib.Omega.{arith}
-use lib.Dec.{T, leb, ltb, leb→le, le→leb}
-use lib.IntN.{ℤ, pos, negsuc, negℤ, subℕ, _-ℤ_}
+use lib.Dec.{T, leb, le→leb}
+use lib.IntN.{ℤ, pos, negsuc, subℕ, _-ℤ_}
 use lib.Signed.{leZ}
 use lib.Ieee.{Float, nan, inf, fin, lt, le}
 use borrow.Author.Tests.{le-leb, lt-leb, lt-ltb, le-ltb}

@@ -1,18 +1,16 @@
 -- A wish is read back from its key. Assumes nothing.
-use mathlib.Core.Path.{_≡_, refl, sym, ap, _∙_, subst}
-use mathlib.Core.Logic.{⊎-elim}
-use mathlib.Core.Bool.{Bool, true, false, cond}
+use mathlib.Core.Path.{_≡_, refl, ap, _∙_}
+use mathlib.Core.Bool.{Bool, cond}
 use mathlib.Core.List.{List, [], _∷_, map}
 use Prim.Native.Nat.{ℕ, zero, suc, _+_, _-_, _^_, _≤_, _<_}
 use native.Mathlib.Omega.{arith}
 use native.Mathlib.Decide.{decLe}
 use lib.Dec.{T, leb}
-use lib.ListN.{length, getD}
+use lib.ListN.{getD}
 use lib.Ieee.{Float, nan, inf, fin, isNan, fits, binary64, ofBits, toBits, ofFields, odd}
 use lib.Ieee.Bits.{ofBits-toBits, toBits-lt}
 use borrow.Author.Tests.{le-leb, lt-leb}
 use Rattle.float.specs.Key.{keyOf}
-use Rattle.float.specs.Ops.{orderKey}
 use Rattle.float.proofs.Keys.{key-low, key-high}
 use Rattle.order.specs.Order.{keyAt}
 use Rattle.channel.specs.Space.{wishKey, wishOf, inOrder, readBack}

@@ -2,7 +2,7 @@
 use mathlib.Core.Path.{_≡_, refl}
 use Prim.Native.Nat.{ℕ}
 use mathlib.Core.List.{List, [], _∷_, map}
-use lib.Ieee.{Float, binary64, ofBits, toBits, isNan, units, lt, eq, add, sub, mul, div, ofInt}
+use lib.Ieee.{binary64, ofBits, toBits, isNan, units, lt, eq, add, sub, mul, div, ofInt}
 use Rattle.float.specs.Small.{maxOf, minOf, clampOf}
 use Rattle.float.specs.Key.{keyOf}
 use Rattle.order.specs.Order.{insertBy, sortBy, upFrom}

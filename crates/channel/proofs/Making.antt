@@ -1,5 +1,5 @@
 -- The steps that make a channel. Assumes nothing.
-use mathlib.Core.Path.{_≡_, refl}
+use mathlib.Core.Path.{_≡_}
 use lib.Ieee.{Float}
 use Rattle.float.specs.Ops.{_⊕_, _⊖_, _⊗_, _⊘_, f1, leastNormal}
 use Rattle.float.specs.Small.{maxOf, minOf}

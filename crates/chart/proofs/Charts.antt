@@ -1,6 +1,6 @@
 -- A drawing charted in the work lists: laid out, and its lines routed.
 -- Assumes nothing.
-use Prim.Native.Nat.{ℕ, zero, suc, _+_, _*_, _^_, _≤_, _<_, min}
+use Prim.Native.Nat.{ℕ, _+_, _*_, _≤_, _<_, min}
 use mathlib.Core.Path.{_≡_, refl, sym, ap, _∙_, subst}
 use mathlib.Core.Bool.{Bool, true, false}
 use mathlib.Core.List.{List, []}
@@ -8,38 +8,30 @@ use native.Mathlib.Omega.{arith}
 use lib.Dec.{ltb}
 use lib.ListN.{length, getD}
 use lib.Ieee.{Float}
-use Rattle.order.specs.Order.{pick}
 use Rattle.order.specs.Table.{table}
 use Rattle.order.proofs.Tables.{length-table, getD-table}
 use Rattle.geometry.specs.declared.Point.{Point}
-use Rattle.geometry.specs.declared.Box.{Box}
 use Rattle.network.specs.declared.options.Options.{Options}
-use Rattle.network.specs.Words.{stationOf, busCounts, kinds, kindOf, occupied}
+use Rattle.network.specs.Words.{stationOf, kinds, occupied}
 use Rattle.network.specs.Views.{countsIn, fromRowsIn, toRowsIn, pointsIn, boxesIn}
-use Rattle.units.specs.Stages.Views.{scalesIn}
 use Rattle.placement.specs.Sized.{illSized}
-use Rattle.placement.specs.Stages.Views.{framesIn}
-use Rattle.bars.specs.declared.Bar.{Bar}
-use Rattle.cells.specs.Cells.{cellSize}
-use Rattle.detour.specs.Stages.Paths.{pathIn}
 use Rattle.runs.specs.Run as Run
 use Rattle.runs.specs.Run.{Scene}
-use Rattle.runs.specs.Stages.Views.{wayOf, wayCount, held, lead, Fits}
+use Rattle.runs.specs.Stages.Views.{held, lead}
 use Rattle.pieces.specs.Stages.Pieces.{runsIn}
-use Rattle.results.specs.Stages.Bars.{barsIn}
 use Rattle.crossings.specs.Route as Route
 use Rattle.crossings.specs.Stages.Views.{Grid, grid, linesIn}
 use Rattle.crossings.specs.Gap.{gapOf}
 use Rattle.exits.proofs.Keeping.{exited-rows}
-use Rattle.routes.specs.Routes.{meshUsed, meshFits, crossingsOf, routeRefusal}
+use Rattle.routes.specs.Routes.{meshFits, crossingsOf, routeRefusal}
 use Rattle.routes.specs.Stages.Routed.{routedIn, Routes}
 use Rattle.drawing.specs.Network.{Network}
 use Rattle.drawing.specs.Drawing as Drawing
 use Rattle.drawing.specs.Drawing.{measuresOf, planned, drawing, straightScene, ledScene, routedScene, routedOf, sceneOf}
 use Rattle.drawing.specs.Answer.{routedBy}
-use Rattle.chart.specs.Stages.Held.{Holds, Laid}
+use Rattle.chart.specs.Stages.Held.{Laid}
 use Rattle.chart.specs.Stages.Charted.{routedLate, Charted}
-use Rattle.chart.proofs.Scenes.{blocksBy, barsBy, bars-held, sceneBy, lines-held, runs-held}
+use Rattle.chart.proofs.Scenes.{bars-held, sceneBy, lines-held, runs-held}
 
 routed-cong : (S S' : Scene) (a a' : List ℕ) (b b' : List Float) (c c' : Float) (d d' e e' : List ℕ)
     → S ≡ S' → a ≡ a' → b ≡ b' → c ≡ c' → d ≡ d' → e ≡ e' → routedScene S a b c d e ≡ routedScene S' a' b' c' d' e'
@@ -109,16 +101,15 @@ module _ (o : Options) (N : Network) (k : ℕ) (unit : Float) (stations buses en
     counts-are : countsIn k stations' ≡ planned o N .counts
     counts-are = R .counts ∙ G .counts ∙ G .holds .counts
 
-    runs-are : l ≡ 0 → (cell : Float) → cell ≡ cellSize (boxesIn k frames) (occupied (countsIn k stations'))
-        → runsIn (held (N .station) (measuresOf o unit) buses ends' blocks places frames (lead (ltb 0 its) cell (gapOf unit) k stations' ways)) (N .from) (N .to) (N .service)
+    runs-are : l ≡ 0
+        → runsIn (held (N .station) (measuresOf o unit) buses ends' blocks places frames (lead (ltb 0 its) (gapOf unit) k stations' ways)) (N .from) (N .to) (N .service)
         ≡ drawing o N .runs
     unfolding drawing sceneOf
-    runs-are z cell c =
-        runs-held (N .station) (measuresOf o unit) buses blocks frames k below ends' places (N .from) (N .to) (N .service) (ltb 0 its) cell (gapOf unit) stations' ways
+    runs-are z =
+        runs-held (N .station) (measuresOf o unit) buses blocks frames k below ends' places (N .from) (N .to) (N .service) (ltb 0 its) (gapOf unit) stations' ways
         (occupied (countsIn k stations'))
         (Drawing.waysOf (routedOf o N (planned o N)) (crossingsOf (routedOf o N (planned o N)) its))
         refl
-        c
         (exited-rows (N .station) (N .from) (N .to) (N .service) (measuresOf o unit) blocks places frames ends ends' (R .fromRows) (R .toRows) (G .exits))
         (λ e h. R .along z e h ∙ way-is e h)
         ∙ ap Run.runs

@@ -44,9 +44,8 @@ use Rattle.bars.specs.Stages.Span.{spanAt, spansIn}
 use Rattle.bars.specs.Exit.{exit}
 use Rattle.runs.specs.Run as Run
 use Rattle.runs.specs.Run.{Scene, slot, ledPath, linePoints, runFor, runOf}
-use Rattle.cells.specs.Cells.{cellSize}
 use Rattle.detour.specs.Stages.Paths.{pathIn}
-use Rattle.runs.specs.Stages.Views.{Held, held, lead, blockOf, barOf, slotOf, exitOf, firstExit, secondExit, openFrom, internalFrom, ledIn, ledRun, lineFrom, runFrom, wayOf, wayCount, runIn}
+use Rattle.runs.specs.Stages.Views.{RunLists, held, lead, blockOf, barOf, slotOf, exitOf, firstExit, secondExit, openFrom, internalFrom, ledIn, ledRun, lineFrom, runFrom, wayOf, wayCount, runIn}
 use Rattle.crossings.specs.Stages.Views as Routing
 use Rattle.crossings.specs.Stages.Views.{grid, exitAt, lineBetween, lineIn, linesIn}
 use Rattle.exits.specs.Stages.Exits.{exitsOf, exitsIn, Exited}
@@ -166,15 +165,15 @@ module _ (sub : List ℕ) (measures : Measures) (buses : List ℕ) (blocks frame
 
       -- ---- runs over waypoints that a list holds
 
-      module _ (led : Bool) (cell gap : Float) (stations : List ℕ) (ways : List Float) (occ : List ℕ) (W : List (List Point))
-          (oc : occ ≡ occupied (countsIn k stations)) (ce : cell ≡ cellSize (boxesIn k frames) (occupied (countsIn k stations))) where
-        abbrev heldBy : Held
-        heldBy = held sub measures buses ends blocks places frames (lead led cell gap k stations ways)
+      module _ (led : Bool) (gap : Float) (stations : List ℕ) (ways : List Float) (occ : List ℕ) (W : List (List Point))
+          (oc : occ ≡ occupied (countsIn k stations)) where
+        abbrev heldBy : RunLists
+        heldBy = held sub measures buses ends blocks places frames (lead led gap k stations ways)
 
         abbrev ledBy : Scene
         ledBy = ledScene (sceneBy from to service) led occ gap W
 
-        led-held : (s t : ℕ) (path : List Point) → ledIn led cell gap k stations frames s t path ≡ ledPath ledBy s t path
+        led-held : (s t : ℕ) (path : List Point) → ledIn led gap k stations frames s t path ≡ ledPath ledBy s t path
         unfolding ledIn ledPath ledScene straightScene
         led-held s t path = cc
 

@@ -6,7 +6,6 @@ use Prim.Native.Nat.{ℕ, _+_, _*_, _-_, _^_, _≤_, _<_, zero-le}
 use native.Mathlib.Omega.{arith}
 use lib.IntN.{ℤ}
 use lib.ListN.{length, getD}
-use Rattle.order.specs.Table.{table, strided}
 use Rattle.order.proofs.Tables.{getD-table, length-table, howMany-le}
 use Rattle.order.proofs.Strides.{getD-first, getD-strided}
 use Rattle.geometry.specs.declared.Point.{Point}

@@ -8,10 +8,12 @@ ghost use Rattle.network.specs.Options.{searchOf};
 ghost use Rattle.network.specs.Words.{stationCount, occupied};
 ghost use Rattle.network.specs.Views.{countsIn, boxesIn};
 ghost use Rattle.placement.specs.Sized.{illSized};
+ghost use Rattle.box_tree.specs.Stages.Tree.{Indexed};
 ghost use Rattle.drawing.specs.Network.{network};
 ghost use Rattle.chart.specs.Stages.Held.{Laid};
 ghost use Rattle.chart.specs.Stages.Charted.{Charted};
 use crate::lay::lay;
+use box_tree::build::index_boxes;
 use network::options::Options;
 use placement::sized::ill_sized;
 use routes::route_lines;
@@ -91,7 +93,7 @@ fn route(
     Course { unit, late }
 }
 
-// Lays a drawing out and routes its lines.
+// Lays a drawing out, routes its lines, and enters its boxes in `sorted` where lines are led round them.
 pub fn chart(
     o: Options,
     sub: &[u32],
@@ -124,6 +126,7 @@ pub fn chart(
     requires { ⌜ (3 * room ≤ length (now numbers)) × (room ≤ length (now along)) × (2 * room ≤ length (now ways)) × (room ≤ length (now sorted)) × (room ≤ length (now spare)) × (room ≤ length (now keys)) ⌝ }
     requires { ⌜ (4 * length (now from) + 4 * min (length (now corners)) 24576 + 4 ≤ length (now ends)) × (min (length (now corners)) 24576 ≤ length (now sorted)) × (min (length (now corners)) 24576 ≤ length (now spare)) × (min (length (now corners)) 24576 ≤ length (now keys)) × (2 * length (now sub) + 3 * min (length (now corners)) 24576 + 16 ≤ length (now path)) ⌝ }
     ensures { λ r. ⌜ Charted o (network (now (sub .entry)) (now (kv .entry)) (now (from .entry)) (now (to .entry)) (now (service .entry)) (now (xy .entry)) (now (corners .entry)) (now (twins .entry))) k room (r .unit) (r .late) (now (stations .exit)) (now (buses .exit)) (now (ends .exit)) (now (blocks .exit)) (now (places .exit)) (now (frames .exit)) (now (path .exit)) (now (ways .exit)) ⌝ }
+    ensures { λ _. ⌜ Indexed (boxesIn k (now (frames .exit))) (occupied (countsIn k (now (stations .exit)))) (now (sorted .exit)) ⌝ }
 {
     let unit = lay(
         o,
@@ -148,7 +151,7 @@ pub fn chart(
         path,
     );
     let ill = ill_sized(k, stations, frames);
-    route(
+    let course = route(
         o,
         ill,
         sub,
@@ -175,5 +178,15 @@ pub fn chart(
         numbers,
         along,
         ways,
-    )
+    );
+    index_boxes(
+        0 < o.route_iterations,
+        k,
+        stations,
+        frames,
+        sorted,
+        spare,
+        keys,
+    );
+    course
 }

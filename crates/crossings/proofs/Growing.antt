@@ -6,7 +6,6 @@ use Prim.Native.Nat.{ℕ, zero, suc, _+_, _*_, _≤_, _<_}
 use native.Mathlib.Omega.{arith}
 use native.Mathlib.Nat.{add-zero, zero-add, add-suc, suc-add}
 use native.Mathlib.Numerals.{add-one}
-use lib.Dec.{eqb}
 use lib.ListN.{length, getD, set, take, length-set, length-append}
 use lib.Seq.{take-suc, take-suc-set}
 use lib.Ieee.{Float}
@@ -16,7 +15,7 @@ use Rattle.order.specs.Table.{strided}
 use Rattle.order.proofs.Strides.{strided-push, strided-other, first-push, first-other}
 use Rattle.mesh.specs.Mesh.{lowAt, highAt}
 use Rattle.crossings.specs.Route.{Scene, Routing, Keyed, Crossing, numberOf, makeChannel, withChannel, crossingOf, cross, crossAll}
-use Rattle.crossings.specs.Stages.Store.{numberFor, marksFor, withMarks, countWith, placeOn, Marked, Stock, stock, Held, meshed, Grown}
+use Rattle.crossings.specs.Stages.Store.{numberFor, marksFor, withMarks, countWith, placeOn, Marked, Stock, stock, Stocked, meshed, Grown}
 use Rattle.crossings.proofs.Numbers.{with-old, with-new}
 use Rattle.crossings.proofs.Marks.{mark-none, mark-some, marked-more, with-beside}
 
@@ -85,7 +84,7 @@ module _ (numbers : List ℕ) (x c e : ℕ) (l : 3 * x + 1 < length numbers) whe
 mapped : {A : Type 0} (f : Crossing → A) (xs : List Crossing) (y : Crossing) (l k : List A) (a : A) → l ≡ k ++ (a ∷ []) → k ≡ map f xs → a ≡ f y → l ≡ map f (xs ++ (y ∷ []))
 mapped f xs y l k a p q r = let s : map f (xs ++ (y ∷ [])) ≡ map f xs ++ (f y ∷ []) = map-append f xs (y ∷ []) in cc
 
-module _ (m : ℕ) (S : Scene) (r : Routing) (s : Stock) (v : Held m (S .corners) r s) (va vb e j h : ℕ) where
+module _ (m : ℕ) (S : Scene) (r : Routing) (s : Stock) (v : Stocked m (S .corners) r s) (va vb e j h : ℕ) where
   abbrev corners : List ℕ
   corners = S .corners
 
@@ -95,7 +94,7 @@ module _ (m : ℕ) (S : Scene) (r : Routing) (s : Stock) (v : Held m (S .corners
   pub held-cross : (c k : ℕ) (t : Float) (ends numbers : List ℕ) (places : List Float) → h < length (S .corners) → 4 * (m + length (S .corners)) + 4 ≤ length (s .ends)
       → 3 * s .crossings + 1 < length (s .numbers) → s .crossings < length (s .places) → t ≡ placeOn (S .corners) (S .centres) va vb h → c ≡ numberFor (s .channels) y
       → ends ≡ marksFor (S .corners) m h (s .channels) y (s .ends) → numbers ≡ set (set (s .numbers) (3 * s .crossings) c) (3 * s .crossings + 1) e
-      → places ≡ set (s .places) (s .crossings) t → k ≡ countWith (s .channels) c → Held m (S .corners) (cross S va vb e j h r) (stock k (s .crossings + 1) ends numbers places)
+      → places ≡ set (s .places) (s .crossings) t → k ≡ countWith (s .channels) c → Stocked m (S .corners) (cross S va vb e j h r) (stock k (s .crossings + 1) ends numbers places)
   unfolding cross crossingOf placeOn
   held-cross c k t ends numbers places l room space wide qt qc qe qn qp qk =
       let x = s .crossings in
@@ -150,7 +149,7 @@ module _ (m : ℕ) (corners : List ℕ) (points : List Float) (va vb e : ℕ) (t
   grown-more i h a b c l q p f =
       record {
         beside = f 0 .beside ∙ p .beside;
-        grown = λ S r v. subst (λ (z : Routing). Held m corners z c) (sym (same S r)) (f (length (take i trail)) .grown S (upTo i (scene S) r) (p .grown S r v));
+        grown = λ S r v. subst (λ (z : Routing). Stocked m corners z c) (sym (same S r)) (f (length (take i trail)) .grown S (upTo i (scene S) r) (p .grown S r v));
       }
     where
       scene : Scene → Scene

@@ -1,11 +1,11 @@
 -- Channels as the lists hold them: at most as many as half-edges, and one channel more. Assumes nothing.
-use mathlib.Core.Path.{_≡_, refl, sym, ap, _∙_, subst}
+use mathlib.Core.Path.{_≡_, refl, sym, ap, _∙_}
 use mathlib.Core.Logic.{_⊎_, inl, inr, ⊎-elim}
 use mathlib.Core.Bool.{Bool, true, false, true≢false}
 use mathlib.Core.List.{List, [], _∷_, _++_}
-use Prim.Native.Nat.{ℕ, zero, suc, _+_, _*_, _≤_, _<_, min, max}
+use Prim.Native.Nat.{ℕ, suc, _+_, _*_, _≤_, _<_, min, max}
 use native.Mathlib.Omega.{arith}
-use lib.Dec.{ltb, eqb}
+use lib.Dec.{eqb}
 use lib.ListN.{length, getD, set, take, length-set, length-append, List·getD-append}
 use lib.Seq.{getD-set-same, getD-set-other, getD-append-seam, take-set-le}
 use borrow.Author.Tests.{lt-ltb, le-ltb, eqb-true}
@@ -14,10 +14,10 @@ use Rattle.order.proofs.Merging.{le-or-lt}
 use Rattle.mesh.specs.Mesh.{at, endAt, lowAt, highAt}
 use Rattle.mesh.proofs.Pigeons.{channels-few}
 use Rattle.mesh.proofs.Tests.{both}
-use Rattle.crossings.specs.Route.{Scene, Keyed, noChannel, numberOf, makeChannel, withChannel}
+use Rattle.crossings.specs.Route.{Scene, Keyed, noChannel, numberOf, makeChannel}
 use Rattle.crossings.specs.Stages.Views.{Edged}
-use Rattle.crossings.specs.Stages.Store.{edgesFrom, stamp, withMarks, numberFor, marksFor, countWith, markOf, Marked}
-use Rattle.crossings.proofs.Numbers.{keyed, same-key, other-key, number-le, number-front, number-new, number-other, with-old, with-new, made-low, made-high}
+use Rattle.crossings.specs.Stages.Store.{edgesFrom, stamp, withMarks, markOf, Marked}
+use Rattle.crossings.proofs.Numbers.{keyed, same-key, number-le, number-front, number-new, number-other, made-low, made-high}
 use Rattle.crossings.proofs.Stamps.{Has, length-stamp, stamp-rest, stamp-beside, stamp-out, stamp-in, edgesFrom-has, edgesFrom-is}
 
 mark-yes : (k c : ℕ) → c < k → markOf k c ≡ suc c

@@ -1,15 +1,14 @@
 -- Numbers of channels: what one channel more does to them. Assumes nothing.
-use mathlib.Core.Path.{_≡_, refl, sym, ap, _∙_}
+use mathlib.Core.Path.{_≡_, refl, ap}
 use mathlib.Core.Bool.{Bool, true, false, cond, _&&_}
 use mathlib.Core.List.{List, [], _∷_, _++_}
-use Prim.Native.Nat.{ℕ, zero, suc, _+_, _≤_, _<_, zero-le, suc-le-suc}
+use Prim.Native.Nat.{ℕ, suc, _+_, _≤_, _<_, zero-le, suc-le-suc}
 use native.Mathlib.Omega.{arith}
 use native.Mathlib.Nat.{le-of-suc-le-suc}
-use lib.Dec.{ltb, eqb}
-use lib.ListN.{length, getD, length-append}
-use borrow.Author.Tests.{lt-ltb, le-ltb, eq-eqb, eqb-true, ltb-false, ltb-true}
+use lib.Dec.{eqb}
+use lib.ListN.{length, getD}
+use borrow.Author.Tests.{lt-ltb, le-ltb, eq-eqb, eqb-true}
 use Rattle.mesh.proofs.Tests.{both}
-use Rattle.mesh.specs.Mesh.{lowAt, highAt}
 use Rattle.crossings.specs.Route.{Scene, Keyed, noChannel, numberOf, makeChannel, withChannel}
 
 -- whether a channel is between a and b

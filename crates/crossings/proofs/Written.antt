@@ -12,7 +12,7 @@ use Rattle.order.proofs.Merging.{le-or-lt}
 use Rattle.order.proofs.Strides.{read-other, strided-other}
 use Rattle.mesh.specs.Mesh.{at, endAt}
 use Rattle.network.specs.declared.words.Kind.{Kind}
-use Rattle.network.specs.declared.words.Kind.the-variants.{Undrawn, Open, Internal, Line}
+use Rattle.network.specs.declared.words.Kind.the-variants.{Undrawn, Open, Internal}
 use Rattle.network.specs.Words.{kindOf}
 use Rattle.crossings.specs.Stages.Store.{edgesFrom, stamp, withMarks, numberFor, marksFor, way, wayFor, wayOf, SameRows, Wayed}
 use Rattle.crossings.specs.declared.ways.Way.{Way}

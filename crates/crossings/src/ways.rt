@@ -1,7 +1,7 @@
 // The way of each branch: the corners that a line runs between.
 ghost use mathlib.Core.Path.{_≡_};
 ghost use Prim.Native.Nat.{_+_, _*_, _≤_, _<_};
-ghost use lib.ListN.{length, getD};
+ghost use lib.ListN.{length};
 ghost use Rattle.network.specs.declared.words.Kind.the-variants.{Line};
 ghost use Rattle.network.specs.Views.{orderIn};
 ghost use Rattle.crossings.specs.Stages.Store.{wayFor, wayOf, Rising, Wayed};

@@ -1,7 +1,6 @@
 -- The length of a way round a box is a number wherever its three points are: it is finite. Assumes nothing.
 use Prim.Native.Nat.{ℕ, _+_, _≤_}
 use native.Mathlib.Omega.{arith}
-use lib.Ieee.{Float}
 use Rattle.float.specs.Ops.{_⊖_}
 use Rattle.float.specs.Hypot.{hypotOf}
 use Rattle.float.specs.Size.{AtMost}

@@ -13,9 +13,9 @@ use Rattle.geometry.specs.declared.Box.{Box}
 use Rattle.geometry.proofs.Crossing.{Near}
 use Rattle.placement.specs.Place.{boxIn}
 use Rattle.placement.proofs.PlaceSizes.{Edges}
-use Rattle.cells.specs.declared.walk.FirstHit.{FirstHit}
-use Rattle.cells.specs.declared.walk.FirstHit.the-variants.{Free, At}
-use Rattle.cells.specs.Cells.{firstHit}
+use Rattle.box_tree.specs.declared.first.FirstHit.{FirstHit}
+use Rattle.box_tree.specs.declared.first.FirstHit.the-variants.{Free, At}
+use Rattle.box_tree.specs.First.{firstHit}
 use Rattle.detour.specs.declared.corner.Choice.{Choice}
 use Rattle.detour.specs.declared.corner.Choice.the-variants.{Nowhere, Over}
 use Rattle.detour.specs.Detour.{cornersOf, costKey, clears, clearing, cheaper, cheapest, orElse, corner, detourOn, detourTo, detour}
@@ -82,24 +82,24 @@ module _ (k : ℕ) (K : 1074 + 71 ≤ k) (L : k ≤ 2097) where
       else-near (cheapest p q Nowhere (clearing p q b cs)) (orElse (cheapest p q Nowhere cs) p) (cheapest-near p q Nowhere (clearing p q b cs) tt (clearing-near p q b cs C))
       (else-near (cheapest p q Nowhere cs) p (cheapest-near p q Nowhere cs tt C) P)
 
-  module _ (boxes : List Box) (occupied : List ℕ) (cell gap : Float) (a b : ℕ) (B : (s : ℕ) → Edges (1074 + 70) (boxIn boxes s)) (G : AtMost (1074 + 46) gap) where
+  module _ (boxes : List Box) (occupied : List ℕ) (gap : Float) (a b : ℕ) (B : (s : ℕ) → Edges (1074 + 70) (boxIn boxes s)) (G : AtMost (1074 + 46) gap) where
     on-near : (again : List Point → List Point) → ((l : List Point) → Points k l → Points k (again l)) → (p : Point) (rest : List Point) → Near k p → Points k rest
-        → Points k (detourOn boxes occupied cell gap a b again p rest)
+        → Points k (detourOn boxes occupied gap a b again p rest)
     unfolding detourOn
     on-near again f p [] P R = (P, tt)
-    on-near again f p (q ∷ rest) P R = go (firstHit boxes occupied cell p q a b) (on-near again f q rest (R .0) (R .1))
+    on-near again f p (q ∷ rest) P R = go (firstHit boxes occupied p q a b) (on-near again f q rest (R .0) (R .1))
       where
-        go : (x : FirstHit) → Points k (detourOn boxes occupied cell gap a b again q rest)
-            → Points k (elim x [ Free ↦ p ∷ detourOn boxes occupied cell gap a b again q rest | At s ↦ again (p ∷ corner p q (boxIn boxes s) gap ∷ q ∷ rest) ])
+        go : (x : FirstHit) → Points k (detourOn boxes occupied gap a b again q rest)
+            → Points k (elim x [ Free ↦ p ∷ detourOn boxes occupied gap a b again q rest | At s ↦ again (p ∷ corner p q (boxIn boxes s) gap ∷ q ∷ rest) ])
         go Free r = (P, r)
         go (At s) r = f (p ∷ corner p q (boxIn boxes s) gap ∷ q ∷ rest) (P, (corner-near p q (boxIn boxes s) gap P (B s) G, (R .0, R .1)))
 
-    to-near : (n : ℕ) (l : List Point) → Points k l → Points k (detourTo boxes occupied cell gap a b n l)
+    to-near : (n : ℕ) (l : List Point) → Points k l → Points k (detourTo boxes occupied gap a b n l)
     unfolding detourTo
     to-near zero l h = h
     to-near (suc n) [] h = tt
-    to-near (suc n) (p ∷ rest) h = on-near (detourTo boxes occupied cell gap a b n) (to-near n) p rest (h .0) (h .1)
+    to-near (suc n) (p ∷ rest) h = on-near (detourTo boxes occupied gap a b n) (to-near n) p rest (h .0) (h .1)
 
-    pub detour-near : (l : List Point) → Points k l → Points k (detour boxes occupied cell gap a b l)
+    pub detour-near : (l : List Point) → Points k l → Points k (detour boxes occupied gap a b l)
     unfolding detour
     detour-near l h = to-near 4 l h

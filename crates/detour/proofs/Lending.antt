@@ -15,19 +15,19 @@ use lib.Ieee.{Float}
 use Rattle.geometry.specs.declared.Point.{Point}
 use Rattle.network.specs.Words.{occupied}
 use Rattle.network.specs.Views.{countsIn, boxesIn}
-use Rattle.cells.specs.declared.walk.FirstHit.{FirstHit}
-use Rattle.cells.specs.Cells.{firstHit}
-use Rattle.cells.specs.Index.{Indexed}
+use Rattle.box_tree.specs.declared.first.FirstHit.{FirstHit}
+use Rattle.box_tree.specs.First.{firstHit}
+use Rattle.box_tree.specs.Stages.Tree.{Indexed}
 
 -- what the lists asked for hold, and what is found in them
 abbrev pub Long : List ℕ → List Float → ℕ → Type 0
 Long stations boxes k = (2 * k ≤ length stations) × (4 * k ≤ length boxes) × (k ≤ 4096)
 
-abbrev pub Entered : List ℕ → List Float → Float → ℕ → List ℕ → Type 0
-Entered stations boxes cell k list = Indexed (boxesIn k boxes) (occupied (countsIn k stations)) cell k list
+abbrev pub Entered : List ℕ → List Float → ℕ → List ℕ → Type 0
+Entered stations boxes k list = Indexed (boxesIn k boxes) (occupied (countsIn k stations)) list
 
-abbrev pub hitIn : List ℕ → List Float → Float → ℕ → Point → Point → ℕ → ℕ → FirstHit
-hitIn stations boxes cell k p q a b = firstHit (boxesIn k boxes) (occupied (countsIn k stations)) cell p q a b
+abbrev pub hitIn : List ℕ → List Float → ℕ → Point → Point → ℕ → ℕ → FirstHit
+hitIn stations boxes k p q a b = firstHit (boxesIn k boxes) (occupied (countsIn k stations)) p q a b
 
 -- three lifetimes, and their shares, with the first two in the other order
 abbrev pub turned : Lfts 3 → Lfts 3

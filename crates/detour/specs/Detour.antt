@@ -11,10 +11,10 @@ use Rattle.geometry.specs.declared.Box.{Box}
 use Rattle.geometry.specs.Plane.{point, shrunk}
 use Rattle.geometry.specs.Clip.{hits}
 use Rattle.placement.specs.Place.{boxIn}
-use Rattle.cells.specs.declared.walk.FirstHit.the-variants.{Free, At}
+use Rattle.box_tree.specs.declared.first.FirstHit.the-variants.{Free, At}
 use Rattle.detour.specs.declared.corner.Choice.{Choice}
 use Rattle.detour.specs.declared.corner.Choice.the-variants.{Nowhere, Over}
-use Rattle.cells.specs.Cells.{firstHit}
+use Rattle.box_tree.specs.First.{firstHit}
 
 -- the four points g off a box's corners
 unfoldable pub cornersOf : Box → Float → List Point
@@ -56,12 +56,12 @@ corner p q b gap =
     let cs = cornersOf b (gap ⊗ f½) in
     orElse (cheapest p q Nowhere (clearing p q b cs)) (orElse (cheapest p q Nowhere cs) p)
 
-module _ (boxes : List Box) (occupied : List ℕ) (cell gap : Float) (a b : ℕ) where
+module _ (boxes : List Box) (occupied : List ℕ) (gap : Float) (a b : ℕ) where
   -- The pieces from p on, in turn. Where one hits a box a point is put in, and `again` looks at the path from that piece on.
   unfoldable pub detourOn : (List Point → List Point) → Point → List Point → List Point
   detourOn again p [] = p ∷ []
   detourOn again p (q ∷ rest) =
-      elim (firstHit boxes occupied cell p q a b) [
+      elim (firstHit boxes occupied p q a b) [
         | Free ↦ p ∷ detourOn again q rest
         | At s ↦ again (p ∷ corner p q (boxIn boxes s) gap ∷ q ∷ rest)
       ]

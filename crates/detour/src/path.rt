@@ -6,12 +6,12 @@ ghost use Rattle.geometry.specs.Plane.{pointAt};
 ghost use Rattle.network.specs.Words.{occupied};
 ghost use Rattle.network.specs.Views.{countsIn, boxesIn};
 ghost use Rattle.detour.specs.Detour.{detour};
-ghost use Rattle.cells.specs.Index.{Indexed};
+ghost use Rattle.box_tree.specs.Stages.Tree.{Indexed};
 ghost use Rattle.detour.specs.Stages.Paths.{pathIn, Shifted, PutIn, Led};
 use crate::boxes::hit_among;
 use crate::corner::corner;
-use cells::cells::box_in;
-use cells::walk::FirstHit;
+use box_tree::first::FirstHit;
+use box_tree::first::box_in;
 use geometry::Point;
 
 // Point i of a list of coordinates.
@@ -52,7 +52,6 @@ fn put_in(path: &mut [f64], i: usize, end: usize, c: Point)
 // Leads the path of `count` points from point `first` on round boxes: at most four points are put in, each beside a box that a piece hits, and the same piece is looked at again.
 // Answers the new count.
 pub fn detour(
-    cell: f64,
     gap: f64,
     k: usize,
     stations: &[u32],
@@ -65,9 +64,9 @@ pub fn detour(
     count: usize,
 ) -> usize
     requires { ⌜ (2 * k ≤ length (now stations)) × (4 * k ≤ length (now frames)) × (k ≤ 4096) ⌝ }
-    requires { ⌜ Indexed (boxesIn k (now frames)) (occupied (countsIn k (now stations))) cell k (now index) ⌝ }
+    requires { ⌜ Indexed (boxesIn k (now frames)) (occupied (countsIn k (now stations))) (now index) ⌝ }
     requires { ⌜ 2 * (first + count + 4) ≤ length (now path) ⌝ }
-    ensures { λ r. ⌜ Led first r (detour (boxesIn k (now (frames .entry))) (occupied (countsIn k (now (stations .entry)))) cell gap a b (pathIn first count (now (path .entry)))) (now (path .entry)) (now (path .exit)) ⌝ }
+    ensures { λ r. ⌜ Led first r (detour (boxesIn k (now (frames .entry))) (occupied (countsIn k (now (stations .entry)))) gap a b (pathIn first count (now (path .entry)))) (now (path .entry)) (now (path .exit)) ⌝ }
 {
     let mut n = count;
     let mut i = 0;
@@ -78,7 +77,7 @@ pub fn detour(
         }
         let p = point_in(path, first + i);
         let q = point_in(path, first + i + 1);
-        let h = hit_among(cell, k, stations, frames, index, p, q, a, b);
+        let h = hit_among(k, stations, frames, index, p, q, a, b);
         match h {
             FirstHit::Free => {
                 i += 1;

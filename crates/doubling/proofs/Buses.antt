@@ -2,7 +2,7 @@
 use mathlib.Core.Path.{_≡_, refl, sym, ap, _∙_, subst}
 use mathlib.Core.Bool.{Bool, true, false, _&&_}
 use mathlib.Core.List.{List}
-use Prim.Native.Nat.{ℕ, zero, suc, _+_, _*_, _≤_, _<_}
+use Prim.Native.Nat.{ℕ, zero, suc, _+_, _*_, _<_}
 use native.Mathlib.Nat.{le-refl}
 use native.Mathlib.Omega.{arith}
 use lib.Dec.{T, eqb}
@@ -10,7 +10,7 @@ use lib.ListN.{length, getD}
 use lib.Ieee.{Float, nan, binary64, fits}
 use lib.Ieee.Fits.{mul-fits}
 use Rattle.float.specs.Small.{isFinite}
-use Rattle.float.specs.Ops.{f2, _⊗_}
+use Rattle.float.specs.Ops.{f2}
 use Rattle.float.specs.Double.{scaled}
 use Rattle.float.proofs.DoubleLaws.{finite-twice}
 use Rattle.order.specs.Order.{pick}

@@ -1,6 +1,6 @@
 -- Change 11: two calls of layout, one of them with every coordinate scaled by 2 ^ k. Both give the same number, and where it is drawn the result lists hold the drawing scaled (`scaling`). Assumes nothing.
 use mathlib.Core.Path.{_≡_, refl, sym, ap, _∙_, subst}
-use mathlib.Core.List.{List, [], _∷_, _++_, map}
+use mathlib.Core.List.{List, [], _∷_, map}
 use Prim.Native.Nat.{ℕ, zero, suc, _+_, _*_, _≤_, _<_}
 use native.Mathlib.Omega.{arith}
 use lib.ListN.{length, take, drop, length-append, length-map}

@@ -17,12 +17,10 @@ use Rattle.order.specs.Table.{table}
 use Rattle.order.proofs.Tables.{length-table, getD-table}
 use Rattle.geometry.specs.declared.Point.{Point}
 use Rattle.geometry.specs.declared.Box.{Box}
-use Rattle.geometry.specs.Plane.{origin}
 use Rattle.network.specs.declared.options.Options.{Options}
 use Rattle.network.specs.Options.{searchOf}
 use Rattle.network.specs.declared.words.Kind.{Kind}
 use Rattle.network.specs.Words.{busCounts, kinds, occupied}
-use Rattle.network.specs.Seed.{seeds}
 use Rattle.placement.specs.Place.{noBox, boxes}
 use Rattle.placement.specs.Sized.{illSized}
 use Rattle.bars.specs.declared.Bar.{Bar}
@@ -42,7 +40,7 @@ use Rattle.doubling.specs.Twice.{TwiceBox, Twice, DoubledMap}
 use Rattle.doubling.specs.Doubling.{withMap}
 use Rattle.doubling.proofs.Bars.{DoublesBar}
 use Rattle.doubling.proofs.Runs.{Scenes, DoublesPiece, run-doubles, all-pieces, position-doubles}
-use Rattle.doubling.proofs.Stage.{InRanges, doubles-table, seed-of, unit-of, scales-are, rows-from, rows-to, place-of, box-of, ill-sized, seeds-length}
+use Rattle.doubling.proofs.Stage.{InRanges, doubles-table, unit-of, scales-are, rows-from, rows-to, place-of, box-of, ill-sized}
 use Rattle.doubling.proofs.Whole.{few, block-of, bar-of, bounds-of, box-wide, point-wide}
 use Rattle.doubling.proofs.Passed.{Passed, in-ranges}
 

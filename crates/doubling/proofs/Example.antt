@@ -1,6 +1,6 @@
 -- The premises can be met (`asked`): two stations at (0, 0) and (3, 4) with the default options and no iterations. And two of them are needed: with stations 2 ^ -1072 apart the unit is 0, and doubled it is not;
 -- with one seed only the unit stays what it is. Assumes nothing.
-use mathlib.Core.Path.{_≡_, refl, _∙_}
+use mathlib.Core.Path.{_≡_, refl}
 use mathlib.Core.Bool.{true≢false}
 use mathlib.Core.Logic.{inl, inr}
 use mathlib.Core.List.{List, [], _∷_}

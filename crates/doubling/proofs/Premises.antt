@@ -1,7 +1,7 @@
 -- What change 11 asks of a coordinate, as tests of floats, gives its range: a nonzero one is at least 2 ^ -500 and at most 5 × 10 ^ 11 in size. Assumes nothing.
 use mathlib.Core.Path.{_≡_, refl, sym, ap, _∙_, subst}
 use mathlib.Core.Logic.{_⊎_, inl, inr}
-use mathlib.Core.Bool.{Bool, true, false, _&&_, _||_}
+use mathlib.Core.Bool.{Bool, true, false, _&&_}
 use mathlib.Core.List.{List, map}
 use Prim.Native.Nat.{ℕ, _+_, _*_, _^_, _≤_}
 use native.Mathlib.Nat.{le-trans, le-of-eq}

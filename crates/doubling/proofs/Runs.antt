@@ -21,7 +21,6 @@ use Rattle.network.specs.declared.words.Kind.the-variants.{Undrawn, Open, Inter
 use Rattle.network.specs.Words.{kindAt, stationOf}
 use Rattle.network.specs.Seed.{placeAt}
 use Rattle.placement.specs.Place.{boxIn}
-use Rattle.cells.specs.Cells.{cellSize}
 use Rattle.detour.specs.Detour.{detour}
 use Rattle.bars.specs.declared.Bar.{Bar}
 use Rattle.bars.specs.Bar.{blockAt, barAt, position, rowEnd}
@@ -100,7 +99,7 @@ module _ (S S' : Scene) (H : Scenes S S') where
   unfolding linePoints ledPath
   straight T s t p q e =
       let path = exit (T .boxes) (T .places) s t (p .y) ∷ exit (T .boxes) (T .places) t s (q .y) ∷ [] in
-      ap (λ (b : Bool). p ∷ (cond b (detour (T .boxes) (T .occupied) (cellSize (T .boxes) (T .occupied)) (T .gap) s t path) path ++ (q ∷ []))) e
+      ap (λ (b : Bool). p ∷ (cond b (detour (T .boxes) (T .occupied) (T .gap) s t path) path ++ (q ∷ []))) e
 
   line-doubles : (s t : ℕ) (p p' q q' : Point) → Spot p p' → Spot q q' → Paired (DoublesPoint 10 (2 ^ 1221)) (linePoints S s t [] p q) (linePoints S' s t [] p' q')
   line-doubles s t p p' q q' f g =

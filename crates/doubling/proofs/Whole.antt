@@ -1,6 +1,6 @@
 -- From the boxes to the bars and the bounds, without iterations: where every coordinate of a network is doubled, every block, bar and the bounds are doubled. The definitions are those that `planned` and `drawing` put together.
 -- Assumes nothing.
-use mathlib.Core.Path.{_≡_, refl, sym, subst}
+use mathlib.Core.Path.{sym, subst}
 use mathlib.Core.Bool.{Bool, true, false, cond}
 use mathlib.Core.List.{List, [], _∷_, map}
 use Prim.Native.Nat.{ℕ, zero, suc, _+_, _*_, _^_, _≤_, _<_, zero-le, min, max}

@@ -47,7 +47,7 @@ pub record EachGap (P : Float → Type 0) (G : Gaps) : Type 0 where
   pub buffer : P (G .buffer)
 
 -- the numbers of the options and of the map are numbers of the format, as in every call
-pub record Held (O : Options) (N : Network) : Type 0 where
+pub record InFormat (O : Options) (N : Network) : Type 0 where
   pub fill : T (fits binary64 (O .fill))
   pub radius : T (fits binary64 (O .«tier_radius»))
   pub scale-1 : T (fits binary64 (O .«tier_scale_1»))
@@ -57,7 +57,7 @@ pub record Held (O : Options) (N : Network) : Type 0 where
 
 -- Nothing is asked of the other options, of the number of buses and branches, of voltages, of the mesh or of the lent lists: what is refused is refused in both calls.
 pub record Asked (k : ℕ) (O : Options) (N : Network) : Type 0 where
-  pub held : Held O N
+  pub held : InFormat O N
   pub iterations : O .«route_iterations» ≡ 0
   pub fill : le sixtyFourth (O .fill) ≡ true
   pub radius : (eq (O .«tier_radius») f0 ≡ true) ⊎ (le sixtyFourth (O .«tier_radius») ≡ true)

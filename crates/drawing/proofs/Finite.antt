@@ -2,34 +2,32 @@
 -- It is shown for every list of seeds within 10 ^ 12, whatever they come from; those of 01 are within it by refusal 6. Assumes nothing.
 use mathlib.Core.Path.{_≡_, refl, sym, ap, _∙_, subst}
 use mathlib.Core.Logic.{⊎-elim}
-use Prim.Native.Nat.{ℕ, zero, suc, _+_, _*_, _^_, _≤_, _<_, zero-le}
+use Prim.Native.Nat.{ℕ, zero, suc, _+_, _^_, _≤_, _<_, zero-le}
 use native.Mathlib.Nat.{le-trans, le-of-eq, zero-add, not-suc-le-zero, le-of-suc-le-suc}
 use native.Mathlib.Omega.{arith}
 use mathlib.Core.Bool.{Bool, true, false, not, cond, _&&_, _||_, true≢false}
 use mathlib.Core.List.{List, [], _∷_, map}
-use mathlib.Core.Option.{Option, none, some}
-use borrow.Author.Tests.{ltb-false, leb-true, eqb-true, ltb-true}
-use lib.Dec.{T, leb, ltb, eqb, lit≤}
+use mathlib.Core.Option.{none, some}
+use borrow.Author.Tests.{leb-true}
+use lib.Dec.{T, ltb, eqb, lit≤}
 use lib.IntN.{ℤ, pos, negsuc}
 use lib.ListN.{length, getD, List·getD-map, List·getD-eq-default}
 use lib.Ieee.{Float, nan, lt, le, binary64, ofBits, ofFields, odd}
-use Rattle.float.specs.Ops.{f0, f1, f2, _⊗_}
+use Rattle.float.specs.Ops.{f0, f1}
 use Rattle.float.specs.Small.{isFinite}
 use Rattle.float.specs.Size.{AtMost, mostTest}
 use Rattle.float.proofs.Keys.{plus}
 use Rattle.float.proofs.SizeLaws.{most-weaken, most-lit, mul-most, limit-most, f0-most}
 use Rattle.float.proofs.Quotients.{mul-plus}
 use Rattle.order.specs.Order.{pick, upFrom, before, keep}
-use Rattle.order.specs.Table.{table, howMany, which}
-use Rattle.order.proofs.Laws.{All, all-at, getD-up, length-up}
+use Rattle.order.specs.Table.{table, which}
+use Rattle.order.proofs.Laws.{all-at, getD-up, length-up}
 use Rattle.order.proofs.Merging.{le-or-lt}
 use Rattle.order.proofs.Tables.{length-table, getD-table, howMany-le, all-which}
 use Rattle.geometry.specs.declared.Point.{Point}
 use Rattle.geometry.specs.declared.Box.{Box}
-use Rattle.geometry.specs.Plane.{point, origin, pointAt}
+use Rattle.geometry.specs.Plane.{origin}
 use Rattle.geometry.proofs.Crossing.{Near}
-use Rattle.channel.proofs.Sizes.{Boxed}
-use Rattle.channel.proofs.Crossed.{Stands}
 use Rattle.mesh.specs.Mesh.{meshOk}
 use Rattle.mesh.proofs.Meshes.{Sound, mesh-sound}
 use Rattle.network.specs.declared.options.Options.{Options}
@@ -64,7 +62,7 @@ use Rattle.placement.specs.Place.{Frame, frameAt, boxIn, noBox}
 use Rattle.placement.proofs.PlaceSizes.{Edges, frames-most, places-near, offsets-near, boxes-most}
 use Rattle.bars.specs.declared.Bar.{Bar}
 use Rattle.bars.specs.Bar as Bars
-use Rattle.bars.specs.Bar.{blockAt, barAt, bare}
+use Rattle.bars.specs.Bar.{blockAt, barAt}
 use Rattle.bars.proofs.BarSizes.{Barred, spans-spanned, bars-most, exit-near}
 use Rattle.detour.proofs.DetourSizes.{Points}
 use Rattle.runs.specs.Run as Run
@@ -78,7 +76,7 @@ use Rattle.rounds.proofs.CrossedSizes.{Lined, Firm}
 use Rattle.routes.specs.Routes.{meshUsed, meshFits, crossingsOf, routeRefusal}
 use Rattle.routes.proofs.RoundSizes.{crossings-most, ways-near}
 use Rattle.drawing.specs.Network.{Network}
-use Rattle.drawing.specs.Drawing.{Plan, measuresOf, straightScene, planned, ledScene, lineFor, lineOf, routedScene, routedOf, waysOf, sceneOf, Drawing, drawing}
+use Rattle.drawing.specs.Drawing.{measuresOf, straightScene, planned, ledScene, lineFor, lineOf, routedScene, routedOf, waysOf, sceneOf, Drawing, drawing}
 use Rattle.drawing.specs.declared.room.Room.{Room}
 use Rattle.drawing.specs.Answer.{orLater, early, pieceRoom, crossingRoom, routedBy, lateBy, late, allFinite}
 use Rattle.drawing.proofs.Fitting.{fits-of}

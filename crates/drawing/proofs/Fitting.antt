@@ -2,7 +2,6 @@
 -- Assumes nothing.
 use mathlib.Core.Path.{_≡_, refl, sym}
 use mathlib.Core.Bool.{Bool, true, false, not, _&&_, _||_, true≢false}
-use mathlib.Core.List.{List}
 use Prim.Native.Nat.{ℕ, zero, suc, _+_, _*_, _≤_, zero-le, _/_, min}
 use native.Mathlib.Omega.{arith}
 use lib.Dec.{ltb, leb}
@@ -15,7 +14,7 @@ use Rattle.float.specs.Ops.{f0, f1}
 use Rattle.network.specs.Options.{inRange, between, searchFits, gapsFit, searchOf}
 use Rattle.network.specs.Words.{stationCount}
 use Rattle.network.specs.Refusal.{refuse, shapeRefusal, tooFar}
-use Rattle.cells.specs.Index.{indexLength}
+use Rattle.box_tree.specs.Length.{indexLength}
 use Rattle.drawing.specs.declared.room.Room.{Room}
 use Rattle.drawing.specs.Network.{Network}
 use Rattle.drawing.specs.Answer.{orLater, early, meshLength, sorting, shortResults, shortWork, crossingRoom}

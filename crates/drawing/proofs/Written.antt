@@ -2,7 +2,6 @@
 use mathlib.Core.Path.{_≡_, refl}
 use mathlib.Core.List.{List, _++_, map}
 use lib.ListN.{length, drop}
-use Rattle.geometry.specs.declared.Box.{Box}
 use Rattle.bars.specs.declared.Bar.{Bar}
 use Rattle.bars.specs.Bar.{position}
 use Rattle.runs.specs.Run.{Piece}

@@ -1,24 +1,21 @@
 -- Answers of a call: what layout returns, and what each lent list holds after it. Definitions only.
 use Prim.Native.Nat.{ℕ, zero, suc, _+_, _*_, _/_, min}
-use mathlib.Core.Bool.{Bool, true, false, not, _&&_, _||_}
-use mathlib.Core.List.{List, [], _∷_, _++_, map}
+use mathlib.Core.Bool.{Bool, not, _&&_, _||_}
+use mathlib.Core.List.{List, map}
 use lib.Dec.{ltb}
-use lib.ListN.{length, drop, replicate}
+use lib.ListN.{length, replicate}
 use lib.Ieee.{Float}
 use Rattle.float.specs.Small.{isFinite}
 use Rattle.float.specs.Ops.{f0}
-use Rattle.geometry.specs.declared.Point.{Point}
 use Rattle.geometry.specs.declared.Box.{Box}
 use Rattle.network.specs.declared.options.Options.{Options}
 use Rattle.network.specs.Options.{inRange}
 use Rattle.network.specs.Words.{stationCount, occupied}
 use Rattle.network.specs.Refusal.{refuse, shapeRefusal, tooFar}
 use Rattle.placement.specs.Sized.{illSized}
-use Rattle.cells.specs.Index.{indexLength}
-use Rattle.bars.specs.declared.Bar.{Bar}
+use Rattle.box_tree.specs.Length.{indexLength}
 use Rattle.bars.specs.Bar.{position}
 use Rattle.drawing.specs.declared.room.Room.{Room}
-use Rattle.drawing.specs.declared.answer.Plot.{Plot}
 use Rattle.drawing.specs.declared.answer.Answer.{Answer}
 use Rattle.drawing.specs.declared.answer.Answer.the-variants.{Drawn, Refused}
 use Rattle.drawing.specs.Network.{Network, Lists, lists, Work, work, Crossings, crossings}
@@ -68,7 +65,7 @@ unfoldable pub shortResults : ℕ → ℕ → ℕ → Room → Bool
 shortResults n m k R =
     ltb (R .positions) (2 * n) || (ltb (R .bars) (4 * n) || (ltb (R .boxes) (4 * k) || (ltb (R .scales) k || ltb (R .roles) m)))
 
--- the length of the three lists that sorts use; `sorted` also holds boxes by cell
+-- the length of the three lists that sorts use; `sorted` also holds the tree of boxes
 abbrev pub sorting : ℕ → ℕ → ℕ → ℕ
 sorting n m mesh = n + 2 * m + mesh
 

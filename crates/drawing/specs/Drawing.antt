@@ -1,13 +1,12 @@
 -- A drawing: what each step of 01 gives, handed on to the next. Definitions only.
 use Prim.Native.Nat.{ℕ}
-use mathlib.Core.Bool.{Bool, true, false}
-use mathlib.Core.List.{List, [], _∷_, map}
+use mathlib.Core.Bool.{Bool, false}
+use mathlib.Core.List.{List, [], map}
 use mathlib.Core.Option.{Option, none, some}
 use lib.Dec.{ltb}
 use lib.ListN.{length, getD}
-use lib.Ieee.{Float, inf}
-use Rattle.float.specs.Small.{minOf, maxOf, isFinite}
-use Rattle.float.specs.Ops.{f0, f1}
+use lib.Ieee.{Float}
+use Rattle.float.specs.Ops.{f0}
 use Rattle.order.specs.Order.{pick}
 use Rattle.order.specs.Table.{table}
 use Rattle.geometry.specs.declared.Point.{Point}
@@ -28,7 +27,6 @@ use Rattle.units.specs.Scale as Scale
 use Rattle.offsets.specs.Offset as Offset
 use Rattle.turns.specs.Turns.{placementOrder}
 use Rattle.placement.specs.Place as Place
-use Rattle.placement.specs.Place.{boxIn}
 use Rattle.bars.specs.declared.Bar.{Bar}
 use Rattle.bars.specs.Bar as Bars
 use Rattle.bars.specs.Exit.{exit}

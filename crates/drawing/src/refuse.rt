@@ -5,7 +5,7 @@ ghost use lib.ListN.{length};
 ghost use Rattle.drawing.specs.Network.{network};
 ghost use Rattle.drawing.specs.Answer.{shortResults, shortWork, early};
 use crate::room::Room;
-use cells::index::index_length;
+use box_tree::build::index_length;
 use network::options::Options;
 use network::refuse::shape_refusal;
 use network::refuse::too_far;

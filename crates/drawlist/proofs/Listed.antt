@@ -2,8 +2,8 @@
 -- Assumes nothing.
 use mathlib.Core.Path.{_≡_, refl, sym, ap, _∙_, subst}
 use mathlib.Core.Bool.{Bool, true, false, cond}
-use mathlib.Core.List.{List, [], _∷_, _++_}
-use Prim.Native.Nat.{ℕ, _+_, _*_, _-_, _≤_}
+use mathlib.Core.List.{List, []}
+use Prim.Native.Nat.{ℕ, _*_, _-_, _≤_}
 use native.Mathlib.Omega.{arith}
 use lib.IntN.{ℤ}
 use lib.ListN.{length, take, drop}
@@ -12,12 +12,12 @@ use Rattle.network.specs.declared.options.Options.{Options}
 use Rattle.drawing.specs.declared.answer.Plot.{Plot}
 use Rattle.drawing.specs.declared.answer.Answer.{Answer}
 use Rattle.drawing.specs.declared.answer.Answer.the-variants.{Drawn, Refused}
-use Rattle.drawing.specs.Network.{Network, network, Lists, lists}
+use Rattle.drawing.specs.Network.{Network, network, Lists}
 use Rattle.layout.proofs.Drawn.{pieces-fit}
-use Rattle.small.specs.Held.{workLists, crossingLists, heldCall, Held}
+use Rattle.small.specs.Held.{workLists, crossingLists, heldCall, SmallCall}
 use Rattle.listing.specs.declared.input.Counts.{Counts}
 use Rattle.listing.specs.declared.input.Parsed.the-variants as Parsed
-use Rattle.listing.specs.Input.{Input, parsed}
+use Rattle.listing.specs.Input.{parsed}
 use Rattle.order.specs.Over.{over}
 use Rattle.listing.specs.LinePlaces.{answer, numberOf}
 use Rattle.listing.proofs.Laws.{take-over, parsed-shape, answered}
@@ -25,10 +25,10 @@ use Rattle.listing.specs.Output.{listing, refusal}
 use Rattle.listed.specs.Output.{listOptions, resultLists, plotted, Shown, textBy, textOf, networkOf, outputOf}
 
 pub shown-by : (N : Network) (L : Lists) (a : Answer) (L' : Lists) (o : Options)
-    → o ≡ listOptions → Held o N L 128 0 a L' → Shown N L a (L' .roles) (L' .pieces) (L' .branches)
+    → o ≡ listOptions → SmallCall o N L 128 0 a L' → Shown N L a (L' .roles) (L' .pieces) (L' .branches)
 unfolding plotted
 shown-by N L a L' o e H =
-    let P : Held listOptions N L 128 0 a L' = subst (λ (p : Options). Held p N L 128 0 a L') e H in
+    let P : SmallCall listOptions N L 128 0 a L' = subst (λ (p : Options). SmallCall p N L 128 0 a L') e H in
     record {
       answerIs = P .answerIs;
       rolesAre = ap (λ (l : Lists). l .roles) (P .listsAre);

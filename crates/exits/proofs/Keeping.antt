@@ -7,11 +7,10 @@ use Prim.Native.Nat.{ℕ, _+_, _*_, _≤_, _<_}
 use native.Mathlib.Omega.{arith}
 use lib.IntN.{ℤ}
 use lib.ListN.{length, getD, length-set}
-use lib.Ieee.{Float, nan}
+use lib.Ieee.{Float}
 use Rattle.order.proofs.Merging.{le-or-lt}
 use Rattle.order.proofs.Strides.{getD-first, getD-strided}
-use Rattle.geometry.specs.declared.Point.{Point}
-use Rattle.geometry.specs.Plane.{point, pointAt, boxAt}
+use Rattle.geometry.specs.Plane.{pointAt}
 use Rattle.network.specs.declared.words.Kind.{Kind}
 use Rattle.network.specs.declared.words.Kind.the-variants.{Undrawn, Open, Internal, Line}
 use Rattle.network.specs.Words.{stationOf, kindOf, Safe}

@@ -1,6 +1,6 @@
 // Numbers as text, at a place of a lent list.
 ghost use mathlib.Core.Path.{_≡_};
-ghost use Prim.Native.Nat.{_+_, _^_, _≤_, _<_};
+ghost use Prim.Native.Nat.{_+_, _≤_, _<_};
 ghost use lib.ListN.{length};
 ghost use Rattle.fields.specs.Spell.{glyph as glyphOf, digits, placesIn, numberField, signedField, shown as shownOf, floatField, putAt};
 

@@ -1,11 +1,11 @@
 -- A list of boxes' numbers, four side by side, holds these boxes, whatever follows it. Assumes nothing.
-use mathlib.Core.Path.{_≡_, refl, sym, ap, _∙_}
+use mathlib.Core.Path.{_≡_, refl, ap, _∙_}
 use mathlib.Core.List.{List, [], _∷_, _++_}
-use Prim.Native.Nat.{ℕ, zero, suc, _+_, _*_, _<_}
+use Prim.Native.Nat.{ℕ, zero, suc, _+_, _*_}
 use native.Mathlib.Omega.{arith}
-use lib.ListN.{length, getD}
-use lib.Ieee.{Float, nan}
-use Rattle.order.specs.Table.{tableFrom, table}
+use lib.ListN.{length}
+use lib.Ieee.{Float}
+use Rattle.order.specs.Table.{tableFrom}
 use Rattle.order.proofs.Tables.{table-ext}
 use Rattle.geometry.specs.declared.Box.{Box}
 use Rattle.geometry.specs.Plane.{boxAt}

@@ -1,5 +1,5 @@
 -- An audit that accepts a drawing answers with its figures; where no two occupied stations' boxes overlap it counts 0 overlaps. Assumes nothing.
-use mathlib.Core.Path.{_≡_, refl, sym, ap, _∙_}
+use mathlib.Core.Path.{_≡_, ap, _∙_}
 use mathlib.Core.Logic.{_≢_}
 use mathlib.Core.Bool.{true, false}
 use Prim.Native.Nat.{ℕ, zero, suc}
@@ -11,7 +11,7 @@ use Rattle.placement.specs.Place.{boxIn}
 use Rattle.overlaps.specs.Overlaps.{overlaps}
 use Rattle.overlaps.proofs.NoOverlapping.{no-overlapping}
 use Rattle.findings.specs.declared.answer.Figures.{Figures}
-use Rattle.findings.specs.declared.answer.Audit.the-variants.{Audited, Refused}
+use Rattle.findings.specs.declared.answer.Audit.the-variants.{Audited}
 use Rattle.findings.specs.Drawn.{Drawn, Lists, Work, roomOf}
 use Rattle.findings.specs.Answer.{early, late, boxesOf, stationsOf, figuresOf, answerBy, callLate, callEarly, auditOf}
 

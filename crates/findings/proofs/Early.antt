@@ -9,8 +9,8 @@ use borrow.Author.Tests.{ltb-false, ne-eqb}
 use Rattle.network.specs.Words.{stationCount}
 use Rattle.network.specs.Refusal.{refuse, shapeRefusal, tooFar}
 use Rattle.network.proofs.Shapes.{shape-fits, neither}
-use Rattle.cells.specs.Index.{indexLength}
-use Rattle.cells.proofs.Indexing.{index-least}
+use Rattle.box_tree.specs.Length.{indexLength}
+use Rattle.box_tree.proofs.Lengths.{index-least}
 use Rattle.findings.specs.declared.room.Room.{Room}
 use Rattle.findings.specs.Drawn.{Drawn}
 use Rattle.findings.specs.Answer.{tooShort}

@@ -11,7 +11,7 @@ use Rattle.network.specs.Words.{stationCount, busCounts, occupied}
 use Rattle.network.specs.Seed.{seeds}
 use Rattle.network.specs.Views.{boxesIn}
 use Rattle.network.specs.Refusal.{refuse, tooMany, kvUnlike, toUnlike, numberTooHigh, strayVoltage, shapeRefusal, tooFar}
-use Rattle.cells.specs.Index.{indexLength}
+use Rattle.box_tree.specs.Length.{indexLength}
 use Rattle.runs.specs.Lists.{after}
 use Rattle.fit.specs.Fit.{fits}
 use Rattle.fit.specs.Scale.{illDrawn}

@@ -4,7 +4,7 @@ ghost use Prim.Native.Nat.{_≤_};
 ghost use Rattle.findings.specs.Drawn.{drawn};
 ghost use Rattle.findings.specs.Answer.{tooShort, early};
 use crate::room::Room;
-use cells::index::index_length;
+use box_tree::build::index_length;
 use network::refuse::shape_refusal;
 use network::refuse::too_far;
 use network::words::station_count;

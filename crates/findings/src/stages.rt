@@ -57,6 +57,8 @@ pub fn figures_of(
         stations,
         boxes,
         index,
+        spare,
+        keys,
         sub,
         from,
         to,

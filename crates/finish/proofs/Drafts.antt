@@ -4,21 +4,18 @@ use Prim.Native.Nat.{ℕ, zero, suc, _*_, _≤_}
 use mathlib.Core.Path.{_≡_, refl, sym, ap, _∙_, subst}
 use mathlib.Core.Bool.{Bool}
 use mathlib.Core.List.{List, map}
-use native.Mathlib.Omega.{arith}
 use lib.Dec.{ltb}
 use lib.ListN.{length}
 use lib.Ieee.{Float}
-use Rattle.geometry.specs.declared.Point.{Point}
 use Rattle.geometry.specs.declared.Box.{Box}
 use Rattle.network.specs.declared.options.Options.{Options}
 use Rattle.network.specs.Words.{kinds, occupied}
 use Rattle.network.specs.Views.{countsIn, boxesIn}
 use Rattle.units.specs.Stages.Views.{scalesIn}
 use Rattle.bars.specs.Bar.{position}
-use Rattle.cells.specs.Cells.{cellSize}
 use Rattle.runs.specs.Run.{Piece, allPieces, role}
 use Rattle.runs.specs.Lists.{flat, pointNumbers, boxNumbers, barNumbers, pieceNumbers, after}
-use Rattle.runs.specs.Stages.Views.{Held, held, lead}
+use Rattle.runs.specs.Stages.Views.{RunLists, held, lead}
 use Rattle.pieces.specs.Stages.Pieces.{runsIn, branchOf}
 use Rattle.results.specs.Stages.Bars.{barsIn}
 use Rattle.results.specs.Bounds.{boundsOf}
@@ -28,7 +25,7 @@ use Rattle.drawing.specs.declared.answer.Answer.the-variants.{Refused}
 use Rattle.drawing.specs.declared.room.Room.{Room}
 use Rattle.drawing.specs.Network.{Network, Lists, lists}
 use Rattle.drawing.specs.Drawing.{measuresOf, drawing}
-use Rattle.drawing.specs.Answer.{orLater, routedBy, lateBy, late, crossingRoom, listsOf, listsAfter, answerBy, answerFor}
+use Rattle.drawing.specs.Answer.{lateBy, late, crossingRoom, listsOf, listsAfter, answerBy, answerFor}
 use Rattle.chart.specs.Stages.Charted.{routedLate, Charted}
 use Rattle.finish.specs.Stages.Draft.{Judged, Drew}
 use Rattle.drawing.proofs.Lates.{room-of}
@@ -48,14 +45,14 @@ module _ (o : Options) (N : Network) (k : ℕ) (R : Room) (unit : Float) (l : �
       by zero h e = absurd (h refl)
       by (suc r) h e = record { answerIs = rw (sym e); listsAre = rw (sym e) }
 
-  module _ (z : l ≡ 0) (cell gap : Float) (led : Bool) (ce : cell ≡ cellSize (boxesIn k frames) (occupied (countsIn k stations)))
+  module _ (z : l ≡ 0) (gap : Float) (led : Bool)
       (ge : gap ≡ gapOf unit) (le : led ≡ ltb 0 (o .«route_iterations»)) where
-    abbrev heldBy : Held
-    heldBy = held (N .station) (measuresOf o unit) buses ends blocks places frames (lead led cell gap k stations ways)
+    abbrev heldBy : RunLists
+    heldBy = held (N .station) (measuresOf o unit) buses ends blocks places frames (lead led gap k stations ways)
 
     runs-are : runsIn heldBy (N .from) (N .to) (N .service) ≡ drawing o N .runs
     runs-are =
-        (let e = C .runs z cell ce in cc (ge, le)) ∙ C .runs z cell ce
+        (let e = C .runs z in cc (ge, le)) ∙ C .runs z
 
     all-pieces : allPieces (kinds (N .station) (N .from) (N .to) (N .service)) (runsIn heldBy (N .from) (N .to) (N .service)) ≡ drawing o N .pieces
     unfolding drawing

@@ -1,18 +1,15 @@
 // A charted drawing judged: its bounds, number of pieces and late refusal.
 ghost use mathlib.Core.Path.{_≡_};
-ghost use Prim.Native.Nat.{_+_, _*_, _≤_};
+ghost use Prim.Native.Nat.{_*_, _≤_};
 ghost use lib.Dec.{ltb};
 ghost use lib.ListN.{length};
 ghost use Rattle.network.specs.Words.{occupied};
 ghost use Rattle.network.specs.Views.{countsIn, boxesIn};
-ghost use Rattle.cells.specs.Cells.{cellSize};
-ghost use Rattle.cells.specs.Index.{Indexed};
+ghost use Rattle.box_tree.specs.Stages.Tree.{Indexed};
 ghost use Rattle.drawing.specs.Network.{network};
 ghost use Rattle.drawing.specs.Answer.{crossingRoom};
 ghost use Rattle.chart.specs.Stages.Charted.{Charted};
 ghost use Rattle.finish.specs.Stages.Draft.{Judged};
-use cells::cells::cell_size;
-use cells::index::index_boxes;
 use chart::Course;
 use crossings::gap::gap_of;
 use drawing::late::late_of;
@@ -23,12 +20,11 @@ use pieces::survey;
 use results::bounds::bounds_of;
 use units::Measures;
 
-// What a drawing answers beside its lists, its late refusal, 0 for none, and the side of a cell.
+// What a drawing answers beside its lists, and its late refusal, 0 for none.
 pub struct Draft {
     pub bounds: Box,
     pub pieces: usize,
     pub late: u32,
-    pub cell: f64,
 }
 
 // Whether lines are led: there are iterations.
@@ -38,7 +34,7 @@ pub(crate) fn is_led(o: Options) -> bool
     0 < o.route_iterations
 }
 
-// Judges the drawing that the work lists hold, which nothing refuses so far, with lists of these lengths, and enters its boxes by cell in `sorted`.
+// Judges the drawing that the work lists hold, which nothing refuses so far, with lists of these lengths; `sorted` holds the tree of its boxes.
 pub(crate) fn judge(
     o: Options,
     sub: &[u32],
@@ -55,7 +51,7 @@ pub(crate) fn judge(
     stations: &[u32],
     buses: &[u32],
     ends: &[u32],
-    sorted: &mut [u32],
+    sorted: &[u32],
     blocks: &[f64],
     places: &[f64],
     frames: &[f64],
@@ -64,17 +60,14 @@ pub(crate) fn judge(
 ) -> Draft
     requires { ⌜ (length (now sub) ≤ 4096) × (length (now from) ≤ 8192) × (k ≤ 4096) × (2 * k ≤ length (now stations)) × (4 * k ≤ length (now frames)) × (3 * k ≤ length (now blocks)) ⌝ }
     requires { ⌜ Charted o (network (now sub) (now kv) (now from) (now to) (now service) (now xy) (now corners) (now twins)) k (crossingRoom room) (c .unit) (c .late) (now stations) (now buses) (now ends) (now blocks) (now places) (now frames) (now path) (now ways) ⌝ }
+    requires { ⌜ Indexed (boxesIn k (now frames)) (occupied (countsIn k (now stations))) (now sorted) ⌝ }
     requires { ⌜ c .late ≡ 0 ⌝ }
     ensures { λ r. ⌜ Judged o (network (now (sub .entry)) (now (kv .entry)) (now (from .entry)) (now (to .entry)) (now (service .entry)) (now (xy .entry)) (now (corners .entry)) (now (twins .entry))) room (c .unit) (r .bounds) (r .pieces) (r .late) ⌝ }
-    ensures { λ r. ⌜ r .cell ≡ cellSize (boxesIn k (now (frames .entry))) (occupied (countsIn k (now (stations .entry)))) ⌝ }
-    ensures { λ r. ⌜ Indexed (boxesIn k (now (frames .entry))) (occupied (countsIn k (now (stations .entry)))) (r .cell) k (now (sorted .exit)) ⌝ }
 {
     let unit = c.unit;
     let gaps = o.gaps;
     let measures = Measures { unit, gaps };
     let led = is_led(o);
-    let cell = cell_size(k, stations, frames);
-    index_boxes(led, cell, k, stations, frames, sorted);
     let pieces = survey(
         sub,
         from,
@@ -87,7 +80,6 @@ pub(crate) fn judge(
         places,
         frames,
         led,
-        cell,
         gap_of(unit),
         k,
         stations,
@@ -101,6 +93,5 @@ pub(crate) fn judge(
         bounds,
         pieces,
         late,
-        cell,
     }
 }

@@ -2,8 +2,11 @@
 pub mod draft;
 
 ghost use mathlib.Core.Path.{_≡_};
-ghost use Prim.Native.Nat.{_+_, _*_, _≤_};
+ghost use Prim.Native.Nat.{_*_, _≤_};
 ghost use lib.ListN.{length};
+ghost use Rattle.network.specs.Words.{occupied};
+ghost use Rattle.network.specs.Views.{countsIn, boxesIn};
+ghost use Rattle.box_tree.specs.Stages.Tree.{Indexed};
 ghost use Rattle.drawing.specs.Network.{network, lists};
 ghost use Rattle.drawing.specs.Drawing.{drawing};
 ghost use Rattle.drawing.specs.Answer.{crossingRoom, late};
@@ -40,7 +43,7 @@ fn write(
     stations: &[u32],
     buses: &[u32],
     ends: &[u32],
-    sorted: &mut [u32],
+    sorted: &[u32],
     blocks: &[f64],
     places: &[f64],
     frames: &[f64],
@@ -57,6 +60,7 @@ fn write(
     requires { ⌜ (length (now sub) ≤ 4096) × (length (now from) ≤ 8192) × (k ≤ 4096) × (2 * k ≤ length (now stations)) × (4 * k ≤ length (now frames)) × (3 * k ≤ length (now blocks)) ⌝ }
     requires { ⌜ (2 * length (now sub) ≤ length (now positions)) × (4 * length (now sub) ≤ length (now bars)) × (4 * k ≤ length (now boxes)) × (k ≤ length (now scales)) × (length (now from) ≤ length (now roles)) × (room .pieces ≡ length (now pieces)) × (room .branches ≡ length (now branches)) ⌝ }
     requires { ⌜ Charted o (network (now sub) (now kv) (now from) (now to) (now service) (now xy) (now corners) (now twins)) k (crossingRoom room) (c .unit) (c .late) (now stations) (now buses) (now ends) (now blocks) (now places) (now frames) (now path) (now ways) ⌝ }
+    requires { ⌜ Indexed (boxesIn k (now frames)) (occupied (countsIn k (now stations))) (now sorted) ⌝ }
     requires { ⌜ c .late ≡ 0 ⌝ }
     ensures { λ r. ⌜ Drew o (network (now (sub .entry)) (now (kv .entry)) (now (from .entry)) (now (to .entry)) (now (service .entry)) (now (xy .entry)) (now (corners .entry)) (now (twins .entry))) (late (drawing o (network (now (sub .entry)) (now (kv .entry)) (now (from .entry)) (now (to .entry)) (now (service .entry)) (now (xy .entry)) (now (corners .entry)) (now (twins .entry)))) room) (lists (now (positions .entry)) (now (bars .entry)) (now (boxes .entry)) (now (scales .entry)) (now (roles .entry)) (now (pieces .entry)) (now (branches .entry))) r (lists (now (positions .exit)) (now (bars .exit)) (now (boxes .exit)) (now (scales .exit)) (now (roles .exit)) (now (pieces .exit)) (now (branches .exit))) ⌝ }
 {
@@ -111,7 +115,6 @@ fn write(
         places,
         frames,
         is_led(o),
-        d.cell,
         gap_of(unit),
         k,
         stations,
@@ -141,7 +144,7 @@ pub fn finish(
     stations: &[u32],
     buses: &[u32],
     ends: &[u32],
-    sorted: &mut [u32],
+    sorted: &[u32],
     blocks: &[f64],
     places: &[f64],
     frames: &[f64],
@@ -158,6 +161,7 @@ pub fn finish(
     requires { ⌜ (length (now sub) ≤ 4096) × (length (now from) ≤ 8192) × (k ≤ 4096) × (2 * k ≤ length (now stations)) × (4 * k ≤ length (now frames)) × (3 * k ≤ length (now blocks)) ⌝ }
     requires { ⌜ (2 * length (now sub) ≤ length (now positions)) × (4 * length (now sub) ≤ length (now bars)) × (4 * k ≤ length (now boxes)) × (k ≤ length (now scales)) × (length (now from) ≤ length (now roles)) × (room .pieces ≡ length (now pieces)) × (room .branches ≡ length (now branches)) ⌝ }
     requires { ⌜ Charted o (network (now sub) (now kv) (now from) (now to) (now service) (now xy) (now corners) (now twins)) k (crossingRoom room) (c .unit) (c .late) (now stations) (now buses) (now ends) (now blocks) (now places) (now frames) (now path) (now ways) ⌝ }
+    requires { ⌜ Indexed (boxesIn k (now frames)) (occupied (countsIn k (now stations))) (now sorted) ⌝ }
     ensures { λ r. ⌜ Drew o (network (now (sub .entry)) (now (kv .entry)) (now (from .entry)) (now (to .entry)) (now (service .entry)) (now (xy .entry)) (now (corners .entry)) (now (twins .entry))) (late (drawing o (network (now (sub .entry)) (now (kv .entry)) (now (from .entry)) (now (to .entry)) (now (service .entry)) (now (xy .entry)) (now (corners .entry)) (now (twins .entry)))) room) (lists (now (positions .entry)) (now (bars .entry)) (now (boxes .entry)) (now (scales .entry)) (now (roles .entry)) (now (pieces .entry)) (now (branches .entry))) r (lists (now (positions .exit)) (now (bars .exit)) (now (boxes .exit)) (now (scales .exit)) (now (roles .exit)) (now (pieces .exit)) (now (branches .exit))) ⌝ }
 {
     if c.late != 0 {

@@ -1,14 +1,14 @@
 -- Upper bounds of floats that are not negative: a hypotenuse is at most the sum of its sides' sizes, and a product and a maximum grow with their parts.
 -- What is finite in a sum, a product or a maximum, and where its sign is clear. Assumes nothing.
 use mathlib.Core.Path.{_≡_, refl, sym, ap, _∙_, subst}
-use Prim.Native.Nat.{ℕ, _+_, _*_, _^_, _≤_, _<_}
+use Prim.Native.Nat.{ℕ, _+_, _*_, _^_, _≤_}
 use native.Mathlib.Nat.{le-trans, le-of-eq, mul-pos, mul-le-mul, mul-mul-mul-comm}
 use native.Mathlib.Omega.{arith}
-use mathlib.Core.Bool.{Bool, true, false, not, cond, Bool·beq, true≢false}
+use mathlib.Core.Bool.{Bool, true, false, not, cond, true≢false}
 use lib.IntN.{ℤ}
 use lib.Dec.{T, eqb}
 use lib.Pow.{pow-pos}
-use lib.Ieee.{Float, nan, inf, fin, up, down, unlike, lt, le, eq, fits, isNan, add, sum, mul, round, binary64}
+use lib.Ieee.{Float, nan, inf, fin, up, down, unlike, lt, le, fits, isNan, add, sum, mul, round, binary64}
 use lib.Ieee.Fits.{down-pos}
 use lib.Ieee.Order.{le-of-values, round-mono}
 use lib.Ieee.Positive.{through}

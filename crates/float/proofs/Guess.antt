@@ -1,5 +1,5 @@
 -- A guess of a root, mended from above and from below. Assumes nothing.
-use Prim.Native.Nat.{ℕ, zero, suc, _+_, _*_, _^_, _≤_, _<_}
+use Prim.Native.Nat.{ℕ, zero, suc, _*_, _^_, _≤_, _<_}
 use native.Mathlib.Nat.{le-trans, le-of-lt, lt-of-le-of-lt, lt-of-lt-of-le, mul-le-mul}
 use native.Mathlib.Omega.{arith}
 use lib.Dec.{lit≤}

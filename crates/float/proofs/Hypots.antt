@@ -5,7 +5,7 @@ use Prim.Native.Nat.{ℕ, suc, _+_, _-_, _*_, _/_, _%_, _^_, _≤_, _<_, zero-le
 use native.Mathlib.Nat.{add-zero, lt-irrefl, le-trans, le-of-eq, le-of-lt, lt-of-le-of-lt, lt-of-lt-of-le, lt-of-not-le, eq-or-lt-of-le, mul-le-mul-right, mul-lt-mul-of-pos-right, mul-pos, div-div-eq-div-mul, mul-div-mul-right, div-add-mod', mod-lt, add-comm, mul-right-comm, le-add-right}
 use native.Mathlib.Omega.{arith}
 use native.Mathlib.Decide.{decLe, ℕ-discrete}
-use mathlib.Core.Bool.{Bool, true, false, not, cond}
+use mathlib.Core.Bool.{Bool, true, false, cond}
 use lib.Dec.{T, eqb, lit<}
 use lib.Arith.{digits-mod}
 use lib.Pow.{pow-pos}

@@ -6,7 +6,7 @@ use Prim.Native.Nat.{ℕ, zero, suc, _+_, _-_, _*_, _/_, _^_, _≤_, _<_}
 use native.Mathlib.Nat.{le-antisymm, lt-of-lt-of-le, lt-of-le-of-lt, le-of-lt, lt-of-not-le, not-le-of-lt, eq-or-lt-of-le, mul-one, mul-assoc, mul-div-cancel, mul-le-mul-right, div-one, zero-add, pow-succ', zero-lt-suc, mul-le-mul}
 use native.Mathlib.Omega.{arith}
 use native.Mathlib.Decide.{decLe}
-use mathlib.Core.Bool.{Bool, false, not, cond}
+use mathlib.Core.Bool.{Bool, false, cond}
 use lib.Dec.{T, lit<, lit≤}
 use lib.Pow.{pow-pos, pow-mono, pow-add, shl-lt}
 use lib.Ieee.{Float, nan, inf, fin, up, down, size, units, odd, toBits, ofBits, fits, binary64}

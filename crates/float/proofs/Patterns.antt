@@ -1,9 +1,9 @@
 -- Which bit patterns are a NaN's, by one comparison.
 -- Assumes nothing.
-use mathlib.Core.Path.{_≡_, refl, sym, ap, _∙_, subst}
+use mathlib.Core.Path.{_≡_, refl, sym, _∙_, subst}
 use mathlib.Core.Bool.{Bool, true, false, not, true≢false}
 use Prim.Native.Nat.{ℕ, _*_, _%_, _≤_, _<_}
-use lib.Dec.{T, ltb}
+use lib.Dec.{T}
 use borrow.Author.Tests.{lt-ltb, le-ltb}
 use lib.Ieee.{Float, nan, inf, fin, binary64, isNan, hid, ones, top, ofBits, nanBits, div, ne, eq}
 use lib.Ieee.Bits.{nanBits-is, nanBits-above}

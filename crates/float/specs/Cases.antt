@@ -2,8 +2,8 @@
 use mathlib.Core.Path.{_≡_, refl}
 use Prim.Native.Nat.{ℕ}
 use mathlib.Core.Bool.{true, false}
-use mathlib.Core.List.{List, [], _∷_, map}
-use lib.Ieee.{Float, nan, inf, fin, binary64, ofBits, toBits}
+use mathlib.Core.List.{[], _∷_, map}
+use lib.Ieee.{nan, inf, binary64, ofBits, toBits}
 use Rattle.float.specs.Floor.{floorOf}
 use Rattle.float.specs.Key.{keyOf}
 use Rattle.float.specs.Hypot.{hypotOf}

@@ -1,6 +1,6 @@
 -- IEEE 754-2019, 5.4.1 and 6.3: sum, product and quotient of two finite values, over whole numbers. A value is a sign and a count of grains of 2 ^ -1074. Definitions only.
 use mathlib.Core.Path.{_≡_}
-use Prim.Native.Nat.{ℕ, _+_, _-_, _*_, _^_, _<_}
+use Prim.Native.Nat.{ℕ, _+_, _-_, _^_, _<_}
 use mathlib.Core.Bool.{Bool, false}
 use lib.IntN.{pos}
 use lib.Ieee.{Float, fin}

@@ -79,24 +79,24 @@ clipped-straight p q b = clip-straight _ _ (top-test p q b) (clip-straight _ _ (
     start = refl
 
 -- not below 0 and not above 1
-pub record Held (t : Float) : Type 0 where
+pub record InUnit (t : Float) : Type 0 where
   pub low : lt t f0 ≡ false
   pub high : lt f1 t ≡ false
 
-clamp-held : (x : Float) → Held (clampOf x f0 f1)
+clamp-held : (x : Float) → InUnit (clampOf x f0 f1)
 unfolding clampOf lt ofBits
 clamp-held x = go (lt x f0) (lt f1 x) refl refl
   where
-    go : (a b : Bool) → lt x f0 ≡ a → lt f1 x ≡ b → Held (cond a f0 (cond b f1 x))
+    go : (a b : Bool) → lt x f0 ≡ a → lt f1 x ≡ b → InUnit (cond a f0 (cond b f1 x))
     go true b d e = record { low = refl; high = refl }
     go false true d e = record { low = refl; high = refl }
     go false false d e = record { low = d; high = e }
 
 -- a place that is answered is held to 0..1
-pub place-held : (p q u w : Point) (t : Float) → param p q u w ≡ At t → Held t
+pub place-held : (p q u w : Point) (t : Float) → param p q u w ≡ At t → InUnit t
 unfolding param placeOr
 place-held p q u w t = go (parallel _ _ _) _
   where
-    go : (b : Bool) (x : Float) → cond b Parallel (At (clampOf x f0 f1)) ≡ At t → Held t
+    go : (b : Bool) (x : Float) → cond b Parallel (At (clampOf x f0 f1)) ≡ At t → InUnit t
     go true x h = let z : _≡_ {A = ℕ} 0 1 = cc in let y : ⊥ = omega arith in absurd y
-    go false x h = subst Held (ap (λ (y : Param). placeOr y f0) h) (clamp-held x)
+    go false x h = subst InUnit (ap (λ (y : Param). placeOr y f0) h) (clamp-held x)

@@ -1,8 +1,6 @@
 -- Where a cross product reaches the bound that the sums of the sides' sizes give, it is not below the bound that the lengths give. Assumes nothing.
 use mathlib.Core.Path.{_≡_, refl, sym, subst}
-use Prim.Native.Nat.{ℕ}
-use mathlib.Core.Bool.{Bool, true, false, not}
-use lib.IntN.{ℤ}
+use mathlib.Core.Bool.{Bool, true, false}
 use lib.Dec.{T}
 use lib.Ieee.{Float, nan, inf, fin, lt, le, fits, binary64, ofBits, ofFields, odd}
 use Rattle.float.specs.Small.{absOf, isFinite, maxOf}

@@ -1,4 +1,5 @@
 pub mod Plane
 pub mod Clip
+pub mod Entry
 pub mod Cross
 pub mod Cases

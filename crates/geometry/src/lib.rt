@@ -1,6 +1,6 @@
 // Points, boxes and pieces: the clip test, the crossing test and the place on a segment.
 ghost use mathlib.Core.Path.{_≡_};
-ghost use mathlib.Core.Bool.{true, false, _&&_};
+ghost use mathlib.Core.Bool.{true, false};
 ghost use Prim.Native.Nat.{_+_, _*_, _<_};
 ghost use lib.ListN.{length, getD};
 ghost use lib.Ieee.{nan};
@@ -12,6 +12,8 @@ use float::small::abs;
 use float::small::clamp;
 use float::small::max;
 use float::small::min;
+
+pub mod entry;
 
 // A point of the drawing.
 pub struct Point {

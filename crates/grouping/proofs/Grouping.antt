@@ -1,17 +1,16 @@
 -- The loops that group crossings by channel, and that each channel's crossings stand in their stretch. Assumes nothing.
 use mathlib.Core.Path.{_≡_, refl, sym, ap, _∙_, subst}
-use mathlib.Core.Logic.{_≢_, ⊎-elim}
+use mathlib.Core.Logic.{⊎-elim}
 use mathlib.Core.Bool.{Bool, true, false}
-use mathlib.Core.List.{List, [], _∷_, _++_, append-nil}
+use mathlib.Core.List.{List, [], _∷_, _++_}
 use Prim.Native.Nat.{ℕ, zero, suc, _+_, _-_, _*_, _≤_, _<_, zero-le}
 use native.Mathlib.Omega.{arith}
 use native.Mathlib.Numerals.{add-one}
-use native.Mathlib.Nat.{add-zero}
 use lib.Dec.{eqb}
 use lib.ListN.{length, getD, take, drop, set, length-set, length-drop, drop-of-length-le}
 use lib.Seq.{drop-cons, take-suc, take-all, length-take-le, getD-take, getD-drop, getD-set-same, getD-set-other}
 use borrow.Author.Tests.{eq-eqb, ne-eqb}
-use Rattle.order.specs.Order.{keyAt, sortBy, upFrom, keep}
+use Rattle.order.specs.Order.{keyAt, keep}
 use Rattle.order.specs.Table.{table, which, strided}
 use Rattle.order.proofs.Laws.{keep-yes, keep-no}
 use Rattle.order.proofs.Merging.{le-or-lt}

@@ -1,8 +1,7 @@
 // Crossings grouped by channel.
 ghost use mathlib.Core.Path.{_≡_};
-ghost use mathlib.Core.List.{_++_};
-ghost use Prim.Native.Nat.{_+_, _-_, _*_, _^_, _≤_, _<_};
-ghost use lib.ListN.{length, getD, take, drop, replicate};
+ghost use Prim.Native.Nat.{_+_, _*_, _^_, _≤_, _<_};
+ghost use lib.ListN.{length};
 ghost use Rattle.order.specs.Table.{strided};
 ghost use Rattle.walk.specs.Round.{roundOf};
 ghost use Rattle.grouping.specs.Stages.Grouped.{Started, Copied, Grouped};

@@ -1,6 +1,6 @@
 -- The whole call from its parts: the answer and every lent list.
 -- Assumes nothing.
-use mathlib.Core.Path.{_≡_, refl, sym, ap, _∙_}
+use mathlib.Core.Path.{_≡_, refl, sym, _∙_}
 use Prim.Native.Nat.{ℕ, zero, suc}
 use lib.ListN.{length}
 use Rattle.network.specs.declared.options.Options.{Options}

@@ -1,6 +1,6 @@
 -- What a call that answers 'drawn' has passed, and what its lists then hold.
 -- Assumes nothing.
-use mathlib.Core.Path.{_≡_, refl, sym, ap, _∙_}
+use mathlib.Core.Path.{_≡_, refl, sym, ap}
 use Prim.Native.Nat.{ℕ, zero, suc, _*_, _≤_}
 use native.Mathlib.Omega.{arith}
 use lib.ListN.{length}
@@ -8,11 +8,10 @@ use lib.Ieee.{Float}
 use Rattle.geometry.specs.declared.Box.{Box}
 use Rattle.network.specs.declared.options.Options.{Options}
 use Rattle.drawing.specs.declared.answer.Plot.{Plot}
-use Rattle.drawing.specs.declared.answer.Answer.{Answer}
 use Rattle.drawing.specs.declared.answer.Answer.the-variants.{Drawn, Refused}
 use Rattle.drawing.specs.Network.{Network, Lists, Work, Crossings}
-use Rattle.drawing.specs.Drawing.{Drawing, drawing}
-use Rattle.drawing.specs.Answer.{roomOf, early, late, listsOf, listsAfter, answerBy, answerFor, callLate, callEarly, layoutOf}
+use Rattle.drawing.specs.Drawing.{drawing}
+use Rattle.drawing.specs.Answer.{roomOf, early, late, answerBy, answerFor, callLate, callEarly, layoutOf}
 use Rattle.drawing.proofs.Lates.{room-of}
 
 not-drawn : {P : Type 0} (r : ℕ) (p : Plot) → Refused r ≡ Drawn p → P

@@ -1,6 +1,6 @@
 -- 01's mesh and the test of it (refusal 9). Definitions only.
-use Prim.Native.Nat.{ℕ, zero, suc, _+_, _-_, _%_, min, max}
-use mathlib.Core.Bool.{Bool, true, not, cond, _&&_, _||_}
+use Prim.Native.Nat.{ℕ, _+_, _-_, _%_, min, max}
+use mathlib.Core.Bool.{Bool, not, cond, _&&_, _||_}
 use mathlib.Core.List.{List}
 use lib.Dec.{leb, ltb, eqb}
 use lib.ListN.{length, getD}

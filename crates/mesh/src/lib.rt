@@ -1,8 +1,7 @@
 // 01's mesh of triangles between stations, as it is lent, and the test that refusal 9 asks.
 ghost use mathlib.Core.Path.{_≡_};
-ghost use mathlib.Core.Bool.{_&&_};
 ghost use Prim.Native.Nat.{_+_, _≤_, _<_};
-ghost use lib.ListN.{length, getD};
+ghost use lib.ListN.{length};
 ghost use Rattle.mesh.specs.Mesh.{next, endAt, cornerOk, reversed, pairs, twinOk, edgesOk, meshOk};
 use order::at;
 

@@ -1,7 +1,7 @@
 -- 01, 1: what a branch is, by the network's lists: open where its service flag is 0, else internal in one station and a line between two.
 -- Assumes nothing.
 use Prim.Native.Nat.{ℕ, _≤_, _<_}
-use mathlib.Core.Path.{_≡_, refl, sym, ap, _∙_}
+use mathlib.Core.Path.{_≡_, refl, ap, _∙_}
 use mathlib.Core.Logic.{_⊎_, _≢_, ⊎-elim}
 use mathlib.Core.Bool.{Bool, true, false, not}
 use mathlib.Core.List.{List}
@@ -15,7 +15,6 @@ use Rattle.order.proofs.Merging.{le-or-lt}
 use Rattle.order.proofs.Tables.{getD-any}
 use Rattle.network.specs.declared.words.Known.{Known}
 use Rattle.network.specs.declared.words.Known.the-variants.{Bus, Unknown}
-use Rattle.network.specs.declared.words.Kind.{Kind}
 use Rattle.network.specs.declared.words.Kind.the-variants.{Undrawn, Open, Internal, Line}
 use Rattle.network.specs.Words.{stationOf, known, live, kindBy, kindFor, kindOf}
 

@@ -3,7 +3,7 @@ use mathlib.Core.Path.{_≡_, refl, sym, subst}
 use Prim.Native.Nat.{_+_}
 use mathlib.Core.Bool.{Bool, true, false, _&&_, true≢false}
 use lib.Dec.{T}
-use lib.Ieee.{Float, lt, le, binary64, ofBits, ofFields, odd}
+use lib.Ieee.{lt, le, binary64, ofBits, ofFields, odd}
 use Rattle.float.specs.Ops.{f0}
 use Rattle.float.specs.Small.{isFinite}
 use Rattle.float.specs.Size.{AtMost, mostTest}

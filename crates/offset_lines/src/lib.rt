@@ -4,7 +4,7 @@ ghost use Prim.Native.Nat.{_+_, _*_, _≤_};
 ghost use lib.ListN.{length};
 ghost use Rattle.order.specs.Over.{over};
 ghost use Rattle.offsets.specs.Offset.{offsets};
-ghost use Rattle.offsets.specs.Stages.OffsetList.{offsetAt, offsetsIn};
+ghost use Rattle.offsets.specs.Stages.OffsetList.{offsetsIn};
 ghost use Rattle.fields.specs.Spell.{putAt};
 ghost use Rattle.offset_lines.specs.Stages.Text.{offsetLine, offsetLines, offsetText};
 use fields::spell::signed_field;

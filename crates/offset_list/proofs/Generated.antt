@@ -1,9 +1,9 @@
 -- The generated pairs for search 20 are the constant table, entry for entry; so are the lines that are printed of them. Assumes nothing.
-use mathlib.Core.Path.{_≡_, refl, sym, ap, _∙_}
+use mathlib.Core.Path.{_≡_, sym, ap}
 use mathlib.Core.List.{List}
-use Prim.Native.Nat.{ℕ, _<_}
+use Prim.Native.Nat.{ℕ}
 use lib.IntN.{pos}
-use lib.ListN.{length, getD}
+use lib.ListN.{getD}
 use Rattle.offsets.specs.declared.offset.Offset.{Offset}
 use Rattle.offsets.specs.Offset.{offsets}
 use Rattle.offset_table.specs.Table.{tablePairs, tablePair}

@@ -1,7 +1,7 @@
 -- Two lists that hold the first and the second numbers of the table's pairs hold its pairs. Assumes nothing.
-use mathlib.Core.Path.{_≡_, refl, sym, ap, _∙_}
+use mathlib.Core.Path.{_≡_, ap, _∙_}
 use mathlib.Core.List.{List, map}
-use Prim.Native.Nat.{ℕ, _≤_, _<_}
+use Prim.Native.Nat.{ℕ, _≤_}
 use lib.IntN.{ℤ, pos}
 use lib.ListN.{length, getD, List·getD-map, length-map}
 use lib.Seq.{ext-getD}

@@ -8,7 +8,7 @@ use mathlib.Core.List.{List, map, map-map}
 use Prim.Native.Nat.{ℕ, suc, _+_, _-_, _*_, _/_, _%_, _≤_, _<_}
 use native.Mathlib.Omega.{arith}
 use native.Mathlib.Nat.{mod-lt, div-add-mod', mul-le-mul-right}
-use lib.Dec.{ltb, lt→ltb}
+use lib.Dec.{lt→ltb}
 use lib.IntN.{ℤ, pos, negsuc, natAbs}
 use lib.Signed.{_<ℤ_, ltZ-yes, <ℤ-irrefl}
 use lib.Ieee.{minus}

@@ -6,7 +6,7 @@ use native.Mathlib.Omega.{arith}
 use native.Mathlib.Decide.{decLe}
 use lib.Dec.{T, ltb}
 use lib.Count.{trailingZeros}
-use lib.Ieee.{Float, binary64, lt, le, fits, ofBits, ofFields, odd}
+use lib.Ieee.{Float, binary64, lt, le, ofBits, ofFields, odd}
 use lib.Ieee.Fits.{add-fits, sub-fits}
 use borrow.Author.Tests.{lt-ltb, le-ltb}
 use Rattle.float.specs.Small.{isFinite}
@@ -15,7 +15,7 @@ use Rattle.float.proofs.Keys.{not-both}
 use Rattle.geometry.specs.declared.Box.{Box}
 use Rattle.geometry.specs.Plane.{edge, shrunk}
 use Rattle.proximity.specs.Overlap.{meet, overlap}
-use Rattle.placement.proofs.Rank.{rank, Number, Plus, lt-rank, add-up, sub-down, add-number, sub-number, finite-number}
+use Rattle.placement.proofs.Rank.{rank, Plus, lt-rank, add-up, sub-down, add-number, sub-number, finite-number}
 use Rattle.placement.proofs.Clear.{Good}
 use Rattle.overlaps.specs.Stages.Sweep.{paired}
 

@@ -1,6 +1,6 @@
 -- Stations sorted by their boxes' left sides, and a scan of those behind one of them: one place more, the stop, and the end. Assumes nothing.
 use mathlib.Core.Path.{_≡_, refl, sym, ap, _∙_, subst}
-use mathlib.Core.Bool.{Bool, true, false, _&&_, _||_}
+use mathlib.Core.Bool.{Bool, true, false}
 use mathlib.Core.List.{List, [], _∷_, _++_}
 use Prim.Native.Nat.{ℕ, suc, _+_, _-_, _*_, _≤_, _<_}
 use native.Mathlib.Omega.{arith}
@@ -13,7 +13,7 @@ use lib.Ieee.{Float, nan, le, fits, binary64}
 use Rattle.float.specs.Small.{isFinite}
 use Rattle.float.specs.Ops.{orderKey}
 use Rattle.float.proofs.Keys.{order-key-le, finite-no-nan}
-use Rattle.order.specs.Order.{pick, keyAt, count, sortBy}
+use Rattle.order.specs.Order.{keyAt, count, sortBy}
 use Rattle.order.specs.Table.{table}
 use Rattle.order.proofs.Merging.{length-sort}
 use Rattle.order.proofs.Laws.{All, all-at, all-sort, sorted, count-yes, count-no, count-none}

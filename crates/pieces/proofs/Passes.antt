@@ -24,7 +24,7 @@ use Rattle.units.specs.declared.Measures.{Measures}
 use Rattle.runs.specs.Run.{Piece, apart, pieces, isLine, allPieces}
 use Rattle.runs.specs.Lists.{flat, pieceNumbers, after}
 use Rattle.order.specs.Over.{over}
-use Rattle.runs.specs.Stages.Views.{Held, openFrom, internalFrom, lineFrom, runFrom, runIn, otherRun, wayCount, wayOf, Fits, Ran}
+use Rattle.runs.specs.Stages.Views.{RunLists, openFrom, internalFrom, lineFrom, runFrom, runIn, otherRun, wayCount, wayOf, Fits, Ran}
 use Rattle.runs.proofs.Paths.{run-few, other-is}
 use Rattle.requests.specs.declared.request.LineRequest.{LineRequest}
 use Rattle.pieces.specs.Stages.Pieces.{piece, branchOf, runAt, runsIn, passRun, passAt, passIn, othersIn, blockIn, FitAll, RoomIf, Put}
@@ -66,7 +66,7 @@ module _ {A : Type 0} (f : ℕ → List A) where
         go false q = let l : m ≤ a = ltb-false a m q in omega (arith, ap length (joined-past a l))
 
 -- ---- what the passes take together
-module _ (H : Held) (from to : List ℤ) (service : List ℕ) where
+module _ (H : RunLists) (from to : List ℤ) (service : List ℕ) where
   abbrev kind : ℕ → Kind
   kind e = kindOf (H .sub) from to service e
 
@@ -169,7 +169,7 @@ module _ (sub : List ℕ) (from to : List ℤ) (service : List ℕ) (e : ℕ) wh
       go false z = absurd (no-line (sym q ∙ ap isLine (past-kind (ltb-false e (length from) z))))
 
 -- ---- requests as branches' runs
-module _ (H : Held) where
+module _ (H : RunLists) where
   abbrev held-lists : Lists
   held-lists = lists (H .sub) (H .measures) (H .buses) (H .ends) (H .blocks) (H .places) (H .frames)
 
@@ -267,7 +267,7 @@ module _ (sub : List ℕ) (measures : Measures) (buses ends : List ℕ) (blocks 
     others-end l = go-end w _ (length from) at n b (I .going) l
 
 -- ---- the loop over blocks of lines: after the branches below `start`
-module _ (H : Held) (from to : List ℤ) (service : List ℕ) (w : Bool) (at : ℕ) (path n : List Float) (b : List ℕ) where
+module _ (H : RunLists) (from to : List ℤ) (service : List ℕ) (w : Bool) (at : ℕ) (path n : List Float) (b : List ℕ) where
   abbrev F : ℕ → List Piece
   F = passAt true H from to service
 
@@ -354,7 +354,7 @@ module _ {r : ℕ} {ps : List Piece} {n n' : List Float} {b b' : List ℕ} (w : 
       let e : r ≡ length (map branchOf ps) = omega (arith, w .count, length-map ps branchOf) in
       w .one ∙ ap (λ (k : ℕ). map branchOf ps ++ drop k b) e ∙ ap (λ (k : ℕ). after k (map branchOf ps) b) (sym z)
 
-module _ (H : Held) (from to : List ℤ) (service : List ℕ) (path : List Float) (fit : FitAll from (H .ends) path) (small : length from ≤ 8192) where
+module _ (H : RunLists) (from to : List ℤ) (service : List ℕ) (path : List Float) (fit : FitAll from (H .ends) path) (small : length from ≤ 8192) where
   abbrev all : List Piece
   all = allPieces (kinds (H .sub) from to service) (runsIn H from to service)
 

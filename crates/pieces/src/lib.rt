@@ -147,7 +147,7 @@ fn pass_others(
     next
 }
 
-// Counts the pieces of all runs. `index` enters boxes by cell, or none.
+// Counts the pieces of all runs. `index` enters boxes, or none.
 pub fn survey(
     sub: &[u32],
     from: &[i64],
@@ -160,7 +160,6 @@ pub fn survey(
     places: &[f64],
     frames: &[f64],
     led: bool,
-    cell: f64,
     gap: f64,
     k: usize,
     stations: &[u32],
@@ -170,8 +169,8 @@ pub fn survey(
 ) -> usize
     requires { ⌜ (length (now from) ≤ 8192) × (length (now sub) ≤ 4096) ⌝ }
     requires { ⌜ FitAll (now from) (now ends) (now path) ⌝ }
-    requires { ⌜ Stands cell k (now stations) (now frames) (now index) ⌝ }
-    ensures { λ r. ⌜ r ≡ length (allPieces (kinds (now (sub .entry)) (now (from .entry)) (now (to .entry)) (now (service .entry))) (runsIn (held (now (sub .entry)) measures (now (buses .entry)) (now (ends .entry)) (now (blocks .entry)) (now (places .entry)) (now (frames .entry)) (lead led cell gap k (now (stations .entry)) (now (ways .entry)))) (now (from .entry)) (now (to .entry)) (now (service .entry)))) ⌝ }
+    requires { ⌜ Stands k (now stations) (now frames) (now index) ⌝ }
+    ensures { λ r. ⌜ r ≡ length (allPieces (kinds (now (sub .entry)) (now (from .entry)) (now (to .entry)) (now (service .entry))) (runsIn (held (now (sub .entry)) measures (now (buses .entry)) (now (ends .entry)) (now (blocks .entry)) (now (places .entry)) (now (frames .entry)) (lead led gap k (now (stations .entry)) (now (ways .entry)))) (now (from .entry)) (now (to .entry)) (now (service .entry)))) ⌝ }
     ensures { λ r. ⌜ r ≤ 2 ^ 45 ⌝ }
 {
     let mut numbers = [0.0; 1];
@@ -206,7 +205,6 @@ pub fn survey(
         places,
         frames,
         led,
-        cell,
         gap,
         k,
         stations,
@@ -232,7 +230,6 @@ pub fn write_pieces(
     places: &[f64],
     frames: &[f64],
     led: bool,
-    cell: f64,
     gap: f64,
     k: usize,
     stations: &[u32],
@@ -244,10 +241,10 @@ pub fn write_pieces(
 )
     requires { ⌜ (length (now from) ≤ 8192) × (length (now sub) ≤ 4096) ⌝ }
     requires { ⌜ FitAll (now from) (now ends) (now path) ⌝ }
-    requires { ⌜ Stands cell k (now stations) (now frames) (now index) ⌝ }
-    requires { ⌜ RoomIf l (allPieces (kinds (now sub) (now from) (now to) (now service)) (runsIn (held (now sub) measures (now buses) (now ends) (now blocks) (now places) (now frames) (lead led cell gap k (now stations) (now ways))) (now from) (now to) (now service))) (now numbers) (now branches) ⌝ }
-    ensures { λ _. ⌜ now (numbers .exit) ≡ after l (flat pieceNumbers (allPieces (kinds (now (sub .entry)) (now (from .entry)) (now (to .entry)) (now (service .entry))) (runsIn (held (now (sub .entry)) measures (now (buses .entry)) (now (ends .entry)) (now (blocks .entry)) (now (places .entry)) (now (frames .entry)) (lead led cell gap k (now (stations .entry)) (now (ways .entry)))) (now (from .entry)) (now (to .entry)) (now (service .entry))))) (now (numbers .entry)) ⌝ }
-    ensures { λ _. ⌜ now (branches .exit) ≡ after l (map branchOf (allPieces (kinds (now (sub .entry)) (now (from .entry)) (now (to .entry)) (now (service .entry))) (runsIn (held (now (sub .entry)) measures (now (buses .entry)) (now (ends .entry)) (now (blocks .entry)) (now (places .entry)) (now (frames .entry)) (lead led cell gap k (now (stations .entry)) (now (ways .entry)))) (now (from .entry)) (now (to .entry)) (now (service .entry))))) (now (branches .entry)) ⌝ }
+    requires { ⌜ Stands k (now stations) (now frames) (now index) ⌝ }
+    requires { ⌜ RoomIf l (allPieces (kinds (now sub) (now from) (now to) (now service)) (runsIn (held (now sub) measures (now buses) (now ends) (now blocks) (now places) (now frames) (lead led gap k (now stations) (now ways))) (now from) (now to) (now service))) (now numbers) (now branches) ⌝ }
+    ensures { λ _. ⌜ now (numbers .exit) ≡ after l (flat pieceNumbers (allPieces (kinds (now (sub .entry)) (now (from .entry)) (now (to .entry)) (now (service .entry))) (runsIn (held (now (sub .entry)) measures (now (buses .entry)) (now (ends .entry)) (now (blocks .entry)) (now (places .entry)) (now (frames .entry)) (lead led gap k (now (stations .entry)) (now (ways .entry)))) (now (from .entry)) (now (to .entry)) (now (service .entry))))) (now (numbers .entry)) ⌝ }
+    ensures { λ _. ⌜ now (branches .exit) ≡ after l (map branchOf (allPieces (kinds (now (sub .entry)) (now (from .entry)) (now (to .entry)) (now (service .entry))) (runsIn (held (now (sub .entry)) measures (now (buses .entry)) (now (ends .entry)) (now (blocks .entry)) (now (places .entry)) (now (frames .entry)) (lead led gap k (now (stations .entry)) (now (ways .entry)))) (now (from .entry)) (now (to .entry)) (now (service .entry))))) (now (branches .entry)) ⌝ }
 {
     if l != 0 {
         return;
@@ -282,7 +279,6 @@ pub fn write_pieces(
         places,
         frames,
         led,
-        cell,
         gap,
         k,
         stations,

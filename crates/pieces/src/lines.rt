@@ -1,5 +1,4 @@
 // Lines become pieces: requests read from a lent list, each led round boxes, its pieces counted and written.
-ghost use mathlib.Core.Path.{_≡_};
 ghost use mathlib.Core.Bool.{true};
 ghost use Prim.Native.Nat.{_<_, _≤_, _^_};
 ghost use lib.ListN.{length};
@@ -20,7 +19,6 @@ fn lead_line(
     write: bool,
     first: usize,
     led: bool,
-    cell: f64,
     gap: f64,
     k: usize,
     stations: &[u32],
@@ -32,8 +30,8 @@ fn lead_line(
     numbers: &mut [f64],
     branches: &mut [u32],
 ) -> usize
-    requires { ⌜ (Stands cell k (now stations) (now frames) (now index)) × (Asks (now ends) (now path) r) × (RoomFor write first (requestPieces (lead led cell gap k (now stations) (now ways)) (now frames) (now ends) r) (now numbers) (now branches)) ⌝ }
-    ensures { λ s. ⌜ Passed write first s (requestPieces (lead led cell gap k (now (stations .entry)) (now (ways .entry))) (now (frames .entry)) (now (ends .entry)) r) (now (numbers .entry)) (now (numbers .exit)) (now (branches .entry)) (now (branches .exit)) ⌝ }
+    requires { ⌜ (Stands k (now stations) (now frames) (now index)) × (Asks (now ends) (now path) r) × (RoomFor write first (requestPieces (lead led gap k (now stations) (now ways)) (now frames) (now ends) r) (now numbers) (now branches)) ⌝ }
+    ensures { λ s. ⌜ Passed write first s (requestPieces (lead led gap k (now (stations .entry)) (now (ways .entry))) (now (frames .entry)) (now (ends .entry)) r) (now (numbers .entry)) (now (numbers .exit)) (now (branches .entry)) (now (branches .exit)) ⌝ }
 {
     if r.sa == r.sb {
         return first;
@@ -43,7 +41,6 @@ fn lead_line(
     let n = at(ends, 4 * e + 3) as usize;
     let c = run_line(
         led,
-        cell,
         gap,
         k,
         stations,
@@ -69,7 +66,6 @@ fn lead_requests(
     write: bool,
     first: usize,
     led: bool,
-    cell: f64,
     gap: f64,
     k: usize,
     stations: &[u32],
@@ -81,8 +77,8 @@ fn lead_requests(
     numbers: &mut [f64],
     branches: &mut [u32],
 ) -> usize
-    requires { ⌜ (Stands cell k (now stations) (now frames) (now index)) × (AskAll (now ends) (now path) (now list)) × (RoomFor write first (listPieces (lead led cell gap k (now stations) (now ways)) (now frames) (now ends) (now list)) (now numbers) (now branches)) ⌝ }
-    ensures { λ s. ⌜ Passed write first s (listPieces (lead led cell gap k (now (stations .entry)) (now (ways .entry))) (now (frames .entry)) (now (ends .entry)) (now (list .entry))) (now (numbers .entry)) (now (numbers .exit)) (now (branches .entry)) (now (branches .exit)) ⌝ }
+    requires { ⌜ (Stands k (now stations) (now frames) (now index)) × (AskAll (now ends) (now path) (now list)) × (RoomFor write first (listPieces (lead led gap k (now stations) (now ways)) (now frames) (now ends) (now list)) (now numbers) (now branches)) ⌝ }
+    ensures { λ s. ⌜ Passed write first s (listPieces (lead led gap k (now (stations .entry)) (now (ways .entry))) (now (frames .entry)) (now (ends .entry)) (now (list .entry))) (now (numbers .entry)) (now (numbers .exit)) (now (branches .entry)) (now (branches .exit)) ⌝ }
 {
     let mut next = first;
     let mut i = 0;
@@ -93,7 +89,6 @@ fn lead_requests(
             write,
             next,
             led,
-            cell,
             gap,
             k,
             stations,
@@ -116,7 +111,6 @@ fn lead_list(
     write: bool,
     first: usize,
     led: bool,
-    cell: f64,
     gap: f64,
     k: usize,
     stations: &[u32],
@@ -128,15 +122,14 @@ fn lead_list(
     numbers: &mut [f64],
     branches: &mut [u32],
 ) -> usize
-    requires { ⌜ (Stands cell k (now stations) (now frames) (now index)) × (AskAll (now ends) (now path) list) × (RoomFor write first (listPieces (lead led cell gap k (now stations) (now ways)) (now frames) (now ends) list) (now numbers) (now branches)) ⌝ }
-    ensures { λ s. ⌜ Passed write first s (listPieces (lead led cell gap k (now (stations .entry)) (now (ways .entry))) (now (frames .entry)) (now (ends .entry)) list) (now (numbers .entry)) (now (numbers .exit)) (now (branches .entry)) (now (branches .exit)) ⌝ }
+    requires { ⌜ (Stands k (now stations) (now frames) (now index)) × (AskAll (now ends) (now path) list) × (RoomFor write first (listPieces (lead led gap k (now stations) (now ways)) (now frames) (now ends) list) (now numbers) (now branches)) ⌝ }
+    ensures { λ s. ⌜ Passed write first s (listPieces (lead led gap k (now (stations .entry)) (now (ways .entry))) (now (frames .entry)) (now (ends .entry)) list) (now (numbers .entry)) (now (numbers .exit)) (now (branches .entry)) (now (branches .exit)) ⌝ }
 {
     lead_requests(
         &list,
         write,
         first,
         led,
-        cell,
         gap,
         k,
         stations,
@@ -166,7 +159,6 @@ fn lead_block(
     places: &[f64],
     frames: &[f64],
     led: bool,
-    cell: f64,
     gap: f64,
     k: usize,
     stations: &[u32],
@@ -178,9 +170,9 @@ fn lead_block(
 ) -> usize
     requires { ⌜ (length (now from) ≤ 8192) × (length (now sub) ≤ 4096) ⌝ }
     requires { ⌜ FitAll (now from) (now ends) (now path) ⌝ }
-    requires { ⌜ Stands cell k (now stations) (now frames) (now index) ⌝ }
-    requires { ⌜ (start < 2 ^ 31) × RoomFor write first (blockIn (held (now sub) measures (now buses) (now ends) (now blocks) (now places) (now frames) (lead led cell gap k (now stations) (now ways))) (now from) (now to) (now service) start) (now numbers) (now branches) ⌝ }
-    ensures { λ s. ⌜ Passed write first s (blockIn (held (now (sub .entry)) measures (now (buses .entry)) (now (ends .entry)) (now (blocks .entry)) (now (places .entry)) (now (frames .entry)) (lead led cell gap k (now (stations .entry)) (now (ways .entry)))) (now (from .entry)) (now (to .entry)) (now (service .entry)) start) (now (numbers .entry)) (now (numbers .exit)) (now (branches .entry)) (now (branches .exit)) ⌝ }
+    requires { ⌜ Stands k (now stations) (now frames) (now index) ⌝ }
+    requires { ⌜ (start < 2 ^ 31) × RoomFor write first (blockIn (held (now sub) measures (now buses) (now ends) (now blocks) (now places) (now frames) (lead led gap k (now stations) (now ways))) (now from) (now to) (now service) start) (now numbers) (now branches) ⌝ }
+    ensures { λ s. ⌜ Passed write first s (blockIn (held (now (sub .entry)) measures (now (buses .entry)) (now (ends .entry)) (now (blocks .entry)) (now (places .entry)) (now (frames .entry)) (lead led gap k (now (stations .entry)) (now (ways .entry)))) (now (from .entry)) (now (to .entry)) (now (service .entry)) start) (now (numbers .entry)) (now (numbers .exit)) (now (branches .entry)) (now (branches .exit)) ⌝ }
 {
     let list = requests_from(
         sub,
@@ -200,7 +192,6 @@ fn lead_block(
         write,
         first,
         led,
-        cell,
         gap,
         k,
         stations,
@@ -229,7 +220,6 @@ pub(crate) fn lead_lines(
     places: &[f64],
     frames: &[f64],
     led: bool,
-    cell: f64,
     gap: f64,
     k: usize,
     stations: &[u32],
@@ -241,9 +231,9 @@ pub(crate) fn lead_lines(
 ) -> usize
     requires { ⌜ (length (now from) ≤ 8192) × (length (now sub) ≤ 4096) ⌝ }
     requires { ⌜ FitAll (now from) (now ends) (now path) ⌝ }
-    requires { ⌜ Stands cell k (now stations) (now frames) (now index) ⌝ }
-    requires { ⌜ RoomFor write first (passIn true (held (now sub) measures (now buses) (now ends) (now blocks) (now places) (now frames) (lead led cell gap k (now stations) (now ways))) (now from) (now to) (now service)) (now numbers) (now branches) ⌝ }
-    ensures { λ s. ⌜ Passed write first s (passIn true (held (now (sub .entry)) measures (now (buses .entry)) (now (ends .entry)) (now (blocks .entry)) (now (places .entry)) (now (frames .entry)) (lead led cell gap k (now (stations .entry)) (now (ways .entry)))) (now (from .entry)) (now (to .entry)) (now (service .entry))) (now (numbers .entry)) (now (numbers .exit)) (now (branches .entry)) (now (branches .exit)) ⌝ }
+    requires { ⌜ Stands k (now stations) (now frames) (now index) ⌝ }
+    requires { ⌜ RoomFor write first (passIn true (held (now sub) measures (now buses) (now ends) (now blocks) (now places) (now frames) (lead led gap k (now stations) (now ways))) (now from) (now to) (now service)) (now numbers) (now branches) ⌝ }
+    ensures { λ s. ⌜ Passed write first s (passIn true (held (now (sub .entry)) measures (now (buses .entry)) (now (ends .entry)) (now (blocks .entry)) (now (places .entry)) (now (frames .entry)) (lead led gap k (now (stations .entry)) (now (ways .entry)))) (now (from .entry)) (now (to .entry)) (now (service .entry))) (now (numbers .entry)) (now (numbers .exit)) (now (branches .entry)) (now (branches .exit)) ⌝ }
 {
     let mut next = first;
     let mut start = 0;
@@ -263,7 +253,6 @@ pub(crate) fn lead_lines(
             places,
             frames,
             led,
-            cell,
             gap,
             k,
             stations,

@@ -20,7 +20,6 @@ use Rattle.geometry.specs.declared.Box.{Box}
 use Rattle.geometry.specs.Plane.{origin}
 use Rattle.proximity.specs.Overlap.{overlap}
 use Rattle.network.specs.Seed.{placeAt}
-use Rattle.units.specs.Size.{Size}
 use Rattle.offsets.specs.declared.offset.Offset.{Offset}
 use Rattle.placement.specs.declared.search.Found.the-variants.{At}
 use Rattle.placement.specs.Place.{Frame, free, buffered, place, tries, FirstOf, firstFree, orNext, placeFor, boxOn, frameAt, boxOf, nextPlace, placesTo, places, foundFree}

@@ -4,7 +4,7 @@ ghost use Prim.Native.Nat.{_+_, _*_, _^_, _≤_, _<_};
 ghost use lib.IntN.{natAbs};
 ghost use lib.ListN.{length, take};
 ghost use Rattle.order.proofs.Laws.{All};
-ghost use Rattle.geometry.specs.Plane.{pointAt, boxAt};
+ghost use Rattle.geometry.specs.Plane.{pointAt};
 ghost use Rattle.network.specs.Views.{countsIn, orderIn, pointsIn, boxesIn};
 ghost use Rattle.placement.specs.Place as Place;
 ghost use Rattle.placement.specs.Place.{free, boxOn, buffered, firstFree, placeFor};

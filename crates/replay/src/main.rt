@@ -11,8 +11,6 @@ mod words;
 
 use text::line_end;
 use words::word_at;
-ghost use Prim.Native.Nat.{_≤_};
-ghost use lib.ListN.{length};
 
 const LAYOUT: u8 = 76;
 

@@ -1,31 +1,29 @@
 -- Where stations stand within bounds, each channel that lines cross is ready for spacing and runs between two occupied stations, each crossing is a line's, and its place is at most 1 in size. Assumes nothing.
-use mathlib.Core.Path.{_≡_, refl, sym, ap, subst}
+use mathlib.Core.Path.{_≡_, refl, sym, subst}
 use mathlib.Core.Logic.{_⊎_, inl, inr, ⊎-elim}
 use mathlib.Core.Bool.{Bool, true, false, cond}
 use mathlib.Core.List.{List, [], _∷_, _++_}
 use mathlib.Core.Option.{Option, none, some}
-use Prim.Native.Nat.{ℕ, zero, suc, _+_, _≤_, _<_, min, max}
+use Prim.Native.Nat.{ℕ, zero, suc, _+_, _≤_, _<_}
 use native.Mathlib.Nat.{min-eq-left, min-eq-right, max-eq-left, max-eq-right, le-of-lt}
 use native.Mathlib.Omega.{arith}
 use lib.Dec.{T, ltb, lit≤}
 use lib.ListN.{length, getD, List·getD-eq-default}
-use lib.Ieee.{Float, nan, ofBits, ofFields, odd}
+use lib.Ieee.{nan, ofBits, ofFields, odd}
 use Rattle.float.specs.Small.{isFinite}
 use Rattle.float.specs.Size.{AtMost, mostTest}
 use Rattle.float.proofs.Keys.{plus}
 use Rattle.float.proofs.SizeLaws.{most-lit}
 use Rattle.order.proofs.Laws.{All}
 use Rattle.order.proofs.Merging.{le-or-lt}
-use Rattle.geometry.specs.declared.Point.{Point}
-use Rattle.geometry.specs.Cross.{param, placeOr}
 use Rattle.geometry.proofs.Crossing.{Near, place-most}
 use Rattle.channel.proofs.SpaceSizes.{Ready}
 use Rattle.channel.proofs.Crossed.{Stands, crossed-ready, crossed-ready-back}
 use Rattle.mesh.specs.Mesh.{next, at, endAt, lowAt, highAt}
-use Rattle.walk.specs.Trace.{Walk, crossesEdge, traced}
+use Rattle.walk.specs.Trace.{crossesEdge, traced}
 use Rattle.walk.proofs.Crossed.{traced-over}
 use Rattle.placement.specs.Place.{boxIn}
-use Rattle.crossings.specs.Route.{Scene, Line, Routing, Keyed, Crossing, half, noChannel, noCrossing, noRouting, vertexOf, numberOf, stationAt, centreAt, makeChannel, withChannel, crossingOf, cross, crossAll, addWalk, addBranch, tracedTo, routing}
+use Rattle.crossings.specs.Route.{Scene, Line, Routing, Keyed, Crossing, half, noChannel, noCrossing, vertexOf, numberOf, stationAt, centreAt, makeChannel, withChannel, crossingOf, cross, crossAll, addWalk, addBranch, tracedTo, routing}
 use Rattle.rounds.proofs.Routed.{by-more}
 
 half-most : AtMost 1074 half

@@ -1,21 +1,21 @@
 -- The rounds' end: what the steps of the code give together. Assumes nothing.
-use mathlib.Core.Path.{_≡_, refl, sym, ap, _∙_, subst}
-use mathlib.Core.List.{List, [], _∷_, _++_, map}
-use Prim.Native.Nat.{ℕ, zero, suc, _+_, _*_, _≤_, _<_}
+use mathlib.Core.Path.{_≡_, sym, ap, _∙_, subst}
+use mathlib.Core.List.{List}
+use Prim.Native.Nat.{ℕ, _<_}
 use native.Mathlib.Omega.{arith}
 use lib.IntN.{ℤ}
-use lib.ListN.{length, getD, take, length-map, length-take}
-use lib.Ieee.{Float, nan}
-use Rattle.order.specs.Table.{table, strided}
+use lib.ListN.{length, take}
+use lib.Ieee.{Float}
+use Rattle.order.specs.Table.{table}
 use Rattle.order.proofs.Tables.{table-ext}
-use Rattle.network.specs.Views.{pointsIn, fromRowsIn, toRowsIn}
+use Rattle.network.specs.Views.{pointsIn}
 use Rattle.units.specs.declared.Measures.{Measures}
-use Rattle.crossings.specs.Route.{Scene, Routing, Crossing, pointOf, roundsTo, routing}
-use Rattle.crossings.specs.Stages.Views.{grid, sceneIn, Stored}
-use Rattle.wishes.specs.Stages.Held.{Held, held, edgeIn, pointHeld, pointIn, roundsIn, stationIn, Cornered, Ranged, Ready, Entered}
+use Rattle.crossings.specs.Route.{Scene, Routing, pointOf, roundsTo, routing}
+use Rattle.crossings.specs.Stages.Views.{grid, sceneIn}
+use Rattle.wishes.specs.Stages.Held.{RoundLists, held, edgeIn, pointHeld, roundsIn, Cornered, Ranged, Ready, Entered}
 use Rattle.grouping.specs.Stages.Grouped.{Grouped}
 use Rattle.rounds.proofs.Meaning.{Means, point-is, rounds-are}
-use Rattle.rounds.proofs.Holding.{G, S, R, H, cornered, means, ready}
+use Rattle.rounds.proofs.Holding.{cornered, means, ready}
 
 module _ (sub : List ℕ) (from to : List ℤ) (service : List ℕ) (measures : Measures) (ends : List ℕ) (blocks places frames : List Float) (k c : ℕ) (stations : List ℕ) (centres : List Float)
     (corners twins numbers : List ℕ) (along : List Float) (channels crossings : ℕ)
@@ -27,7 +27,7 @@ module _ (sub : List ℕ) (from to : List ℤ) (service : List ℕ) (measures : 
   abbrev R′ : Routing
   R′ = routing S′
 
-  abbrev H′ : Held
+  abbrev H′ : RoundLists
   H′ = held (length from) (length sub) ends′ places centres′ corners numbers′
 
   grouped-all : Grouped (length from) (length (R′ .channels)) (length (R′ .crossings)) ends numbers ends′ numbers′

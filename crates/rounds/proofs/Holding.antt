@@ -1,6 +1,6 @@
 -- Lists that hold a routing, once its crossings are grouped, say of it what the rounds read. Assumes nothing.
 use mathlib.Core.Path.{_≡_, refl, sym, ap, _∙_, subst}
-use mathlib.Core.Bool.{Bool, true, false}
+use mathlib.Core.Bool.{true, false}
 use mathlib.Core.List.{List, map}
 use mathlib.Core.Option.{Option, none, some}
 use Prim.Native.Nat.{ℕ, suc, _+_, _-_, _*_, _≤_, _<_}
@@ -10,26 +10,21 @@ use lib.IntN.{ℤ}
 use lib.ListN.{length, getD, take, List·getD-map}
 use lib.Seq.{getD-take}
 use lib.Ieee.{Float, nan}
-use Rattle.order.specs.Table.{table, which, strided}
+use Rattle.order.specs.Table.{table, strided}
 use Rattle.order.proofs.Tables.{getD-table, length-table, which-ext}
 use Rattle.order.proofs.Strides.{getD-strided, getD-first}
-use Rattle.geometry.specs.declared.Point.{Point}
-use Rattle.geometry.specs.declared.Box.{Box}
 use Rattle.geometry.specs.Plane.{pointAt, boxAt}
-use Rattle.channel.specs.declared.Channel.{Channel}
-use Rattle.channel.specs.Channel.{channelOf}
 use Rattle.mesh.specs.Mesh.{next, endAt, lowAt, highAt, meshOk}
-use Rattle.mesh.proofs.Meshes.{Sound, mesh-sound, next-in}
-use Rattle.network.specs.Views.{boxesIn}
+use Rattle.mesh.proofs.Meshes.{mesh-sound, next-in}
 use Rattle.network.proofs.Views.{getD-boxes}
 use Rattle.units.specs.declared.Measures.{Measures}
 use Rattle.placement.specs.Place.{boxIn, noBox}
 use Rattle.crossings.specs.Route as Route
-use Rattle.crossings.specs.Route.{Scene, Routing, Keyed, Crossing, Path, noChannel, noCrossing, noPath, routing, makeChannel, crossingAt, channelAt, pathAt, centreAt, stationAt, members}
+use Rattle.crossings.specs.Route.{Scene, Routing, Keyed, Crossing, Path, noCrossing, noPath, routing, makeChannel, crossingAt, channelAt, pathAt, centreAt, stationAt, members}
 use Rattle.runs.specs.Stages.Views.{firstExit, secondExit}
 use Rattle.crossings.specs.Stages.Views.{Grid, grid, lineIn, linesIn, sceneIn, Edged, Stored}
 use Rattle.crossings.specs.Gap.{gapOf}
-use Rattle.wishes.specs.Stages.Held.{Held, held, edgeIn, lowIn, highIn, stationIn, rangeIn, Cornered, Ranged, Ready}
+use Rattle.wishes.specs.Stages.Held.{RoundLists, held, edgeIn, lowIn, highIn, stationIn, rangeIn, Cornered, Ranged, Ready}
 use Rattle.exits.specs.Stages.Exits.{exitsOf, exitsIn, Exited}
 use Rattle.grouping.specs.Stages.Grouped.{startIn, memberIn, Grouped}
 use Rattle.rounds.proofs.Routed.{Traced, routed}
@@ -50,7 +45,7 @@ module _ (sub : List ℕ) (from to : List ℤ) (service : List ℕ) (measures : 
   abbrev pub R : Routing
   R = routing S
 
-  abbrev pub H : Held
+  abbrev pub H : RoundLists
   H = held (length from) (length sub) ends′ places centres′ corners numbers′
 
   module _ (mesh : meshOk corners twins c ≡ true) (exited : Exited G) (boxes : 4 * k ≤ length frames) (occupied : (v : ℕ) → v < c → stationIn stations v < k) (stored : Stored (length from) corners R ends numbers along)

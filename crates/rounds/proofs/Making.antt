@@ -11,7 +11,7 @@ use Rattle.order.proofs.Tables.{length-table}
 use Rattle.channel.specs.declared.Channel.{Channel}
 use Rattle.channel.specs.Space.{wishOrder, inOrder, spaced, putAll}
 use Rattle.channel.proofs.Spacing.{length-spaced, length-order, length-inOrder}
-use Rattle.wishes.specs.Stages.Held.{Held, startHeld, wishIn, rangeAt, spaceBy, spaceIn, spacedIn, roundsIn}
+use Rattle.wishes.specs.Stages.Held.{RoundLists, startHeld, wishIn, rangeAt, spaceBy, spaceIn, spacedIn, roundsIn}
 use Rattle.grouping.specs.Stages.Grouped.{memberIn}
 
 -- by its wishes, taken before any place changes
@@ -33,7 +33,7 @@ made-by range at n wish ps ps′ ways ways₁ ways₂ sorted sorted₂ h₁ h₂
     ∙ take-at (spaced range (inOrder ws (wishOrder ws))) (drop n ways₁) n (length-spaced range (inOrder ws (wishOrder ws)) ∙ length-inOrder ws ∙ long) in
     h ∙ ap (λ (l : List ℕ). putAll (map at l) (take n ways₂) ps) o ∙ ap (λ (l : List Float). putAll (map at (wishOrder ws)) l ps) t
 
-module _ (occupied : ℕ) (H : Held) (c st en : ℕ) (range : Channel) (ps ps′ ways ways₁ ways₂ : List Float) (sorted sorted₂ : List ℕ) where
+module _ (occupied : ℕ) (H : RoundLists) (c st en : ℕ) (range : Channel) (ps ps′ ways ways₁ ways₂ : List Float) (sorted sorted₂ : List ℕ) where
   pub made-one : st ≡ startHeld H c → en ≡ startHeld H (c + 1)
       → range ≡ rangeAt occupied (H .centres) c
       → ways₁ ≡ table (λ i. wishIn H ps (memberIn (H .numbers) (st + i))) (en - st) ++ drop (en - st) ways
@@ -51,7 +51,7 @@ module _ (occupied : ℕ) (H : Held) (c st en : ℕ) (range : Channel) (ps ps′
 
 -- ---- rounds, by channels and by their number
 
-module _ (occupied : ℕ) (H : Held) (l₀ : List Float) where
+module _ (occupied : ℕ) (H : RoundLists) (l₀ : List Float) where
   pub spaced-none : l₀ ≡ spacedIn occupied H 0 l₀
   unfolding spacedIn
   spaced-none = refl

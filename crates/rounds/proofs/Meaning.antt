@@ -1,20 +1,20 @@
 -- The rounds over the lists are the rounds of 01, where the lists hold the routing. Assumes nothing.
-use mathlib.Core.Path.{_≡_, refl, sym, ap, _∙_, subst}
+use mathlib.Core.Path.{_≡_, refl, sym, ap, _∙_}
 use mathlib.Core.Logic.{⊎-elim}
-use mathlib.Core.Bool.{Bool, true, false, cond}
+use mathlib.Core.Bool.{true, false, cond}
 use mathlib.Core.List.{List, [], _∷_, map}
 use mathlib.Core.Option.{Option, none}
 use Prim.Native.Nat.{ℕ, zero, suc, _+_, _-_, _*_, _≤_, _<_, zero-le, suc-le-suc}
 use native.Mathlib.Omega.{arith}
 use native.Mathlib.Numerals.{add-one}
-use lib.Dec.{ltb, leb, eqb}
+use lib.Dec.{ltb, eqb}
 use lib.ListN.{length, getD, take, set, length-map, length-take}
 use lib.Seq.{getD-take, take-set-le, take-set-lt, set-out}
 use lib.Ieee.{Float, nan}
 use borrow.Author.Tests.{lt-ltb, le-ltb, le-leb, lt-leb, eq-eqb, ne-eqb}
-use Rattle.order.specs.Order.{upFrom, keep, keyAt}
+use Rattle.order.specs.Order.{upFrom}
 use Rattle.order.specs.Table.{table}
-use Rattle.order.proofs.Laws.{All, all-at, all-keep, all-below, getD-map}
+use Rattle.order.proofs.Laws.{all-at, all-keep, all-below, getD-map}
 use Rattle.order.proofs.Merging.{le-or-lt}
 use Rattle.order.proofs.Tables.{getD-table, length-table, table-ext}
 use Rattle.order.proofs.Strides.{is-table}
@@ -24,12 +24,12 @@ use Rattle.channel.specs.declared.Channel.{Channel}
 use Rattle.channel.specs.Space.{wishOrder, inOrder, spaced, putAll}
 use Rattle.channel.proofs.Spacing.{length-order, wish-below}
 use Rattle.runs.specs.Stages.Views.{firstExit, secondExit}
-use Rattle.crossings.specs.Route.{Scene, Line, Routing, Keyed, Crossing, Path, crossingAt, channelAt, pathAt, centreAt, pointOn, pointOf, members, exitOf, wish, spaceOne, spacedTo, roundsTo}
-use Rattle.wishes.specs.Stages.Held.{Held, edgeHeld, startHeld, pointHeld, lowIn, highIn, between, rangeAt, pointIn, beforeIn, behindIn, wishIn, spaceBy, spaceIn, spacedIn, roundsIn}
+use Rattle.crossings.specs.Route.{Scene, Line, Routing, Crossing, crossingAt, channelAt, pathAt, centreAt, pointOn, pointOf, members, exitOf, wish, spaceOne, spacedTo, roundsTo}
+use Rattle.wishes.specs.Stages.Held.{RoundLists, edgeHeld, startHeld, pointHeld, lowIn, highIn, between, rangeAt, pointIn, beforeIn, behindIn, wishIn, spaceBy, spaceIn, spacedIn, roundsIn}
 use Rattle.grouping.specs.Stages.Grouped.{memberIn}
 
 -- what the lists say of the routing, crossing by crossing and channel by channel
-pub record Means (S : Scene) (r : Routing) (occupied : ℕ) (H : Held) : Type 0 where
+pub record Means (S : Scene) (r : Routing) (occupied : ℕ) (H : RoundLists) : Type 0 where
   pub channel : (x : ℕ) → x < length (r .crossings) → getD (H .numbers) (3 * x) 0 ≡ crossingAt S r x .channel
   pub branch : (x : ℕ) → x < length (r .crossings) → getD (H .numbers) (3 * x + 1) 0 ≡ crossingAt S r x .branch
   pub known : (x : ℕ) → x < length (r .crossings) → crossingAt S r x .channel < length (r .channels)
@@ -71,7 +71,7 @@ map-table f at n =
     is-table (λ i. f (at i)) n (map f (table at n)) nan (length-map (table at n) f ∙ length-table at n)
     (λ k h. getD-map f (table at n) k nan (omega (arith, length-table at n)) ∙ ap f (getD-table at n k 0 h))
 
-module _ (S : Scene) (r : Routing) (occupied : ℕ) (H : Held) (M : Means S r occupied H) where
+module _ (S : Scene) (r : Routing) (occupied : ℕ) (H : RoundLists) (M : Means S r occupied H) where
   abbrev X : ℕ
   X = length (r .crossings)
 

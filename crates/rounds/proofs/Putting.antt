@@ -1,10 +1,9 @@
 -- A loop that puts numbers where a list says. Assumes nothing.
 use mathlib.Core.Path.{_≡_, refl, sym, ap, _∙_}
-use mathlib.Core.List.{List, [], _∷_, map}
-use Prim.Native.Nat.{ℕ, zero, suc, _+_, _≤_, _<_, zero-le, suc-le-suc}
+use mathlib.Core.List.{List, _∷_, map}
+use Prim.Native.Nat.{ℕ, suc, _+_, _≤_, _<_, zero-le}
 use native.Mathlib.Omega.{arith}
 use native.Mathlib.Numerals.{add-one}
-use native.Mathlib.Nat.{le-of-suc-le-suc}
 use lib.ListN.{length, getD, drop, take, set, length-set, drop-of-length-le}
 use lib.Seq.{set-out, drop-cons, getD-take, length-take-le}
 use lib.Ieee.{Float, nan}

@@ -9,7 +9,6 @@ use lib.ListN.{length, getD, take, drop, set, length-set}
 use lib.Seq.{getD-take, getD-drop, getD-set-same, getD-set-other, take-set-le}
 use lib.Ieee.{Float, nan}
 use Rattle.geometry.specs.declared.Point.{Point}
-use Rattle.geometry.specs.declared.Box.{Box}
 use Rattle.geometry.specs.Plane.{pointAt, boxAt}
 use Rattle.channel.specs.declared.Channel.{Channel}
 use Rattle.channel.specs.Channel.{channelOf}

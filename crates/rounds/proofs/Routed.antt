@@ -10,11 +10,11 @@ use native.Mathlib.Nat.{add-zero, add-suc}
 use lib.Dec.{ltb, eqb}
 use lib.ListN.{length, getD, length-append, List·getD-append}
 use lib.Seq.{getD-append-seam}
-use borrow.Author.Tests.{ltb-true, ltb-false}
+use borrow.Author.Tests.{ltb-true}
 use Rattle.order.proofs.Merging.{le-or-lt}
 use Rattle.geometry.specs.Plane.{pointAt}
 use Rattle.mesh.specs.Mesh.{lowAt, highAt}
-use Rattle.walk.specs.Trace.{Walk, traced}
+use Rattle.walk.specs.Trace.{traced}
 use Rattle.crossings.specs.Route.{Scene, Line, Routing, Keyed, Crossing, Path, noChannel, noCrossing, noPath, noRouting, vertexOf, numberOf, makeChannel, withChannel, crossingOf, cross, crossAll, addWalk, addBranch, tracedTo, routing}
 
 -- ---- one element more

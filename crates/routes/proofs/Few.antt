@@ -2,7 +2,7 @@
 use mathlib.Core.Path.{_≡_, refl, sym, ap, _∙_, subst}
 use mathlib.Core.Logic.{⊎-elim}
 use mathlib.Core.Bool.{Bool, true, false, cond}
-use mathlib.Core.List.{List, [], _∷_, _++_, map}
+use mathlib.Core.List.{List, [], _∷_, _++_}
 use mathlib.Core.Option.{Option, none, some}
 use Prim.Native.Nat.{ℕ, zero, suc, _+_, _*_, _≤_, _<_, zero-le}
 use native.Mathlib.Omega.{arith}
@@ -13,7 +13,7 @@ use Rattle.order.proofs.Merging.{le-or-lt}
 use Rattle.channel.proofs.Spacing.{length-put}
 use Rattle.walk.specs.Trace.{Walk, traced}
 use Rattle.walk.proofs.Walks.{traced-short}
-use Rattle.crossings.specs.Route.{Scene, Routing, Crossing, Path, Line, noPath, vertexOf, centreAt, crossAll, addWalk, addBranch, tracedTo, routing, spaceOne, spacedTo, roundsTo}
+use Rattle.crossings.specs.Route.{Scene, Routing, Crossing, Path, Line, noPath, vertexOf, centreAt, addWalk, addBranch, tracedTo, routing, spaceOne, spacedTo, roundsTo}
 use Rattle.routing.proofs.Tracing.{cross-long}
 
 -- ---- places after the rounds

@@ -1,8 +1,8 @@
 -- What the steps of routing give together: refusals 9 and 10, each branch's waypoints in a list, and none without a mesh. Assumes nothing.
 use mathlib.Core.Path.{_≡_, refl, sym, ap, _∙_, subst}
 use mathlib.Core.Bool.{Bool, true, false, not}
-use mathlib.Core.List.{List, [], _∷_, map}
-use Prim.Native.Nat.{ℕ, zero, suc, _+_, _*_, _^_, _≤_, _<_, min}
+use mathlib.Core.List.{List, _∷_, map}
+use Prim.Native.Nat.{ℕ, zero, suc, _+_, _*_, _≤_, _<_, min}
 use native.Mathlib.Omega.{arith}
 use native.Mathlib.Nat.{mul-le-mul, min-eq-left}
 use lib.Dec.{ltb}
@@ -13,26 +13,23 @@ use borrow.Author.Tests.{ltb-false, le-ltb}
 use Rattle.order.specs.Order.{upFrom}
 use Rattle.order.specs.Table.{table, tableFrom, strided}
 use Rattle.order.proofs.Tables.{getD-table, length-table, table-ext}
-use Rattle.order.proofs.Strides.{getD-strided, getD-first}
+use Rattle.order.proofs.Strides.{getD-strided}
 use Rattle.geometry.specs.declared.Point.{Point}
 use Rattle.geometry.specs.Plane.{point, pointAt}
 use Rattle.mesh.specs.Mesh.{meshOk}
 use Rattle.mesh.proofs.Meshes.{mesh-sound}
-use Rattle.network.specs.declared.words.Kind.{Kind}
-use Rattle.network.specs.declared.words.Kind.the-variants.{Undrawn, Open, Internal, Line}
-use Rattle.network.specs.Words.{kindOf}
 use Rattle.network.specs.Refusal.{refuse}
-use Rattle.network.specs.Views.{fromRowsIn, toRowsIn, pointsIn, orderIn}
+use Rattle.network.specs.Views.{fromRowsIn, toRowsIn, pointsIn}
 use Rattle.detour.specs.Stages.Paths.{pathIn}
 use Rattle.units.specs.declared.Measures.{Measures}
 use Rattle.runs.specs.Stages.Views.{wayOf, wayCount}
 use Rattle.crossings.specs.Route as Route
 use Rattle.crossings.specs.Route.{Scene, Path, noPath, pathAt, pointOf, routing, roundsTo, waypoints}
-use Rattle.crossings.specs.Stages.Views.{Grid, grid, exitAt, lineBetween, lineFor, lineIn, linesIn, sceneIn}
+use Rattle.crossings.specs.Stages.Views.{Grid, grid, lineIn, linesIn, sceneIn}
 use Rattle.crossings.specs.Stages.Store.{SameRows}
 use Rattle.routing.specs.Stages.Traced.{Traced, Pathless, lined}
 use Rattle.routing.specs.declared.routes.Routed.{Routed}
-use Rattle.routing.proofs.Rows.{path-count, path-row}
+use Rattle.routing.proofs.Rows.{path-row}
 use Rattle.routing.proofs.Known.{routing-few}
 use Rattle.wishes.specs.Stages.Held.{stationIn, Entered}
 use Rattle.exits.specs.Stages.Exits.{Exited}

@@ -1,5 +1,5 @@
 -- The rounds of spacing keep every crossing's place within 2 ^ 32, so every waypoint has a bound. Assumes nothing.
-use mathlib.Core.Path.{_≡_, refl, sym, ap, _∙_, subst}
+use mathlib.Core.Path.{_≡_, refl, sym, _∙_, subst}
 use mathlib.Core.Bool.{Bool, true, false, cond}
 use mathlib.Core.List.{List, [], _∷_, map}
 use mathlib.Core.Option.{Option, none, some}
@@ -25,7 +25,7 @@ use Rattle.geometry.proofs.Crossing.{Near, place-most}
 use Rattle.channel.specs.Space.{wishOrder, inOrder, spaced}
 use Rattle.channel.proofs.SpaceSizes.{put-most, ordered-most}
 use Rattle.detour.proofs.DetourSizes.{Points}
-use Rattle.crossings.specs.Route.{Scene, Line, Routing, Crossing, noCrossing, noPath, centreAt, crossingAt, channelAt, pathAt, pointOn, pointOf, members, exitOf, wish, spaceOne, spacedTo, roundsTo, routing, waypoints}
+use Rattle.crossings.specs.Route.{Scene, Line, Routing, Crossing, noCrossing, centreAt, crossingAt, channelAt, pathAt, pointOn, pointOf, members, exitOf, wish, spaceOne, spacedTo, roundsTo, routing, waypoints}
 use Rattle.rounds.proofs.Routed.{Traced, routed}
 use Rattle.rounds.proofs.CrossedSizes.{Firm, Fine, routing-fine}
 use Rattle.routes.specs.Routes.{crossingsOf}

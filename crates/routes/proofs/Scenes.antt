@@ -1,14 +1,14 @@
 -- The scene that the lists hold is the one that lines are to be routed through, with the mesh or without it. Assumes nothing.
-use mathlib.Core.Path.{_≡_, refl, sym, ap, _∙_, subst}
+use mathlib.Core.Path.{_≡_, sym, ap, _∙_, subst}
 use mathlib.Core.Bool.{Bool, true, false, not, _||_}
 use mathlib.Core.List.{List, []}
-use Prim.Native.Nat.{ℕ, _+_, _*_, _≤_, _<_}
+use Prim.Native.Nat.{ℕ, _+_, _*_, _<_}
 use native.Mathlib.Omega.{arith}
 use lib.ListN.{length, getD, take}
 use lib.Ieee.{Float}
 use Rattle.order.specs.Order.{pick}
-use Rattle.order.specs.Table.{strided, which}
-use Rattle.order.proofs.Laws.{All, all-at}
+use Rattle.order.specs.Table.{which}
+use Rattle.order.proofs.Laws.{all-at}
 use Rattle.order.proofs.Tables.{all-which, length-table}
 use Rattle.order.proofs.Strides.{getD-strided, length-strided}
 use Rattle.mesh.specs.Mesh.{meshOk}

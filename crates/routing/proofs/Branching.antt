@@ -1,28 +1,22 @@
 -- One branch more in the lists, by its way; and all branches one after another. Assumes nothing.
 use mathlib.Core.Path.{_≡_, refl, sym, ap, _∙_, subst}
-use mathlib.Core.Logic.{⊎-elim}
-use mathlib.Core.Bool.{Bool, true, cond}
-use mathlib.Core.List.{List, [], _∷_, _++_, map, map-append}
-use mathlib.Core.Option.{Option, none}
+use mathlib.Core.Bool.{Bool, true}
+use mathlib.Core.List.{List}
 use Prim.Native.Nat.{ℕ, zero, suc, _+_, _*_, _-_, _≤_, _<_, zero-le}
 use native.Mathlib.Omega.{arith}
 use native.Mathlib.Numerals.{add-one}
-use lib.ListN.{length, getD, set, take, drop, length-set, length-take, length-append}
-use lib.Seq.{take-at, take-set-lt, take-set-le, getD-take, getD-set-same, getD-set-other}
+use lib.ListN.{length, getD, set, take, drop}
+use lib.Seq.{take-at, take-set-lt}
 use lib.Ieee.{Float}
 use Rattle.order.specs.Order.{pick}
-use Rattle.order.specs.Table.{strided}
-use Rattle.order.proofs.Merging.{le-or-lt}
-use Rattle.order.proofs.Strides.{strided-ext, strided-zero, strided-suc}
 use Rattle.geometry.specs.Plane.{pointAt}
-use Rattle.mesh.specs.Mesh.{lowAt, highAt, meshOk}
-use Rattle.mesh.proofs.Meshes.{Sound, mesh-sound}
+use Rattle.mesh.specs.Mesh.{meshOk}
+use Rattle.mesh.proofs.Meshes.{mesh-sound}
 use Rattle.walk.specs.Trace.{Walk, traced, Trailed}
-use Rattle.walk.proofs.Walks.{traced-short, trail-short, trail-in}
-use Rattle.network.specs.Views.{fromRowsIn, toRowsIn}
-use Rattle.crossings.specs.Route.{Scene, Routing, Keyed, Crossing, Path, noRouting, noChannel, numberOf, centreAt, crossAll, addWalk, addBranch, tracedTo}
-use Rattle.crossings.specs.Stages.Store.{Marked, markOf, Stock, stock, Held, meshed, Grown, walkOf, walkAt, crossingsTo, addWay, firstFor, countFor, SameRows, Fits, Branched, Filled, Unmarked}
-use Rattle.crossings.proofs.Written.{putPair, pair-other, pair-rows, pair-first, pair-second, length-pair, rows-then, rows-same}
+use Rattle.walk.proofs.Walks.{traced-short, trail-in}
+use Rattle.crossings.specs.Route.{Routing, Keyed, crossAll, addWalk, addBranch}
+use Rattle.crossings.specs.Stages.Store.{Marked, stock, Stocked, meshed, Grown, walkOf, walkAt, crossingsTo, addWay, firstFor, countFor, Branched}
+use Rattle.crossings.proofs.Written.{putPair, pair-other}
 
 -- ---- walks
 
@@ -92,8 +86,8 @@ module _ (m : ℕ) (corners : List ℕ) (e : ℕ) (inside : e < m) where
         marks = λ h l. pair-other ends e f c (m + h) 1 (omega arith) (λ z. omega arith) ∙ v .marks h l;
       }
 
-  held-path : (r : Routing) (k x : ℕ) (ends numbers : List ℕ) (places : List Float) (f c : ℕ) → Held m corners r (stock k x ends numbers places)
-      → Held m corners r (stock k x (putPair ends e f c) numbers places)
+  held-path : (r : Routing) (k x : ℕ) (ends numbers : List ℕ) (places : List Float) (f c : ℕ) → Stocked m corners r (stock k x ends numbers places)
+      → Stocked m corners r (stock k x (putPair ends e f c) numbers places)
   held-path r k x ends numbers places f c v =
       record {
         known = v .known;
@@ -153,8 +147,8 @@ module _ (m : ℕ) (corners twins : List ℕ) (points : List Float) (e b k x : �
             let s = meshed corners twins points S in
             let o = held-path m corners e h _ k' (x + n) ends' numbers' places' x c (p .grown s r v) in
             let u : crossAll s va b e 0 (take n trail') r ≡ crossAll s a b e 0 (path .edges) r = ap (λ (i : ℕ). crossAll s i b e 0 (take n trail') r) y ∙ ap (λ (i : List ℕ). crossAll s a b e 0 i r) edges in
-            let j : Held m corners (crossAll s a b e 0 (path .edges) r) (stock k' (x + n) ends'' numbers' places') =
-            subst (λ (i : Routing). Held m corners i (stock k' (x + n) ends'' numbers' places')) u (rw z o) in
+            let j : Stocked m corners (crossAll s a b e 0 (path .edges) r) (stock k' (x + n) ends'' numbers' places') =
+            subst (λ (i : Routing). Stocked m corners i (stock k' (x + n) ends'' numbers' places')) u (rw z o) in
             record { known = j .known; made = j .made; marked = j .marked; channels = j .channels; branches = j .branches; placed = j .placed };
       }
 

@@ -3,10 +3,8 @@ use mathlib.Core.Path.{_≡_, refl, sym, ap, _∙_, subst}
 use mathlib.Core.Logic.{⊎-elim}
 use mathlib.Core.Bool.{Bool, true, false, cond}
 use mathlib.Core.List.{List, [], _∷_, _++_, map, map-append}
-use mathlib.Core.Option.{Option, none}
 use Prim.Native.Nat.{ℕ, zero, suc, _+_, _*_, _≤_, _<_, zero-le}
 use native.Mathlib.Omega.{arith}
-use native.Mathlib.Nat.{add-zero}
 use native.Mathlib.Numerals.{add-one}
 use lib.ListN.{length, getD, set, take, length-set}
 use lib.Seq.{getD-take, getD-set-same, getD-set-other, length-take-le, take-set-le, take-take, take-all}
@@ -17,8 +15,8 @@ use Rattle.order.proofs.Merging.{le-or-lt}
 use Rattle.order.proofs.Strides.{strided-ext, strided-zero, strided-suc}
 use Rattle.geometry.specs.Plane.{pointAt}
 use Rattle.walk.specs.Trace.{Walk, traced}
-use Rattle.crossings.specs.Route.{Scene, Routing, Keyed, Path, noRouting, noPath, numberOf, centreAt, addWalk, addBranch, tracedTo}
-use Rattle.crossings.specs.Stages.Store.{Marked, markOf, Stock, stock, Held, meshed, walkOf, walkAt, crossingsTo, addWay, firstFor, countFor, SameRows, Fits, Branched, Filled, Unmarked}
+use Rattle.crossings.specs.Route.{Scene, Routing, Path, noRouting, noPath, numberOf, centreAt, addWalk, addBranch, tracedTo}
+use Rattle.crossings.specs.Stages.Store.{markOf, Stock, stock, Stocked, meshed, walkOf, walkAt, crossingsTo, addWay, firstFor, countFor, SameRows, Fits, Branched, Filled, Unmarked}
 use Rattle.crossings.proofs.Written.{putPair, pair-other, pair-rows, pair-first, pair-second, rows-then, rows-same}
 use Rattle.routing.proofs.Branching.{crossings-none, crossings-more, crossings-within}
 
@@ -65,7 +63,7 @@ module _ (m : ℕ) (corners twins : List ℕ) (points : List Float) (ways : List
     pub starts : (j : ℕ) → e ≤ j → j < m → getD (s .ends) (4 * j + 2) 0 ≡ getD ways (4 * j + 2) 0
     pub ends : (j : ℕ) → e ≤ j → j < m → getD (s .ends) (4 * j + 3) 0 ≡ getD ways (4 * j + 3) 0
 
-  held-none : (numbers : List ℕ) (places : List Float) → Unmarked m corners ways → Held m corners noRouting (stock 0 0 ways numbers places)
+  held-none : (numbers : List ℕ) (places : List Float) → Unmarked m corners ways → Stocked m corners noRouting (stock 0 0 ways numbers places)
   unfolding markOf numberOf
   held-none numbers places u =
       record {
@@ -158,8 +156,8 @@ module _ (m : ℕ) (corners twins : List ℕ) (points : List Float) (ways : List
         unfolding tracedTo
         step = g .each e h old
 
-        held : Held m corners (tracedTo scene (suc e)) t
-        held = subst (λ (z : Routing). Held m corners z t) (sym step) (p .grown S old (v .filled .held S g))
+        held : Stocked m corners (tracedTo scene (suc e)) t
+        held = subst (λ (z : Routing). Stocked m corners z t) (sym step) (p .grown S old (v .filled .held S g))
 
         firsts : strided 4 2 0 (suc e) (t .ends) ≡ map (λ (z : Path). z .first) (tracedTo scene (suc e) .paths)
         firsts =

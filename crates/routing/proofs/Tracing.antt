@@ -1,15 +1,14 @@
 -- Every line traced: how many crossings there are, the lines of a scene by their ways, and the routing in the lists. Assumes nothing.
 use mathlib.Core.Path.{_≡_, refl, sym, ap, _∙_, subst}
-use mathlib.Core.Bool.{Bool, true, false, true≢false}
+use mathlib.Core.Bool.{true, false, true≢false}
 use mathlib.Core.List.{List, [], _∷_, _++_, map}
 use mathlib.Core.Option.{Option, none}
 use Prim.Native.Nat.{ℕ, zero, suc, _+_, _*_, _≤_, _<_, zero-le}
 use native.Mathlib.Omega.{arith}
-use native.Mathlib.Nat.{add-zero, add-suc, suc-add}
+use native.Mathlib.Nat.{add-zero}
 use native.Mathlib.Numerals.{add-one}
-use lib.Dec.{ltb}
 use lib.IntN.{ℤ}
-use lib.ListN.{length, getD, set, take, length-append}
+use lib.ListN.{length, getD, take, length-append}
 use lib.Ieee.{Float}
 use borrow.Author.Tests.{lt-ltb, le-ltb}
 use Rattle.order.specs.Table.{table, strided}
@@ -17,7 +16,7 @@ use Rattle.order.proofs.Tables.{length-table, getD-table, table-suc, table-zero
 use Rattle.order.proofs.Strides.{strided-zero, strided-suc, strided-ext}
 use Rattle.geometry.specs.Plane.{pointAt}
 use Rattle.walk.specs.Round.{roundOf}
-use Rattle.walk.specs.Trace.{Walk, traced}
+use Rattle.walk.specs.Trace.{traced}
 use Rattle.walk.proofs.Rounds.{round-first}
 use Rattle.network.specs.declared.words.Kind.{Kind}
 use Rattle.network.specs.declared.words.Kind.the-variants.{Undrawn, Open, Internal, Line}
@@ -25,9 +24,9 @@ use Rattle.network.specs.Words.{kindOf}
 use Rattle.network.specs.Views.{orderIn}
 use Rattle.crossings.specs.Route as Route
 use Rattle.crossings.specs.declared.ways.Way.{Way}
-use Rattle.crossings.specs.Route.{Scene, Routing, Crossing, Path, centreAt, cross, crossAll, addWalk, addBranch, tracedTo, routing}
+use Rattle.crossings.specs.Route.{Scene, Routing, Crossing, centreAt, cross, crossAll, addWalk, addBranch, tracedTo, routing}
 use Rattle.crossings.specs.Stages.Views.{Grid, sceneIn, linesIn, lineIn, lineFor, lineBetween, Stored}
-use Rattle.crossings.specs.Stages.Store.{stock, Held, meshed, walkOf, walkAt, crossingsTo, addWay, wayFor, wayOf, SameRows, Fits, Filled, Unmarked, Wayed}
+use Rattle.crossings.specs.Stages.Store.{stock, meshed, walkOf, crossingsTo, addWay, wayFor, wayOf, SameRows, Fits, Filled, Wayed}
 use Rattle.routing.specs.Stages.Traced.{Settled, lined, Traced, Pathless}
 use Rattle.routing.specs.declared.routes.Routed.{Routed}
 use Rattle.crossings.proofs.Written.{putPair, pair-other, pair-rows, pair-first, pair-second, length-pair, rows-then, rows-same}

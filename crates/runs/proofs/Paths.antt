@@ -6,7 +6,7 @@ use mathlib.Core.Bool.{Bool, true, false, cond}
 use mathlib.Core.List.{List, [], _∷_, _++_}
 use Prim.Native.Nat.{ℕ, zero, suc, _+_, _*_, _^_, _≤_, _<_}
 use native.Mathlib.Omega.{arith}
-use lib.ListN.{length, getD, take, set, length-set, length-append}
+use lib.ListN.{length, getD, set, length-set, length-append}
 use lib.Seq.{take-set-le}
 use lib.Ieee.{Float}
 use Rattle.order.specs.Order.{pick}
@@ -23,7 +23,7 @@ use Rattle.network.specs.declared.words.Kind.{Kind}
 use Rattle.network.specs.declared.words.Kind.the-variants.{Undrawn, Open, Internal, Line}
 use Rattle.units.specs.declared.Measures.{Measures}
 use Rattle.runs.specs.Run.{isLine}
-use Rattle.runs.specs.Stages.Views.{Lead, Held, openFrom, internalFrom, ledIn, ledRun, lineFrom, runFrom, wayOf, wayCount, runIn, otherRun, Ran}
+use Rattle.runs.specs.Stages.Views.{Lead, RunLists, openFrom, internalFrom, ledIn, ledRun, lineFrom, runFrom, wayOf, wayCount, runIn, otherRun, Ran}
 
 -- a list of at least four points whose first k are ps
 pub record Front (k : ℕ) (l : List Float) (ps : List Point) : Type 0 where
@@ -131,19 +131,19 @@ ends-put r p q l l1 l2 h e f = record { count = count; holds = holds }
         path-cons 0 (r + 2) (r + 1) l2 s ∙ ap (λ (t : Point). t ∷ pathIn 1 (r + 1) l2) first ∙ ap (λ (t : List Point). p ∷ t) rest
 
 -- a path led round boxes where there are iterations
-module _ (led : Bool) (cell gap : Float) (k : ℕ) (stations : List ℕ) (frames : List Float) (s t : ℕ) where
+module _ (led : Bool) (gap : Float) (k : ℕ) (stations : List ℕ) (frames : List Float) (s t : ℕ) where
   pub led-yes : (r count : ℕ) (was now : List Float) → led ≡ true
-      → Led 1 r (detour (boxesIn k frames) (occupied (countsIn k stations)) cell gap s t (pathIn 1 count was)) was now
-      → (pathIn 1 r now ≡ ledIn led cell gap k stations frames s t (pathIn 1 count was)) × (r ≤ count + 4)
+      → Led 1 r (detour (boxesIn k frames) (occupied (countsIn k stations)) gap s t (pathIn 1 count was)) was now
+      → (pathIn 1 r now ≡ ledIn led gap k stations frames s t (pathIn 1 count was)) × (r ≤ count + 4)
   unfolding ledIn
   led-yes r count was now h L = (
-    L .path ∙ ap (λ (b : Bool). cond b (detour (boxesIn k frames) (occupied (countsIn k stations)) cell gap s t (pathIn 1 count was)) (pathIn 1 count was)) (sym h),
-    led-short (boxesIn k frames) (occupied (countsIn k stations)) cell gap s t 1 r count was now L,
+    L .path ∙ ap (λ (b : Bool). cond b (detour (boxesIn k frames) (occupied (countsIn k stations)) gap s t (pathIn 1 count was)) (pathIn 1 count was)) (sym h),
+    led-short (boxesIn k frames) (occupied (countsIn k stations)) gap s t 1 r count was now L,
   )
 
-  pub led-no : (path : List Point) → led ≡ false → path ≡ ledIn led cell gap k stations frames s t path
+  pub led-no : (path : List Point) → led ≡ false → path ≡ ledIn led gap k stations frames s t path
   unfolding ledIn
-  led-no path h = ap (λ (b : Bool). cond b (detour (boxesIn k frames) (occupied (countsIn k stations)) cell gap s t path) path) (sym h)
+  led-no path h = ap (λ (b : Bool). cond b (detour (boxesIn k frames) (occupied (countsIn k stations)) gap s t path) path) (sym h)
 
 -- ---- the run of a branch, by what it is
 
@@ -167,7 +167,7 @@ module _ (sub : List ℕ) (measures : Measures) (buses ends : List ℕ) (blocks 
       subst (λ (z : Kind). internalFrom sub measures buses blocks frames a b ra rb ≡ otherRun sub measures buses ends blocks frames e z) (sym h) (cc (p, q))
 
 -- the runs of all branches that are no lines
-pub other-is : (H : Held) (e : ℕ) (K : Kind) → otherRun (H .sub) (H .measures) (H .buses) (H .ends) (H .blocks) (H .frames) e K ≡ pick (isLine K) [] (runIn H e K)
+pub other-is : (H : RunLists) (e : ℕ) (K : Kind) → otherRun (H .sub) (H .measures) (H .buses) (H .ends) (H .blocks) (H .frames) e K ≡ pick (isLine K) [] (runIn H e K)
 unfolding otherRun isLine runIn runFrom
 other-is H e Undrawn = refl
 other-is H e (Open a b) = refl
@@ -176,16 +176,16 @@ other-is H e (Line a b) = refl
 
 -- a line's points, by the path between its slots
 pub line-is : (L : Lead) (frames : List Float) (s t w n : ℕ) (p q x y : Point) (before after : List Point) → before ≡ x ∷ (pathIn w n (L .ways) ++ (y ∷ []))
-    → after ≡ ledIn (L .led) (L .cell) (L .gap) (L .k) (L .stations) frames s t before → p ∷ (after ++ (q ∷ [])) ≡ ledRun L frames s t p q x y w n
+    → after ≡ ledIn (L .led) (L .gap) (L .k) (L .stations) frames s t before → p ∷ (after ++ (q ∷ [])) ≡ ledRun L frames s t p q x y w n
 unfolding ledRun
 line-is L frames s t w n p q x y before after g h = cc
 
 -- a run has at most eight points more than waypoints
-led-few : (led : Bool) (cell gap : Float) (k : ℕ) (stations : List ℕ) (frames : List Float) (s t : ℕ) (path : List Point)
-    → length (ledIn led cell gap k stations frames s t path) ≤ 4 + length path
+led-few : (led : Bool) (gap : Float) (k : ℕ) (stations : List ℕ) (frames : List Float) (s t : ℕ) (path : List Point)
+    → length (ledIn led gap k stations frames s t path) ≤ 4 + length path
 unfolding ledIn
-led-few true cell gap k stations frames s t path = length-detour (boxesIn k frames) (occupied (countsIn k stations)) cell gap s t path
-led-few false cell gap k stations frames s t path = omega arith
+led-few true gap k stations frames s t path = length-detour (boxesIn k frames) (occupied (countsIn k stations)) gap s t path
+led-few false gap k stations frames s t path = omega arith
 
 ends-few : (w n : ℕ) (ways : List Float) (p q x y : Point) (after : List Point) → length after ≤ 4 + length (x ∷ (pathIn w n ways ++ (y ∷ [])))
     → length (p ∷ (after ++ (q ∷ []))) ≤ n + 8
@@ -195,10 +195,10 @@ pub line-few : (L : Lead) (frames : List Float) (s t w n : ℕ) (p q x y : Point
 unfolding ledRun
 line-few L frames s t w n p q x y =
     let path : List Point = x ∷ (pathIn w n (L .ways) ++ (y ∷ [])) in
-    ends-few w n (L .ways) p q x y (ledIn (L .led) (L .cell) (L .gap) (L .k) (L .stations) frames s t path)
-    (led-few (L .led) (L .cell) (L .gap) (L .k) (L .stations) frames s t path)
+    ends-few w n (L .ways) p q x y (ledIn (L .led) (L .gap) (L .k) (L .stations) frames s t path)
+    (led-few (L .led) (L .gap) (L .k) (L .stations) frames s t path)
 
-pub run-few : (H : Held) (e : ℕ) (K : Kind) → length (runIn H e K) ≤ wayCount (H .ends) e + 8
+pub run-few : (H : RunLists) (e : ℕ) (K : Kind) → length (runIn H e K) ≤ wayCount (H .ends) e + 8
 unfolding runIn runFrom openFrom internalFrom lineFrom
 run-few H e Undrawn = omega arith
 run-few H e (Open a b) = omega arith

@@ -1,7 +1,6 @@
 -- The points of every run have a bound, where those of bars, boxes and waypoints have; so they are finite. Assumes nothing.
-use mathlib.Core.Path.{_≡_, refl, sym, ap, _∙_, subst}
+use mathlib.Core.Path.{_≡_, refl, ap, _∙_}
 use Prim.Native.Nat.{ℕ, zero, suc, _+_, _^_, _≤_, _<_}
-use native.Mathlib.Nat.{le-trans}
 use native.Mathlib.Omega.{arith}
 use mathlib.Core.Bool.{Bool, true, false, cond, _&&_}
 use mathlib.Core.List.{List, [], _∷_, _++_}
@@ -12,7 +11,7 @@ use Rattle.float.specs.Small.{isFinite}
 use Rattle.float.specs.Size.{AtMost}
 use Rattle.float.proofs.SizeLaws.{most-weaken}
 use Rattle.float.proofs.Each.{Each}
-use Rattle.order.specs.Table.{tableFrom, table}
+use Rattle.order.specs.Table.{tableFrom}
 use Rattle.geometry.specs.declared.Point.{Point}
 use Rattle.geometry.specs.declared.Box.{Box}
 use Rattle.geometry.proofs.Crossing.{Near}
@@ -22,7 +21,6 @@ use Rattle.network.specs.Words.{kindAt, stationOf}
 use Rattle.units.proofs.SideSizes.{Narrow}
 use Rattle.placement.specs.Place.{boxIn}
 use Rattle.placement.proofs.PlaceSizes.{Edges}
-use Rattle.cells.specs.Cells.{cellSize}
 use Rattle.detour.specs.Detour.{detour}
 use Rattle.detour.proofs.DetourSizes.{Points, points-append, detour-near}
 use Rattle.bars.specs.declared.Bar.{Bar}
@@ -110,8 +108,8 @@ module _ (k : ℕ) (K : 1074 + 74 ≤ k) (L : k ≤ 2096) (S : Scene) (B : Bound
   unfolding ledPath
   led-near s t path h = go (S .led)
     where
-      go : (b : Bool) → Points k (cond b (detour (S .boxes) (S .occupied) (cellSize (S .boxes) (S .occupied)) (S .gap) s t path) path)
-      go true = detour-near k (omega arith) (omega arith) (S .boxes) (S .occupied) (cellSize (S .boxes) (S .occupied)) (S .gap) s t (B .boxes) (B .gap) path h
+      go : (b : Bool) → Points k (cond b (detour (S .boxes) (S .occupied) (S .gap) s t path) path)
+      go true = detour-near k (omega arith) (omega arith) (S .boxes) (S .occupied) (S .gap) s t (B .boxes) (B .gap) path h
       go false = h
 
   line-near : (s t : ℕ) (via : List Point) (p q : Point) → Points k via → Near k p → Near k q → Points k (linePoints S s t via p q)

@@ -15,7 +15,6 @@ use Rattle.network.specs.declared.options.Gaps.{Gaps}
 use Rattle.network.specs.declared.words.Kind.{Kind}
 use Rattle.network.specs.declared.words.Kind.the-variants.{Undrawn, Open, Internal, Line}
 use Rattle.network.specs.Words.{kindAt, stationOf}
-use Rattle.cells.specs.Cells.{cellSize}
 use Rattle.detour.specs.Detour.{detour}
 use Rattle.bars.specs.declared.Bar.{Bar}
 use Rattle.bars.specs.Bar.{barAt, position, rowEnd}
@@ -45,7 +44,7 @@ slot S i row = rowEnd (S .gaps) (S .sub) (S .blocks) (S .boxes) (S .bars) i row
 -- the path between the slots of a line from station s to station t, led round boxes where there are iterations
 unfoldable pub ledPath : Scene → ℕ → ℕ → List Point → List Point
 ledPath S s t path =
-    cond (S .led) (detour (S .boxes) (S .occupied) (cellSize (S .boxes) (S .occupied)) (S .gap) s t path) path
+    cond (S .led) (detour (S .boxes) (S .occupied) (S .gap) s t path) path
 
 -- the points of a line between its two slots p and q, from station s to station t: from exit to exit by its waypoints
 unfoldable pub linePoints : Scene → ℕ → ℕ → List Point → Point → Point → List Point

@@ -211,7 +211,6 @@ fn put_middle(path: &mut [f64], a: Point, ways: &[f64], w: usize, n: usize, b: P
 // Leads the path of `count` points behind the first point of a list round boxes, where there are iterations, and answers how many points it has then.
 fn lead(
     led: bool,
-    cell: f64,
     gap: f64,
     k: usize,
     stations: &[u32],
@@ -222,13 +221,13 @@ fn lead(
     path: &mut [f64],
     count: usize,
 ) -> usize
-    requires { ⌜ Stands cell k (now stations) (now frames) (now index) ⌝ }
+    requires { ⌜ Stands k (now stations) (now frames) (now index) ⌝ }
     requires { ⌜ 2 * (count + 5) ≤ length (now path) ⌝ }
-    ensures { λ r. ⌜ pathIn 1 r (now (path .exit)) ≡ ledIn led cell gap k (now (stations .entry)) (now (frames .entry)) s t (pathIn 1 count (now (path .entry))) ⌝ }
+    ensures { λ r. ⌜ pathIn 1 r (now (path .exit)) ≡ ledIn led gap k (now (stations .entry)) (now (frames .entry)) s t (pathIn 1 count (now (path .entry))) ⌝ }
     ensures { λ r. ⌜ r ≤ count + 4 ⌝ }
 {
     if led {
-        return detour(cell, gap, k, stations, frames, index, s, t, path, 1, count);
+        return detour(gap, k, stations, frames, index, s, t, path, 1, count);
     }
     count
 }
@@ -243,10 +242,9 @@ fn put_ends(path: &mut [f64], p: Point, q: Point, r: usize) -> usize
     r + 2
 }
 
-// The run of a line from station s to station t between the slots p and q, whose exits are x and y, by n waypoints, the first of them w. `index` enters boxes by cell, or none.
+// The run of a line from station s to station t between the slots p and q, whose exits are x and y, by n waypoints, the first of them w. `index` enters boxes, or none.
 pub fn run_line(
     led: bool,
-    cell: f64,
     gap: f64,
     k: usize,
     stations: &[u32],
@@ -264,23 +262,11 @@ pub fn run_line(
     path: &mut [f64],
 ) -> usize
     requires { ⌜ (HasRoom n (now path)) × (w + n < 2 ^ 31) ⌝ }
-    requires { ⌜ Stands cell k (now stations) (now frames) (now index) ⌝ }
-    ensures { λ r. ⌜ Ran r (now (path .exit)) (ledRun (lead led cell gap k (now (stations .entry)) (now (ways .entry))) (now (frames .entry)) s t p q x y w n) ⌝ }
+    requires { ⌜ Stands k (now stations) (now frames) (now index) ⌝ }
+    ensures { λ r. ⌜ Ran r (now (path .exit)) (ledRun (lead led gap k (now (stations .entry)) (now (ways .entry))) (now (frames .entry)) s t p q x y w n) ⌝ }
 {
     put_middle(path, x, ways, w, n, y);
-    let r = lead(
-        led,
-        cell,
-        gap,
-        k,
-        stations,
-        frames,
-        index,
-        s,
-        t,
-        path,
-        n + 2,
-    );
+    let r = lead(led, gap, k, stations, frames, index, s, t, path, n + 2);
     put_ends(path, p, q, r)
 }
 

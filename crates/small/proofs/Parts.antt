@@ -12,7 +12,7 @@ use Rattle.drawing.specs.declared.answer.Answer.{Answer}
 use Rattle.drawing.specs.Network.{Network, Lists, Work, work, Crossings, crossings}
 use Rattle.drawing.specs.Answer.{Call, call, layoutOf}
 use Rattle.drawing.specs.Number.{Answered}
-use Rattle.small.specs.Held.{zeroNumbers, zeros, workLists, crossingLists, heldCall, Held}
+use Rattle.small.specs.Held.{zeroNumbers, zeros, workLists, crossingLists, heldCall, SmallCall}
 
 take-replicate : {A : Type 0} (s n : ℕ) (x : A) → s ≤ n → take s (replicate n x) ≡ replicate s x
 take-replicate zero n x h = refl
@@ -25,10 +25,10 @@ front s n x h = ap (λ (k : ℕ). take k (replicate n x)) (sub-zero s) ∙ take-
 pub held-by : (o : Options) (N : Network) (L : Lists) (s c : ℕ) (a : Answer) (L' : Lists) (W' : Work) (X' : Crossings)
     → (s ≤ 128) × (c ≤ 128)
     → Answered o N L
-    (work (take (s - 0) (drop 0 (zeroNumbers 128))) (zeroNumbers 192) (zeroNumbers 320) (zeroNumbers 513) (zeroNumbers 192) (zeroNumbers 192) (zeros 384) (zeros 192) (zeros 256) (zeros 232))
+    (work (take (s - 0) (drop 0 (zeroNumbers 128))) (zeroNumbers 192) (zeroNumbers 320) (zeroNumbers 320) (zeroNumbers 192) (zeroNumbers 192) (zeros 384) (zeros 192) (zeros 256) (zeros 232))
     (crossings (zeroNumbers 384) (take (c - 0) (drop 0 (zeros 128))) (zeros 256))
     (call a L' W' X')
-    → Held o N L s c a L'
+    → SmallCall o N L s c a L'
 unfolding heldCall
 held-by o N L s c a L' W' X' h e =
     let k : call a L' W' X' ≡ layoutOf o N L (workLists s) (crossingLists c) = e .is ∙ rw (front {A = ℕ} s 128 0 (h .0), front {A = Float} c 128 f0 (h .1)) in

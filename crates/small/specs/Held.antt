@@ -19,7 +19,7 @@ zeros n = replicate n f0
 -- the work lists, the first with room for so many numbers, the others long enough for 64 buses and 64 branches, or fewer and a mesh
 abbrev pub workLists : ℕ → Work
 workLists stations =
-    work (zeroNumbers stations) (zeroNumbers 192) (zeroNumbers 320) (zeroNumbers 513) (zeroNumbers 192) (zeroNumbers 192) (zeros 384) (zeros 192) (zeros 256) (zeros 232)
+    work (zeroNumbers stations) (zeroNumbers 192) (zeroNumbers 320) (zeroNumbers 320) (zeroNumbers 192) (zeroNumbers 192) (zeros 384) (zeros 192) (zeros 256) (zeros 232)
 
 -- a crossing list for so many crossings
 abbrev pub crossingLists : ℕ → Crossings
@@ -29,6 +29,6 @@ unfoldable pub heldCall : Options → Network → Lists → ℕ → ℕ → Call
 heldCall o N L stations room = layoutOf o N L (workLists stations) (crossingLists room)
 
 -- what it answers, and the result lists after it
-pub record Held (o : Options) (N : Network) (L : Lists) (stations room : ℕ) (a : Answer) (L' : Lists) : Type 0 where
+pub record SmallCall (o : Options) (N : Network) (L : Lists) (stations room : ℕ) (a : Answer) (L' : Lists) : Type 0 where
   pub answerIs : a ≡ heldCall o N L stations room .answer
   pub listsAre : L' ≡ heldCall o N L stations room .lists

@@ -1,8 +1,7 @@
 // A drawing with work lists of its own.
-ghost use mathlib.Core.Path.{_≡_};
 ghost use Prim.Native.Nat.{_≤_};
 ghost use Rattle.drawing.specs.Network.{network, lists};
-ghost use Rattle.small.specs.Held.{Held};
+ghost use Rattle.small.specs.Held.{SmallCall};
 use drawing::answer::Answer;
 use layout::call::tx_schematic_layout;
 use network::options::Options;
@@ -29,7 +28,7 @@ pub fn draw_small(
     twins: &[u32],
 ) -> Answer
     requires { ⌜ («station_room» ≤ 128) × («crossing_room» ≤ 128) ⌝ }
-    ensures { λ r. ⌜ Held o (network (now (sub .entry)) (now (kv .entry)) (now (from .entry)) (now (to .entry)) (now (service .entry)) (now (xy .entry)) (now (corners .entry)) (now (twins .entry)))
+    ensures { λ r. ⌜ SmallCall o (network (now (sub .entry)) (now (kv .entry)) (now (from .entry)) (now (to .entry)) (now (service .entry)) (now (xy .entry)) (now (corners .entry)) (now (twins .entry)))
         (lists (now (positions .entry)) (now (bars .entry)) (now (boxes .entry)) (now (scales .entry)) (now (roles .entry)) (now (pieces .entry)) (now (branches .entry)))
         «station_room» «crossing_room» r
         (lists (now (positions .exit)) (now (bars .exit)) (now (boxes .exit)) (now (scales .exit)) (now (roles .exit)) (now (pieces .exit)) (now (branches .exit))) ⌝ }
@@ -37,7 +36,7 @@ pub fn draw_small(
     let mut stations = [0u32; 128];
     let mut buses = [0u32; 192];
     let mut ends = [0u32; 320];
-    let mut sorted = [0u32; 513];
+    let mut sorted = [0u32; 320];
     let mut spare = [0u32; 192];
     let mut keys = [0u64; 192];
     let mut places = [0f64; 384];

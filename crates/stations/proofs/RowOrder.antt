@@ -1,6 +1,6 @@
 -- 01, 3: which branches have a row in a station, and that of two rows there the lower number is that of the branch that stands before the other in 01's order:
 -- live branches inside the station first, by branch number; then live line ends, by the other station's seed y in totalOrder, then branch number. Assumes nothing.
-use mathlib.Core.Path.{_≡_, refl, sym, ap, subst, _∙_}
+use mathlib.Core.Path.{_≡_, refl, sym, ap, _∙_}
 use mathlib.Core.Logic.{_⊎_, inl, inr, ⊎-elim}
 use mathlib.Core.Bool.{Bool, true, false, _||_, true≢false}
 use mathlib.Core.List.{List}

@@ -13,62 +13,61 @@ use Rattle.order.proofs.Tables.{howMany-zero, howMany-yes, howMany-no}
 use Rattle.geometry.specs.declared.Point.{Point}
 use Rattle.geometry.specs.declared.Box.{Box}
 use Rattle.network.specs.declared.words.Known.{Known}
-use Rattle.cells.specs.declared.walk.FirstHit.{FirstHit}
-use Rattle.cells.specs.Cells.{cellSize, firstHit}
+use Rattle.box_tree.specs.declared.first.FirstHit.{FirstHit}
+use Rattle.box_tree.specs.First.{firstHit}
 use Rattle.fit.specs.Fit.{isLine, endAt}
 use Rattle.stretches.specs.Relative.{pieceStart, pieceEnd}
 use Rattle.through.specs.Through.{stationAt, isHit, crosses, runsThrough, through}
 
 module _ (bs : List Box) (ss sub : List ℕ) (from to : List ℤ) (roles : List ℕ) (pieces : List Float) (branches : List ℕ) where
   -- so many of the first j do
-  abbrev pub Crossed : Float → ℕ → ℕ → Type 0
-  Crossed cell j c = c ≡ howMany (runsThrough cell bs ss sub from to roles pieces branches) j
+  abbrev pub Crossed : ℕ → ℕ → Type 0
+  Crossed j c = c ≡ howMany (runsThrough bs ss sub from to roles pieces branches) j
 
-  pub crossed-none : (cell : Float) → Crossed cell 0 0
-  crossed-none cell = sym (howMany-zero (runsThrough cell bs ss sub from to roles pieces branches))
+  pub crossed-none : Crossed 0 0
+  crossed-none = sym (howMany-zero (runsThrough bs ss sub from to roles pieces branches))
 
-  module _ (cell : Float) (j e : ℕ) (b : Bool) (q : e ≡ getD branches j 0) (f : b ≡ isLine roles e) where
+  module _ (j e : ℕ) (b : Bool) (q : e ≡ getD branches j 0) (f : b ≡ isLine roles e) where
     abbrev test : ℕ → Bool
-    test = runsThrough cell bs ss sub from to roles pieces branches
+    test = runsThrough bs ss sub from to roles pieces branches
 
-    at-line : (x : Bool) → b ≡ true → x ≡ crosses cell bs ss sub from to pieces e j → test j ≡ x
+    at-line : (x : Bool) → b ≡ true → x ≡ crosses bs ss sub from to pieces e j → test j ≡ x
     unfolding runsThrough
     at-line x h g =
-        ap (λ (i : ℕ). isLine roles i && crosses cell bs ss sub from to pieces i j) (sym q)
-        ∙ ap (λ (y : Bool). y && crosses cell bs ss sub from to pieces e j) (sym f ∙ h) ∙ sym g
+        ap (λ (i : ℕ). isLine roles i && crosses bs ss sub from to pieces i j) (sym q)
+        ∙ ap (λ (y : Bool). y && crosses bs ss sub from to pieces e j) (sym f ∙ h) ∙ sym g
 
     at-other : b ≡ false → test j ≡ false
     unfolding runsThrough
     at-other h =
-        ap (λ (i : ℕ). isLine roles i && crosses cell bs ss sub from to pieces i j) (sym q)
-        ∙ ap (λ (y : Bool). y && crosses cell bs ss sub from to pieces e j) (sym f ∙ h)
+        ap (λ (i : ℕ). isLine roles i && crosses bs ss sub from to pieces i j) (sym q)
+        ∙ ap (λ (y : Bool). y && crosses bs ss sub from to pieces e j) (sym f ∙ h)
 
-    pub crossed-yes : (c : ℕ) (x : Bool) → b ≡ true → x ≡ crosses cell bs ss sub from to pieces e j → x ≡ true → Crossed cell j c → Crossed cell (j + 1) (c + 1)
+    pub crossed-yes : (c : ℕ) (x : Bool) → b ≡ true → x ≡ crosses bs ss sub from to pieces e j → x ≡ true → Crossed j c → Crossed (j + 1) (c + 1)
     crossed-yes c x h g t i = rw (add-one j, add-one c) (ap suc i ∙ sym (howMany-yes test j (at-line x h g ∙ t)))
 
-    pub crossed-no : (c : ℕ) (x : Bool) → b ≡ true → x ≡ crosses cell bs ss sub from to pieces e j → x ≡ false → Crossed cell j c → Crossed cell (j + 1) c
+    pub crossed-no : (c : ℕ) (x : Bool) → b ≡ true → x ≡ crosses bs ss sub from to pieces e j → x ≡ false → Crossed j c → Crossed (j + 1) c
     crossed-no c x h g t i = rw (add-one j) (i ∙ sym (howMany-no test j (at-line x h g ∙ t)))
 
-    pub crossed-other : (c : ℕ) → b ≡ false → Crossed cell j c → Crossed cell (j + 1) c
+    pub crossed-other : (c : ℕ) → b ≡ false → Crossed j c → Crossed (j + 1) c
     crossed-other c h i = rw (add-one j) (i ∙ sym (howMany-no test j (at-other h)))
 
-  pub crossed-end : (cell : Float) (j c : ℕ) → cell ≡ cellSize bs ss → j ≤ length branches → length branches ≤ j → Crossed cell j c → c ≡ through bs ss sub from to roles pieces branches
+  pub crossed-end : (j c : ℕ) → j ≤ length branches → length branches ≤ j → Crossed j c → c ≡ through bs ss sub from to roles pieces branches
   unfolding through
-  crossed-end cell j c e h k i =
+  crossed-end j c h k i =
       let q : j ≡ length branches = omega arith in
-      i ∙ ap (λ (n : ℕ). howMany (runsThrough cell bs ss sub from to roles pieces branches) n) q
-      ∙ ap (λ (x : Float). howMany (runsThrough x bs ss sub from to roles pieces branches) (length branches)) e
+      i ∙ ap (λ (n : ℕ). howMany (runsThrough bs ss sub from to roles pieces branches) n) q
 
 -- one piece, by its ends and its branch's two stations
-pub crosses-by : (cell : Float) (bs : List Box) (ss sub : List ℕ) (from to : List ℤ) (pieces : List Float) (e j : ℕ) (p q : Point) (x y : Known) (a b : ℕ) (h : FirstHit) (r : Bool)
+pub crosses-by : (bs : List Box) (ss sub : List ℕ) (from to : List ℤ) (pieces : List Float) (e j : ℕ) (p q : Point) (x y : Known) (a b : ℕ) (h : FirstHit) (r : Bool)
     → p ≡ pieceStart pieces j → q ≡ pieceEnd pieces j → x ≡ endAt (length sub) from e → a ≡ stationAt sub x → y ≡ endAt (length sub) to e → b ≡ stationAt sub y
-    → h ≡ firstHit bs ss cell p q a b → r ≡ isHit h → r ≡ crosses cell bs ss sub from to pieces e j
+    → h ≡ firstHit bs ss p q a b → r ≡ isHit h → r ≡ crosses bs ss sub from to pieces e j
 unfolding crosses
-crosses-by cell bs ss sub from to pieces e j p q x y a b h r pe qe xe ae ye be he re =
+crosses-by bs ss sub from to pieces e j p q x y a b h r pe qe xe ae ye be he re =
     let ax : a ≡ stationAt sub (endAt (length sub) from e) = ae ∙ ap (stationAt sub) xe in
     let by : b ≡ stationAt sub (endAt (length sub) to e) = be ∙ ap (stationAt sub) ye in
     re ∙ ap isHit he
-    ∙ ap (λ (z : Point). isHit (firstHit bs ss cell z q a b)) pe
-    ∙ ap (λ (z : Point). isHit (firstHit bs ss cell (pieceStart pieces j) z a b)) qe
-    ∙ ap (λ (z : ℕ). isHit (firstHit bs ss cell (pieceStart pieces j) (pieceEnd pieces j) z b)) ax
-    ∙ ap (λ (z : ℕ). isHit (firstHit bs ss cell (pieceStart pieces j) (pieceEnd pieces j) (stationAt sub (endAt (length sub) from e)) z)) by
+    ∙ ap (λ (z : Point). isHit (firstHit bs ss z q a b)) pe
+    ∙ ap (λ (z : Point). isHit (firstHit bs ss (pieceStart pieces j) z a b)) qe
+    ∙ ap (λ (z : ℕ). isHit (firstHit bs ss (pieceStart pieces j) (pieceEnd pieces j) z b)) ax
+    ∙ ap (λ (z : ℕ). isHit (firstHit bs ss (pieceStart pieces j) (pieceEnd pieces j) (stationAt sub (endAt (length sub) from e)) z)) by

@@ -10,9 +10,9 @@ use Rattle.geometry.specs.declared.Box.{Box}
 use Rattle.network.specs.declared.words.Known.{Known}
 use Rattle.network.specs.declared.words.Known.the-variants.{Bus, Unknown}
 use Rattle.network.specs.Words.{stationOf}
-use Rattle.cells.specs.declared.walk.FirstHit.{FirstHit}
-use Rattle.cells.specs.declared.walk.FirstHit.the-variants.{Free, At}
-use Rattle.cells.specs.Cells.{cellSize, firstHit}
+use Rattle.box_tree.specs.declared.first.FirstHit.{FirstHit}
+use Rattle.box_tree.specs.declared.first.FirstHit.the-variants.{Free, At}
+use Rattle.box_tree.specs.First.{firstHit}
 use Rattle.fit.specs.Fit.{isLine, endAt}
 use Rattle.stretches.specs.Relative.{pieceStart, pieceEnd}
 
@@ -26,22 +26,21 @@ isHit Free = false
 isHit (At s) = true
 
 -- piece j, as one of branch e, hits a box other than those of the branch's two stations
-unfoldable pub crosses : Float → List Box → List ℕ → List ℕ → List ℤ → List ℤ → List Float → ℕ → ℕ → Bool
-crosses cell bs ss sub from to pieces e j =
+unfoldable pub crosses : List Box → List ℕ → List ℕ → List ℤ → List ℤ → List Float → ℕ → ℕ → Bool
+crosses bs ss sub from to pieces e j =
     isHit
     (firstHit
     bs
     ss
-    cell
     (pieceStart pieces j)
     (pieceEnd pieces j)
     (stationAt sub (endAt (length sub) from e))
     (stationAt sub (endAt (length sub) to e)))
 
 -- piece j is a line's and does
-unfoldable pub runsThrough : Float → List Box → List ℕ → List ℕ → List ℤ → List ℤ → List ℕ → List Float → List ℕ → ℕ → Bool
-runsThrough cell bs ss sub from to roles pieces branches j =
-    isLine roles (getD branches j 0) && crosses cell bs ss sub from to pieces (getD branches j 0) j
+unfoldable pub runsThrough : List Box → List ℕ → List ℕ → List ℤ → List ℤ → List ℕ → List Float → List ℕ → ℕ → Bool
+runsThrough bs ss sub from to roles pieces branches j =
+    isLine roles (getD branches j 0) && crosses bs ss sub from to pieces (getD branches j 0) j
 
 unfoldable pub through : List Box → List ℕ → List ℕ → List ℤ → List ℤ → List ℕ → List Float → List ℕ → ℕ
-through bs ss sub from to roles pieces branches = howMany (runsThrough (cellSize bs ss) bs ss sub from to roles pieces branches) (length branches)
+through bs ss sub from to roles pieces branches = howMany (runsThrough bs ss sub from to roles pieces branches) (length branches)

@@ -11,7 +11,7 @@ use Rattle.mesh.specs.Mesh.{next, noTwin, at}
 use Rattle.walk.specs.declared.Step.{Step}
 use Rattle.walk.specs.declared.Step.the-variants.{Out, Home, Lost}
 use Rattle.walk.specs.Round.{around}
-use Rattle.walk.specs.Trace.{Walk, crossesEdge, leave, sought, started, outBy, passOn, after, walk, traced}
+use Rattle.walk.specs.Trace.{crossesEdge, leave, sought, started, outBy, passOn, after, walk, traced}
 
 module _ (corners twins : List ℕ) (centre : ℕ → Point) (va vb : ℕ) where
   -- where the walk goes on, it goes over a half-edge that the line crosses

@@ -1,22 +1,19 @@
 -- The four numbers of each bar and the two of each position, by the lists after a call that draws. Assumes nothing.
 use Prim.Native.Nat.{ℕ, _+_, _*_, _≤_, _<_}
 use mathlib.Core.Path.{_≡_, refl, sym, ap, ap₂, subst, _∙_}
-use mathlib.Core.Logic.{_⊎_, inl, inr}
 use mathlib.Core.Bool.{Bool, true, false}
 use mathlib.Core.List.{List, [], _∷_}
 use native.Mathlib.Omega.{arith}
 use lib.ListN.{length, getD}
 use lib.Ieee.{Float, lt, nan}
-use Rattle.float.specs.Ops.{f½, f1, f2, num, _⊕_, _⊖_, _⊗_, _⊘_}
+use Rattle.float.specs.Ops.{f2, _⊕_, _⊖_, _⊗_, _⊘_}
 use Rattle.order.specs.Order.{pick}
 use Rattle.order.proofs.Tables.{getD-table}
-use Rattle.geometry.specs.declared.Point.{Point}
 use Rattle.geometry.specs.declared.Box.{Box}
 use Rattle.geometry.specs.Plane.{point, boxAt}
 use Rattle.network.specs.declared.options.Options.{Options}
 use Rattle.network.specs.declared.words.Kind.{Kind}
-use Rattle.network.specs.declared.words.Kind.the-variants.{Internal, Line}
-use Rattle.network.specs.Words.{stationOf, kindAt}
+use Rattle.network.specs.Words.{stationOf}
 use Rattle.network.proofs.Stations.{station-below}
 use Rattle.stations.specs.Column.{column, columns}
 use Rattle.stations.specs.Row.{fromRows, toRows}
@@ -33,7 +30,7 @@ use Rattle.drawing.specs.declared.answer.Answer.the-variants.{Drawn}
 use Rattle.drawing.specs.Network.{Network, Lists, Work, Crossings}
 use Rattle.drawing.specs.Drawing.{drawing, planned}
 use Rattle.drawing.specs.Answer.{layoutOf}
-use Rattle.wall.specs.Wall.{kind, allKinds, Patterns, columnOf, RowAt, blockIn, barXIn, rowYIn, barFrom, barIn, positionIn, Bars}
+use Rattle.wall.specs.Wall.{allKinds, Patterns, columnOf, RowAt, blockIn, barFrom, barIn, positionIn, Bars}
 use Rattle.wall.proofs.Opened.{seeds, blocks, kinds-length, kind-at}
 use Rattle.wall.proofs.Parts.{held-box, block-at, held-bar, held-position}
 

@@ -2,16 +2,16 @@
 use Prim.Native.Nat.{ℕ, zero, suc, _≤_, _<_}
 use mathlib.Core.Path.{_≡_, refl, sym, ap, subst, _∙_}
 use mathlib.Core.Logic.{⊎-elim, _≢_}
-use mathlib.Core.Bool.{Bool, true, false, true≢false}
-use mathlib.Core.List.{List, [], _∷_, map}
+use mathlib.Core.Bool.{true, true≢false}
+use mathlib.Core.List.{List, map}
 use native.Mathlib.Nat.{not-suc-le-zero, le-of-suc-le-suc, eq-or-lt-of-le, le-of-lt}
 use native.Mathlib.Omega.{arith}
 use lib.Dec.{T, ltb}
-use lib.ListN.{length, getD, take, length-set, List·getD-eq-default}
+use lib.ListN.{length, getD, take, List·getD-eq-default}
 use lib.Seq.{getD-set-other, getD-take, length-take-le}
 use Rattle.order.specs.Order.{sortBy}
 use Rattle.order.proofs.Merging.{le-or-lt}
-use Rattle.order.proofs.Laws.{All, all-at, all-sort}
+use Rattle.order.proofs.Laws.{all-at, all-sort}
 use Rattle.order.proofs.Tables.{all-which}
 use Rattle.geometry.specs.declared.Point.{Point}
 use Rattle.geometry.specs.declared.Box.{Box}

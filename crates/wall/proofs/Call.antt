@@ -1,8 +1,7 @@
 -- What a call that answers 'drawn' has passed, and the lists after it. Assumes nothing.
 use Prim.Native.Nat.{ℕ, zero, suc}
-use mathlib.Core.Path.{_≡_, refl, sym, ap, subst, _∙_}
+use mathlib.Core.Path.{_≡_, sym, ap, subst, _∙_}
 use mathlib.Core.Bool.{Bool, true, false, not, _&&_}
-use mathlib.Core.List.{List}
 use native.Mathlib.Omega.{arith}
 use lib.Dec.{T}
 use lib.ListN.{length}
@@ -16,10 +15,10 @@ use Rattle.runs.specs.Finite.{allOf, finitePoint, finiteBox, finiteBar}
 use Rattle.drawing.specs.declared.answer.Plot.{Plot}
 use Rattle.drawing.specs.declared.answer.Answer.the-variants.{Drawn}
 use Rattle.drawing.specs.Network.{Network, Lists, Work, Crossings}
-use Rattle.drawing.specs.Drawing.{Drawing, drawing}
+use Rattle.drawing.specs.Drawing.{drawing}
 use Rattle.drawing.specs.Answer.{roomOf, early, orLater, allFinite, shortResults, shortWork, meshLength, listsOf, listsAfter, callEarly, callLate, layoutOf}
 use Rattle.drawing.proofs.Finite.{drawn-finite}
-use Rattle.layout.proofs.Drawn.{Passed, passed}
+use Rattle.layout.proofs.Drawn.{passed}
 
 -- the tests of a chain of refusals that refuses nothing
 early-passes : (s : ℕ) (a : Bool) (r : ℕ) → 0 ≡ orLater s (refuse (not a) 5 r) → T a

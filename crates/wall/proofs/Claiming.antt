@@ -1,12 +1,11 @@
 -- The claim about a drawing and its audit, from what the two calls give. Assumes nothing.
-use Prim.Native.Nat.{ℕ, zero, suc, _*_, _-_, _≤_, _<_, min}
+use Prim.Native.Nat.{ℕ, zero, suc, _*_, _-_, _≤_, min}
 use mathlib.Core.Path.{_≡_, refl, sym, ap, subst, _∙_}
-use mathlib.Core.Bool.{true}
 use mathlib.Core.List.{List, [], _∷_}
 use native.Mathlib.Nat.{zero-min, min-zero, suc-min-suc, sub-zero}
 use native.Mathlib.Omega.{arith}
 use lib.IntN.{ℤ}
-use lib.ListN.{length, getD, take, drop}
+use lib.ListN.{length, take, drop}
 use lib.Ieee.{Float}
 use Rattle.network.specs.declared.options.Options.{Options}
 use Rattle.network.specs.Words.{stationCount}
@@ -25,7 +24,7 @@ use Rattle.findings.specs.declared.answer.Audit.{Audit}
 use Rattle.findings.specs.declared.answer.Audit.the-variants as Audits
 use Rattle.findings.specs.Drawn as Lent
 use Rattle.findings.specs.Answer as Audited
-use Rattle.wall.specs.Wall.{auditParts, audited, Patterns, order, isFree, Wall}
+use Rattle.wall.specs.Wall.{auditParts, audited, Patterns}
 use Rattle.wall.specs.declared.answer.Checked.{Checked}
 use Rattle.wall.specs.declared.answer.Checked.the-variants as Checks
 use Rattle.wall.specs.declared.answer.Checked.the-variants.{LayoutRefused}

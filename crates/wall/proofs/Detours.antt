@@ -1,7 +1,6 @@
 -- A detour's points: what holds of a path's points and of the points off a box's corners holds of all of them, so they are of the format where the path's are.
 -- Assumes nothing.
 use Prim.Native.Nat.{ℕ, zero, suc}
-use mathlib.Core.Path.{_≡_, refl}
 use mathlib.Core.Bool.{Bool, true, false, cond}
 use mathlib.Core.List.{List, [], _∷_}
 use lib.Dec.{T, ltb}
@@ -11,11 +10,11 @@ use Rattle.float.specs.Ops.{f½, _⊗_}
 use Rattle.geometry.specs.declared.Point.{Point}
 use Rattle.geometry.specs.declared.Box.{Box}
 use Rattle.placement.specs.Place.{boxIn}
-use Rattle.cells.specs.declared.walk.FirstHit.{FirstHit}
-use Rattle.cells.specs.declared.walk.FirstHit.the-variants.{Free, At}
+use Rattle.box_tree.specs.declared.first.FirstHit.{FirstHit}
+use Rattle.box_tree.specs.declared.first.FirstHit.the-variants.{Free, At}
 use Rattle.detour.specs.declared.corner.Choice.{Choice}
 use Rattle.detour.specs.declared.corner.Choice.the-variants.{Nowhere, Over}
-use Rattle.cells.specs.Cells.{firstHit}
+use Rattle.box_tree.specs.First.{firstHit}
 use Rattle.detour.specs.Detour.{cornersOf, costKey, clears, clearing, cheaper, cheapest, orElse, corner, detourOn, detourTo, detour}
 use Rattle.wall.proofs.Every.{Every}
 
@@ -64,31 +63,31 @@ module _ (P : Point → Type 0) where
       (cheapest-chosen p q Nowhere (clearing p q b cs) tt (clearing-every p q b cs h))
       (chosen-or (cheapest p q Nowhere cs) p (cheapest-chosen p q Nowhere cs tt h) k)
 
-  module _ (boxes : List Box) (occupied : List ℕ) (cell gap : Float) (a b : ℕ) (corners : (s : ℕ) → Every P (cornersOf (boxIn boxes s) (gap ⊗ f½))) where
+  module _ (boxes : List Box) (occupied : List ℕ) (gap : Float) (a b : ℕ) (corners : (s : ℕ) → Every P (cornersOf (boxIn boxes s) (gap ⊗ f½))) where
     on-every : (again : List Point → List Point) → ((l : List Point) → Every P l → Every P (again l)) → (p : Point) (rest : List Point) → P p → Every P rest
-        → Every P (detourOn boxes occupied cell gap a b again p rest)
+        → Every P (detourOn boxes occupied gap a b again p rest)
     unfolding detourOn Every
     on-every again f p [] h k = (h, tt)
-    on-every again f p (q ∷ rest) h k = go (firstHit boxes occupied cell p q a b) (on-every again f q rest (k .0) (k .1))
+    on-every again f p (q ∷ rest) h k = go (firstHit boxes occupied p q a b) (on-every again f q rest (k .0) (k .1))
       where
-        go : (hit : FirstHit) → Every P (detourOn boxes occupied cell gap a b again q rest)
-            → Every P (elim hit [ Free ↦ p ∷ detourOn boxes occupied cell gap a b again q rest | At s ↦ again (p ∷ corner p q (boxIn boxes s) gap ∷ q ∷ rest) ])
+        go : (hit : FirstHit) → Every P (detourOn boxes occupied gap a b again q rest)
+            → Every P (elim hit [ Free ↦ p ∷ detourOn boxes occupied gap a b again q rest | At s ↦ again (p ∷ corner p q (boxIn boxes s) gap ∷ q ∷ rest) ])
         go Free m = (h, m)
         go (At s) m = f (p ∷ corner p q (boxIn boxes s) gap ∷ q ∷ rest) (h, (corner-every p q (boxIn boxes s) gap (corners s) h, k))
 
-    to-every : (n : ℕ) (path : List Point) → Every P path → Every P (detourTo boxes occupied cell gap a b n path)
+    to-every : (n : ℕ) (path : List Point) → Every P path → Every P (detourTo boxes occupied gap a b n path)
     unfolding detourTo Every
     to-every zero path h = h
     to-every (suc n) [] h = tt
-    to-every (suc n) (p ∷ rest) h = on-every (detourTo boxes occupied cell gap a b n) (to-every n) p rest (h .0) (h .1)
+    to-every (suc n) (p ∷ rest) h = on-every (detourTo boxes occupied gap a b n) (to-every n) p rest (h .0) (h .1)
 
-    pub detour-every : (path : List Point) → Every P path → Every P (detour boxes occupied cell gap a b path)
+    pub detour-every : (path : List Point) → Every P path → Every P (detour boxes occupied gap a b path)
     unfolding detour
     detour-every path h = to-every 4 path h
 
-pub detour-fits : (boxes : List Box) (occupied : List ℕ) (cell gap : Float) (a b : ℕ) (path : List Point) → Every FitsPoint path
-    → Every FitsPoint (detour boxes occupied cell gap a b path)
-detour-fits boxes occupied cell gap a b path h = detour-every FitsPoint boxes occupied cell gap a b (λ s. corners-fit (boxIn boxes s)) path h
+pub detour-fits : (boxes : List Box) (occupied : List ℕ) (gap : Float) (a b : ℕ) (path : List Point) → Every FitsPoint path
+    → Every FitsPoint (detour boxes occupied gap a b path)
+detour-fits boxes occupied gap a b path h = detour-every FitsPoint boxes occupied gap a b (λ s. corners-fit (boxIn boxes s)) path h
   where
     corners-fit : (b : Box) → Every FitsPoint (cornersOf b (gap ⊗ f½))
     corners-fit b =

@@ -4,7 +4,6 @@ use mathlib.Core.Path.{_≡_, refl, sym, ap, subst, _∙_}
 use mathlib.Core.Bool.{Bool, true, false, not}
 use mathlib.Core.List.{List, [], _∷_}
 use lib.Dec.{T}
-use lib.ListN.{length}
 use Rattle.order.specs.Order.{pick}
 use Rattle.geometry.specs.declared.Point.{Point}
 use Rattle.runs.specs.Run.{Piece, apart, pieces}

@@ -1,23 +1,20 @@
 -- Numbers without a minus sign: the unit, the scales and every station's block are such, and so is its buffer.
 -- Assumes nothing.
-use Prim.Native.Nat.{ℕ, zero, suc, _+_, _-_, _*_, _/_, _^_, _≤_, _<_, compare}
-use mathlib.Core.Path.{_≡_, refl, sym, ap, subst, _∙_}
-use mathlib.Core.Bool.{Bool, true, false, not, _&&_, cond}
-use mathlib.Core.List.{List, [], _∷_, map}
+use Prim.Native.Nat.{ℕ, zero, suc, _+_, _-_, _*_, _/_, _^_, _<_, compare}
+use mathlib.Core.Path.{_≡_, refl, sym, subst}
+use mathlib.Core.Bool.{Bool, true, false, not, cond}
+use mathlib.Core.List.{List, [], _∷_}
 use native.Mathlib.Omega.{arith}
 use lib.Dec.{T, ltb, eqb, leb, lt→ltb}
 use lib.Count.{trailingZeros}
-use lib.IntN.{ℤ, pos}
 use lib.ListN.{length, getD}
-use lib.Ieee.{Float, nan, inf, fin, binary64, up, down, unlike, neg, mul, div, add, sub, sum, lt, le, fits, units, odd, round, size, ofBits, ofFields}
+use lib.Ieee.{Float, nan, inf, fin, binary64, up, down, unlike, mul, div, add, lt, le, units, odd, round, size, ofBits, ofFields}
 use lib.Ieee.Fits.{down-pos, round-is, and-l, and-r}
 use lib.Ieee.Positive.{positive, above, above-of-le}
-use borrow.Author.Tests.{ltb-true, le-ltb}
 use Rattle.float.specs.Small.{maxOf, minOf, isFinite}
 use Rattle.float.specs.Hypot.{hypotOf, grains, nearestRoot, rootIn}
-use Rattle.float.specs.Ops.{f0, f1, f2, orderKey, _⊗_, _⊘_}
+use Rattle.float.specs.Ops.{f0, f1, f2, orderKey, _⊗_}
 use Rattle.order.specs.Order.{pick}
-use Rattle.order.specs.Table.{tableFrom, table}
 use Rattle.order.specs.Median.{finiteOf, insertFloat, sortFloats, middle, medianOf, orElse}
 use Rattle.geometry.specs.declared.Point.{Point}
 use Rattle.geometry.specs.Plane.{pointAt}
@@ -25,7 +22,7 @@ use Rattle.proximity.specs.Near.{distance, nearer, nearestTo, nearest, neighbou
 use Rattle.network.specs.declared.options.Options.{Options}
 use Rattle.network.specs.Options.{between, gapFits}
 use Rattle.network.specs.Words.{isOccupied, occupied}
-use Rattle.units.specs.Size.{Size, sizeAt, sides}
+use Rattle.units.specs.Size.{Size, sizeAt}
 use Rattle.units.specs.Unit.{coordinates, spacingOf, spacing, typical, unitFor}
 use Rattle.units.specs.Scale.{tier, occupiedBelow, scaleAt, scalesOf, scales}
 use Rattle.placement.specs.Place.{Frame, frameAt, frameFor, frames}

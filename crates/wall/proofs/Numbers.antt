@@ -6,15 +6,15 @@ use native.Mathlib.Omega.{arith}
 use native.Mathlib.Nat.{mul-pos}
 use lib.Dec.{T, ltb, eqb}
 use lib.IntN.{ℤ, pos}
-use lib.Ieee.{Float, nan, inf, fin, binary64, up, down, lt, eq, below, level, fits, add, sub, sum, round}
+use lib.Ieee.{Float, nan, inf, fin, binary64, up, down, lt, eq, below, level, fits, add, sum, round}
 use lib.Ieee.Fits.{add-fits, sub-fits, down-pos}
 use borrow.Author.Tests.{lt-ltb, le-ltb, ltb-true, ltb-false, eq-eqb, eqb-true, eqb-false}
 use Rattle.float.specs.Small.{absOf, isFinite}
-use Rattle.float.specs.Ops.{f0, _⊕_, _⊖_}
+use Rattle.float.specs.Ops.{_⊕_, _⊖_}
 use Rattle.float.proofs.Signs.{zero-bits, no-magnitude}
 use Rattle.float.proofs.Sums.{sub-zero, zero-round, add-commutes}
 use Rattle.geometry.specs.declared.Point.{Point}
-use Rattle.placement.proofs.Rank.{rank, Number, Plus, lt-rank, add-up, sub-number, finite-number}
+use Rattle.placement.proofs.Rank.{rank, Number, lt-rank, add-up, sub-number, finite-number}
 use Rattle.placement.proofs.Clear.{Good}
 use Rattle.runs.specs.Run.{apart}
 use Rattle.wall.specs.Wall.{coincide}

@@ -1,7 +1,7 @@
 -- The parts of a drawing, each by the definition of its step. Assumes nothing.
 --     run-points    the points of each branch's run
 --     points-fit    every point of a run is of the format
-use Prim.Native.Nat.{ℕ, zero, suc, _<_}
+use Prim.Native.Nat.{ℕ, _<_}
 use mathlib.Core.Path.{_≡_, refl, sym, ap, subst, _∙_}
 use mathlib.Core.Bool.{Bool, true, false, cond}
 use mathlib.Core.List.{List, [], _∷_, _++_, map}
@@ -12,7 +12,6 @@ use lib.Ieee.Fits.{add-fits, sub-fits, div-fits}
 use lib.Ieee.Bits.{ofBits-fits}
 use Rattle.float.specs.Ops.{f0, f2, _⊕_, _⊖_, _⊗_, _⊘_}
 use Rattle.order.specs.Order.{pick, upFrom}
-use Rattle.order.specs.Table.{table}
 use Rattle.order.proofs.Tables.{length-table, getD-table}
 use Rattle.geometry.specs.declared.Point.{Point}
 use Rattle.geometry.specs.declared.Box.{Box}
@@ -25,7 +24,7 @@ use Rattle.network.specs.Words.{stationOf, busCounts, isOccupied, occupied, kin
 use Rattle.network.specs.Seed as Seed
 use Rattle.network.specs.Seed.{placeAt}
 use Rattle.stations.specs.Column as Column
-use Rattle.stations.specs.Row.{row, fromRow, toRow, fromRows, toRows}
+use Rattle.stations.specs.Row.{fromRow, toRow, fromRows, toRows}
 use Rattle.units.specs.Size as Sizes
 use Rattle.units.specs.Size.{Size}
 use Rattle.units.specs.Unit.{spacing, typical, unitFor}
@@ -33,13 +32,11 @@ use Rattle.units.specs.Scale as Scale
 use Rattle.offsets.specs.declared.offset.Offset.{Offset}
 use Rattle.offsets.specs.Offset as Offset
 use Rattle.placement.specs.Place.{Frame, frames, places, boxes, boxOf, boxOn, boxIn, noBox}
-use Rattle.turns.specs.Turns.{placementOrder}
 use Rattle.bars.specs.declared.Bar.{Bar}
 use Rattle.bars.specs.Bar as Bars
 use Rattle.bars.specs.Bar.{Span, bare, rows, reach, lengthened, barFor, barAt, position, rowEnd, barMiddle}
 use Rattle.bars.specs.Exit.{exitX, exit}
 use Rattle.runs.specs.Run as Run
-use Rattle.cells.specs.Cells.{cellSize}
 use Rattle.detour.specs.Detour.{detour}
 use Rattle.crossings.specs.Route as Route
 use Rattle.runs.specs.Run.{Scene, slot, ledPath, linePoints, runFor, runOf, allPieces, role}
@@ -111,8 +108,8 @@ module _ (S : Scene) (B : (i : ℕ) → FitsBar (barAt (S .bars) i)) (X : (s : �
   unfolding ledPath
   ledPath-fits s t path h = go (S .led)
     where
-      go : (u : Bool) → Every FitsPoint (cond u (detour (S .boxes) (S .occupied) (cellSize (S .boxes) (S .occupied)) (S .gap) s t path) path)
-      go true = detour-fits (S .boxes) (S .occupied) (cellSize (S .boxes) (S .occupied)) (S .gap) s t path h
+      go : (u : Bool) → Every FitsPoint (cond u (detour (S .boxes) (S .occupied) (S .gap) s t path) path)
+      go true = detour-fits (S .boxes) (S .occupied) (S .gap) s t path h
       go false = h
 
   run-fits : (ra rb : ℕ) (via : List Point) (k : Kind) → Every FitsPoint via → Every FitsPoint (runFor S ra rb via k)
@@ -222,7 +219,7 @@ module _ (o : Options) (N : Network) where
   -- a path from station s to station t, led round boxes where there are iterations
   abbrev pub ledWay : ℕ → ℕ → List Point → List Point
   ledWay s t path =
-      cond (ltb 0 (o .«route_iterations»)) (detour (drawing o N .boxes) stationList (cellSize (drawing o N .boxes) stationList) (gapOf unit) s t path) path
+      cond (ltb 0 (o .«route_iterations»)) (detour (drawing o N .boxes) stationList (gapOf unit) s t path) path
 
   -- the points of branch e's run, and what they are by its kind
   abbrev pub drawnPoints : ℕ → List Point

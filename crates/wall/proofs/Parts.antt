@@ -6,10 +6,8 @@ use native.Mathlib.Omega.{arith}
 use lib.ListN.{length, getD, take, drop, List·getD-map}
 use lib.Seq.{take-append-seam}
 use lib.Ieee.{Float, nan}
-use Rattle.float.specs.Ops.{f0, f1, _⊗_}
-use Rattle.order.specs.Table.{table}
+use Rattle.float.specs.Ops.{f1, _⊗_}
 use Rattle.order.proofs.Tables.{length-table, getD-table}
-use Rattle.geometry.specs.declared.Point.{Point}
 use Rattle.geometry.specs.declared.Box.{Box}
 use Rattle.geometry.specs.Plane.{point, boxAt}
 use Rattle.network.specs.declared.options.Options.{Options}
@@ -17,9 +15,8 @@ use Rattle.network.specs.Words.{stationOf, stationCount, busesIn, busCounts}
 use Rattle.network.specs.Seed as Seed
 use Rattle.network.specs.Views.{boxesIn}
 use Rattle.network.proofs.Stations.{station-below}
-use Rattle.stations.specs.Row.{rowsIn}
 use Rattle.units.specs.Size as Sizes
-use Rattle.units.specs.Size.{Size, sizeAt, sizeFor, widthFor, heightFor}
+use Rattle.units.specs.Size.{sizeAt, sizeFor, widthFor, heightFor}
 use Rattle.units.specs.Scale as Scale
 use Rattle.placement.specs.Place.{Frame, frames, frameFor, frameAt, boxes, boxIn}
 use Rattle.bars.specs.Bar.{position, barAt, blockAt, rowEnd, rowY}
@@ -35,7 +32,7 @@ use Rattle.drawing.specs.Answer.{layoutOf}
 use Rattle.drawing.proofs.Written.{Written, lists-written}
 use Rattle.wall.specs.Wall.{kind, rowCount, positionIn, barIn, rowEndIn, frameIn, piecesIn}
 use Rattle.wall.proofs.Reading.{flat-length, read-position, read-bar, read-bar-x, read-box, read-one, read-pieces}
-use Rattle.wall.proofs.Opened.{counts, seeds, sizes, gap, unit, scales, fs, end, blocks, unit-is, scales-is, boxes-is, bars-length, roles-length, role-at, slotAt}
+use Rattle.wall.proofs.Opened.{counts, seeds, sizes, unit, scales, fs, end, blocks, unit-is, scales-is, boxes-is, bars-length, roles-length, role-at, slotAt}
 use Rattle.wall.proofs.Call.{plot-is, lists-are}
 
 pub counts-length : (N : Network) → length (busCounts (N .station)) ≡ stationCount (N .station)

@@ -4,13 +4,11 @@ use mathlib.Core.Path.{_≡_, refl, sym, ap, ap₂, subst, _∙_}
 use mathlib.Core.List.{List, [], _∷_, _++_, map, append-assoc}
 use native.Mathlib.Omega.{arith}
 use native.Mathlib.Nat.{not-suc-le-zero, le-of-suc-le-suc}
-use lib.ListN.{length, getD, take, length-map, List·getD-append, List·getD-map}
-use lib.Seq.{getD-append-add, take-append-seam}
+use lib.ListN.{length, getD, length-map, List·getD-append, List·getD-map}
+use lib.Seq.{getD-append-add}
 use lib.Ieee.{Float, nan}
-use Rattle.order.specs.Table.{table}
 use Rattle.order.proofs.Tables.{getD-any}
 use Rattle.order.proofs.Strides.{is-table}
-use Rattle.geometry.specs.declared.Point.{Point}
 use Rattle.geometry.specs.declared.Box.{Box}
 use Rattle.geometry.specs.Plane.{point, pointAt, boxAt, origin}
 use Rattle.placement.specs.Place.{boxIn, noBox}

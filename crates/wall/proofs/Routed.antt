@@ -20,17 +20,16 @@ use Rattle.geometry.specs.Plane.{point, origin, pointAt, boxAt}
 use Rattle.network.specs.declared.options.Options.{Options}
 use Rattle.network.specs.declared.words.Kind.{Kind}
 use Rattle.network.specs.declared.words.Kind.the-variants.{Undrawn, Open, Internal, Line}
-use Rattle.network.specs.Words.{stationOf, stationCount, busCounts, kindAt, Safe}
+use Rattle.network.specs.Words.{stationOf, stationCount, kindAt, Safe}
 use Rattle.network.specs.Seed.{placeAt}
 use Rattle.network.proofs.Stations.{station-below}
 use Rattle.network.proofs.Branches.{kind-safe}
-use Rattle.stations.specs.Row.{fromRow, toRow, fromRows, toRows}
+use Rattle.stations.specs.Row.{fromRow, toRow, toRows}
 use Rattle.units.specs.Unit.{coordinates}
 use Rattle.offsets.specs.declared.offset.Offset.{Offset}
-use Rattle.placement.specs.Place.{Frame, placesTo, places, boxIn, noBox}
+use Rattle.placement.specs.Place.{Frame, placesTo, places, noBox}
 use Rattle.bars.specs.Exit as Exit
 use Rattle.bars.specs.Exit.{exitX}
-use Rattle.cells.specs.Cells.{cellSize}
 use Rattle.detour.specs.Detour.{detour}
 use Rattle.runs.specs.Run.{slot}
 use Rattle.crossings.specs.Route as Route
@@ -42,9 +41,9 @@ use Rattle.drawing.specs.Network.{Network, Lists, Work, Crossings}
 use Rattle.drawing.specs.Drawing as Drawing
 use Rattle.drawing.specs.Drawing.{drawing, planned, straightScene, routedOf, routedScene}
 use Rattle.drawing.specs.Answer.{layoutOf}
-use Rattle.wall.specs.Wall.{kind, allKinds, rowNumber, order, rowEndIn, endIn, exitIn, exitAt, lineOf, boxList, stations, ifUsed, routedIn, crossingPoints, detoured}
+use Rattle.wall.specs.Wall.{kind, allKinds, rowNumber, order, endIn, exitIn, exitAt, lineOf, boxList, stations, ifUsed, routedIn, crossingPoints, detoured}
 use Rattle.wall.proofs.Crossed.{way-is}
-use Rattle.wall.proofs.Opened.{counts, seeds, unit, scales, fs, os, end, slotAt, stationList, routed, via, via-is, ledWay, kinds-length, kind-at, from-row, to-row}
+use Rattle.wall.proofs.Opened.{seeds, unit, scales, fs, os, end, slotAt, routed, via, via-is, ledWay, kinds-length, kind-at, from-row, to-row}
 use Rattle.wall.proofs.Parts.{counts-length, seeds-length, unit-of, boxes-length, held-box, scales-length, held-scale, held-end}
 
 places-length : (fs : List Frame) (os : List Offset) (seeds : List Point) (order : List ℕ) (i : ℕ) → length (placesTo fs os seeds order i) ≡ length seeds
@@ -186,8 +185,8 @@ module _ (o : Options) (N : Network) (L : Lists) (W : Work) (X : Crossings) (p :
   -- ---- the path
   led-is : (s t : ℕ) (path : List Point) → ledWay o N s t path ≡ detoured o N p exit s t path
   led-is s t path =
-      ap (λ (l : List Box). cond (ltb 0 (o .«route_iterations»)) (detour l (stations N) (cellSize l (stations N)) (gapOf (unit o N)) s t path) path) boxes-are
-      ∙ ap (λ (u : Float). cond (ltb 0 (o .«route_iterations»)) (detour (boxList N exit) (stations N) (cellSize (boxList N exit) (stations N)) (gapOf u) s t path) path) (sym (unit-of o N L W X p drawn))
+      ap (λ (l : List Box). cond (ltb 0 (o .«route_iterations»)) (detour l (stations N) (gapOf (unit o N)) s t path) path) boxes-are
+      ∙ ap (λ (u : Float). cond (ltb 0 (o .«route_iterations»)) (detour (boxList N exit) (stations N) (gapOf u) s t path) path) (sym (unit-of o N L W X p drawn))
 
   module _ (e a b : ℕ) (h : e < length (N .from)) (K : kind N e ≡ Line a b) (f : a < length (N .station)) (g : b < length (N .station)) where
     abbrev s : ℕ

@@ -1,6 +1,6 @@
 -- One claim about a whole drawing: whatever the lists held before, the lists that a call which draws leaves are as 01 says, and an audit that accepts them counts no overlap
 -- where every station found a free place. Assumes nothing.
-use Prim.Native.Nat.{ℕ, zero, suc, _*_, _^_, _≤_, _<_}
+use Prim.Native.Nat.{ℕ, zero, suc, _^_, _≤_, _<_}
 use mathlib.Core.Path.{_≡_, refl, sym, ap, subst, _∙_}
 use mathlib.Core.Logic.{_⊎_, inl, inr, ⊎-elim, _≢_}
 use mathlib.Core.Bool.{Bool, true, false, _&&_}

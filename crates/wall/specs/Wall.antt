@@ -11,7 +11,7 @@ use lib.IntN.{ℤ, pos, negsuc}
 use lib.ListN.{length, getD, take}
 use lib.Ieee.{Float, binary64, nan, eq, lt, le, toBits}
 use Rattle.float.specs.Small.{maxOf}
-use Rattle.float.specs.Ops.{num, f½, f1, f2, f4, _⊕_, _⊖_, _⊗_, _⊘_}
+use Rattle.float.specs.Ops.{num, f½, f1, f2, _⊕_, _⊖_, _⊗_, _⊘_}
 use Rattle.float.specs.TotalOrder as Total
 use Rattle.order.specs.Order.{pick}
 use Rattle.order.specs.Table.{table, howMany, joined}
@@ -33,9 +33,8 @@ use Rattle.units.specs.Scale.{scales}
 use Rattle.offsets.specs.declared.offset.Offset.{Offset}
 use Rattle.offsets.specs.Complete.{Complete}
 use Rattle.offsets.specs.Offset.{offsets}
-use Rattle.placement.specs.Place.{Frame, boxOn, buffered, free, place, tries, FirstOf}
+use Rattle.placement.specs.Place.{Frame, boxOn, buffered, free, tries, FirstOf}
 use Rattle.turns.specs.Turns.{placementOrder}
-use Rattle.cells.specs.Cells.{cellSize}
 use Rattle.detour.specs.Detour.{detour}
 use Rattle.runs.specs.Run.{Piece}
 use Rattle.crossings.specs.Route as Route
@@ -372,7 +371,7 @@ abbrev pub detoured : Options → Network → Plot → Lists → ℕ → ℕ →
 detoured o N p L s t path =
     cond
     (ltb 0 (o .«route_iterations»))
-    (detour (boxList N L) (stations N) (cellSize (boxList N L) (stations N)) (gapOf (p .unit)) s t path)
+    (detour (boxList N L) (stations N) (gapOf (p .unit)) s t path)
     path
 
 -- ---- runs (01, 6 and 8)

@@ -1,18 +1,18 @@
 -- A wish by the steps of the code. Assumes nothing.
-use mathlib.Core.Path.{_≡_, refl, sym, ap, _∙_}
-use mathlib.Core.Bool.{Bool, true, false, cond}
+use mathlib.Core.Path.{_≡_}
+use mathlib.Core.Bool.{true, false}
 use mathlib.Core.List.{List}
 use Prim.Native.Nat.{ℕ, _+_, _*_, _≤_, _<_}
 use lib.Dec.{ltb}
-use lib.ListN.{length, getD}
+use lib.ListN.{getD}
 use lib.Ieee.{Float, nan}
 use borrow.Author.Tests.{lt-ltb, le-ltb}
 use Rattle.geometry.specs.declared.Point.{Point}
 use Rattle.geometry.specs.declared.Param.{Param}
 use Rattle.geometry.specs.Cross.{param, placeOr}
-use Rattle.wishes.specs.Stages.Held.{Held, edgeHeld, lowIn, highIn, beforeIn, behindIn, wishIn}
+use Rattle.wishes.specs.Stages.Held.{RoundLists, edgeHeld, lowIn, highIn, beforeIn, behindIn, wishIn}
 
-module _ (H : Held) (ps : List Float) (x e first count : ℕ) (t : Float) (he : e ≡ getD (H .numbers) (3 * x + 1) 0) (hf : first ≡ getD (H .ends) (4 * e + 2) 0)
+module _ (H : RoundLists) (ps : List Float) (x e first count : ℕ) (t : Float) (he : e ≡ getD (H .numbers) (3 * x + 1) 0) (hf : first ≡ getD (H .ends) (4 * e + 2) 0)
     (hc : count ≡ getD (H .ends) (4 * e + 3) 0) (ht : t ≡ getD ps x nan) where
   -- past its path's end it wishes for its place
   pub wish-past : first + count ≤ x → t ≡ wishIn H ps x

@@ -1,7 +1,6 @@
 -- `bars::at_top` meets its contract. Assumes nothing.
 use mathlib.Core.Path.{refl}
 use Rattle.bars.specs.Bar.{reach}
-use borrow.Author.Needs.{needs}
 use Rattle.bars.proofs.at_top.Statement.{statement}
 use Rattle.bars.proofs.at_top.Tie as tie
 use Rattle.bars.proofs.at_top.Reads as reads

@@ -1,6 +1,5 @@
 -- `bars::exit_x` meets its contract. Assumes nothing.
 use Rattle.bars.specs.Exit.{exitX}
-use borrow.Author.Needs.{needs}
 use Rattle.bars.proofs.exit_x.Statement.{statement}
 use Rattle.bars.proofs.exit_x.Tie as tie
 use Rattle.bars.proofs.exit_x.Reads as reads

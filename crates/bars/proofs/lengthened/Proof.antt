@@ -1,6 +1,5 @@
 -- `bars::lengthened` meets its contract. Assumes nothing.
 use Rattle.bars.specs.Bar.{lengthened}
-use borrow.Author.Needs.{needs}
 use Rattle.bars.proofs.lengthened.Statement.{statement}
 use Rattle.bars.proofs.lengthened.Tie as tie
 use Rattle.bars.proofs.lengthened.Reads as reads

@@ -1,7 +1,6 @@
 -- `bars::position` meets its contract. Assumes nothing.
 use mathlib.Core.Path.{refl}
 use Rattle.bars.specs.Bar.{position}
-use borrow.Author.Needs.{needs}
 use Rattle.bars.proofs.position.Statement.{statement}
 use Rattle.bars.proofs.position.Tie as tie
 use Rattle.bars.proofs.position.Reads as reads

@@ -1,9 +1,7 @@
 -- `chart::route` meets its contract. Assumes nothing.
 use native.Mathlib.Omega.{arith}
-use mathlib.Core.Path.{_≡_, _∙_, refl, sym}
 use Rattle.chart.proofs.Laying.{below-of}
 use Rattle.chart.proofs.Charts.{charted, charted-ill}
-use borrow.Author.Needs.{needs}
 use Rattle.chart.proofs.route.Statement.{statement}
 use Rattle.chart.proofs.route.Tie as tie
 use Rattle.chart.proofs.route.Reads as reads

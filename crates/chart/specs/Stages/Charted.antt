@@ -10,7 +10,6 @@ use Rattle.network.specs.Words.{occupied}
 use Rattle.network.specs.Views.{countsIn, boxesIn}
 use Rattle.units.specs.Stages.Views.{scalesIn}
 use Rattle.placement.specs.Sized.{illSized}
-use Rattle.cells.specs.Cells.{cellSize}
 use Rattle.runs.specs.Stages.Views.{held, lead, Fits}
 use Rattle.pieces.specs.Stages.Pieces.{runsIn}
 use Rattle.results.specs.Stages.Bars.{barsIn}
@@ -32,7 +31,7 @@ pub record Charted (o : Options) (N : Network) (k room : ℕ) (unit : Float) (la
   pub boxes : boxesIn k frames ≡ drawing o N .boxes
   pub bars : barsIn (N .station) (measuresOf o unit) buses blocks frames ≡ drawing o N .bars
   pub lateIs : late ≡ routedLate o N room
-  pub runs : late ≡ 0 → (cell : Float) → cell ≡ cellSize (boxesIn k frames) (occupied (countsIn k stations))
-      → runsIn (held (N .station) (measuresOf o unit) buses ends blocks places frames (lead (ltb 0 (o .«route_iterations»)) cell (gapOf unit) k stations ways)) (N .from) (N .to) (N .service)
+  pub runs : late ≡ 0
+      → runsIn (held (N .station) (measuresOf o unit) buses ends blocks places frames (lead (ltb 0 (o .«route_iterations»)) (gapOf unit) k stations ways)) (N .from) (N .to) (N .service)
       ≡ drawing o N .runs
   pub fits : late ≡ 0 → (e : ℕ) → e < length (N .from) → Fits ends path e

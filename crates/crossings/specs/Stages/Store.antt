@@ -84,7 +84,7 @@ abbrev pub stock : ℕ → ℕ → List ℕ → List ℕ → List Float → Stoc
 stock c x a b p = record { channels = c; crossings = x; ends = a; numbers = b; places = p }
 
 -- these are a routing's channels and crossings
-pub record Held (m : ℕ) (corners : List ℕ) (r : Routing) (s : Stock) : Type 0 where
+pub record Stocked (m : ℕ) (corners : List ℕ) (r : Routing) (s : Stock) : Type 0 where
   pub known : s .channels ≡ length (r .channels)
   pub made : s .crossings ≡ length (r .crossings)
   pub marked : Marked m corners (r .channels) (s .ends)
@@ -109,7 +109,7 @@ meshed corners twins points S =
 -- From one stock to another in which every routing held before has become f of it, whatever the scene is besides its mesh. The branches' numbers are as before.
 pub record Grown (m : ℕ) (corners : List ℕ) (points : List Float) (f : Scene → Routing → Routing) (before behind : Stock) : Type 0 where
   pub beside : take (4 * m) (behind .ends) ≡ take (4 * m) (before .ends)
-  pub grown : (S : Scene) (r : Routing) → Held m corners r before → Held m corners (f (meshed corners (S .twins) points S) r) behind
+  pub grown : (S : Scene) (r : Routing) → Stocked m corners r before → Stocked m corners (f (meshed corners (S .twins) points S) r) behind
 
 -- ---- branches
 
@@ -181,13 +181,13 @@ pub record Branched (m : ℕ) (corners twins : List ℕ) (points : List Float) (
       ≡ set (set (take (4 * m) (before .ends)) (4 * e + 2) (firstFor a (before .crossings))) (4 * e + 3) (countFor (walkOf corners twins (pointAt points) a b))
   pub made : behind .crossings ≡ before .crossings + length (walkOf corners twins (pointAt points) a b .edges)
   pub few : behind .channels ≤ behind .crossings
-  pub grown : (S : Scene) (r : Routing) → Held m corners r before → Held m corners (addWay (meshed corners twins points S) e a b r) behind
+  pub grown : (S : Scene) (r : Routing) → Stocked m corners r before → Stocked m corners (addWay (meshed corners twins points S) e a b r) behind
 
 -- The first e of m branches are stored as every scene with these lines is traced, and the rows are as before.
 pub record Filled (m : ℕ) (corners twins : List ℕ) (points : List Float) (ways : List ℕ) (e : ℕ) (s : Stock) : Type 0 where
   pub rows : SameRows m ways (s .ends)
   pub made : s .crossings ≡ crossingsTo corners twins points ways e
-  pub held : (S : Scene) → Fits corners twins points m ways S → Held m corners (tracedTo (meshed corners twins points S) e) s
+  pub held : (S : Scene) → Fits corners twins points m ways S → Stocked m corners (tracedTo (meshed corners twins points S) e) s
   pub firsts : (S : Scene) → Fits corners twins points m ways S → strided 4 2 0 e (s .ends) ≡ map (λ (p : Path). p .first) (tracedTo (meshed corners twins points S) e .paths)
   pub counts : (S : Scene) → Fits corners twins points m ways S → strided 4 3 0 e (s .ends) ≡ map (λ (p : Path). p .count) (tracedTo (meshed corners twins points S) e .paths)
 

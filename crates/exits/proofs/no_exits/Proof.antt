@@ -1,6 +1,5 @@
 -- `exits::no_exits` meets its contract. Assumes nothing.
 use Rattle.float.proofs.Patterns.{zero-over-zero}
-use borrow.Author.Needs.{needs}
 use Rattle.exits.proofs.no_exits.Statement.{statement}
 use Rattle.exits.proofs.no_exits.Tie as tie
 

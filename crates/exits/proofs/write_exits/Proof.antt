@@ -3,7 +3,6 @@ use Prim.Native.Nat.{_≤_, _-_}
 use native.Mathlib.Omega.{arith}
 use lib.ListN.{length}
 use Rattle.exits.proofs.Keeping.{ExitedTo, exited-none, exited-more, exited-all}
-use borrow.Author.Needs.{needs}
 use Rattle.exits.proofs.write_exits.Statement.{statement}
 use Rattle.exits.proofs.write_exits.Tie as tie
 

@@ -8,8 +8,6 @@ use lib.ListN.{length, length-set, getD, set, take}
 use lib.Seq.{take-suc-set}
 use Rattle.units.proofs.Occupied.{passed, passedCount, passed-all, count-all, count-no, count-yes, passed-no, passed-yes}
 use Rattle.order.proofs.Tables.{howMany-zero, which-zero}
-use Rattle.network.specs.Words.{isOccupied}
-use Rattle.network.specs.Views.{countsIn}
 use borrow.Author.Needs.{needs}
 use Rattle.overlaps.proofs.list_occupied.Statement.{statement}
 use Rattle.overlaps.proofs.list_occupied.Tie as tie

@@ -1,5 +1,4 @@
 -- `overlaps::paired` meets its contract. Assumes nothing.
-use native.Mathlib.Omega.{arith}
 use Rattle.overlaps.proofs.Stops.{paired-above, paired-below, paired-same}
 use borrow.Author.Needs.{needs}
 use Rattle.overlaps.proofs.paired.Statement.{statement}

@@ -13,7 +13,7 @@ use Rattle.network.specs.Words.{kindOf}
 use Rattle.units.specs.declared.Measures.{Measures}
 use Rattle.runs.specs.Run.{Piece, pieces, isLine}
 use Rattle.runs.specs.Lists.{flat, pieceNumbers}
-use Rattle.runs.specs.Stages.Views.{Held, runIn, otherRun, Fits}
+use Rattle.runs.specs.Stages.Views.{RunLists, runIn, otherRun, Fits}
 
 abbrev pub piece : ℕ → Point → Point → Piece
 piece e p q = record { branch = e; start = p; end = q }
@@ -26,21 +26,21 @@ abbrev pub Counted : ℕ → List Point → Type 0
 Counted r points = (e : ℕ) → r ≡ length (pieces e points)
 
 -- the run of branch e, and of every branch
-abbrev pub runAt : Held → List ℤ → List ℤ → List ℕ → ℕ → List Point
+abbrev pub runAt : RunLists → List ℤ → List ℤ → List ℕ → ℕ → List Point
 runAt H from to service e = runIn H e (kindOf (H .sub) from to service e)
 
-unfoldable pub runsIn : Held → List ℤ → List ℤ → List ℕ → List (List Point)
+unfoldable pub runsIn : RunLists → List ℤ → List ℤ → List ℕ → List (List Point)
 runsIn H from to service = table (runAt H from to service) (length from)
 
 -- the run of branch e where it is a line or where it is none, else no points; its pieces
-unfoldable pub passRun : Bool → Held → List ℤ → List ℤ → List ℕ → ℕ → List Point
+unfoldable pub passRun : Bool → RunLists → List ℤ → List ℤ → List ℕ → ℕ → List Point
 passRun lines H from to service e = pick (pick (isLine (kindOf (H .sub) from to service e)) lines (not lines)) (runAt H from to service e) []
 
-abbrev pub passAt : Bool → Held → List ℤ → List ℤ → List ℕ → ℕ → List Piece
+abbrev pub passAt : Bool → RunLists → List ℤ → List ℤ → List ℕ → ℕ → List Piece
 passAt lines H from to service e = pieces e (passRun lines H from to service e)
 
 -- those of all branches, each by branch number
-unfoldable pub passIn : Bool → Held → List ℤ → List ℤ → List ℕ → List Piece
+unfoldable pub passIn : Bool → RunLists → List ℤ → List ℤ → List ℕ → List Piece
 passIn lines H from to service = joined (passAt lines H from to service) (length from)
 
 -- those of the branches that are no lines, by the lists that they are drawn from
@@ -49,7 +49,7 @@ othersIn sub measures buses ends blocks frames from to service =
     joined (λ e. pieces e (otherRun sub measures buses ends blocks frames e (kindOf sub from to service e))) (length from)
 
 -- those of the lines among 16 branches from `start` on
-unfoldable pub blockIn : Held → List ℤ → List ℤ → List ℕ → ℕ → List Piece
+unfoldable pub blockIn : RunLists → List ℤ → List ℤ → List ℕ → ℕ → List Piece
 blockIn H from to service start = joined (λ i. passAt true H from to service (start + i)) 16
 
 -- a list has room for the run of every branch

@@ -13,27 +13,26 @@ use Rattle.network.specs.declared.words.Kind.the-variants.{Undrawn, Open, Inter
 use Rattle.network.specs.Words.{stationOf, occupied}
 use Rattle.network.specs.Views.{countsIn, pointsIn, boxesIn}
 use Rattle.detour.specs.Detour.{detour}
-use Rattle.cells.specs.Index.{Indexed}
+use Rattle.box_tree.specs.Stages.Tree.{Indexed}
 use Rattle.detour.specs.Stages.Paths.{pathIn}
 use Rattle.units.specs.declared.Measures.{Measures}
 use Rattle.bars.specs.declared.Bar.{Bar}
 use Rattle.bars.specs.Bar.{rowY, barFor, spanOf, position}
 use Rattle.bars.specs.Exit.{exitX}
 
--- what leads lines round boxes: whether there are iterations, a cell's side, the gap, the number of stations, the work list of stations, and that of waypoints
+-- what leads lines round boxes: whether there are iterations, the gap, the number of stations, the work list of stations, and that of waypoints
 pub record Lead : Type 0 where
   pub led : Bool
-  pub cell : Float
   pub gap : Float
   pub k : ℕ
   pub stations : List ℕ
   pub ways : List Float
 
-abbrev pub lead : Bool → Float → Float → ℕ → List ℕ → List Float → Lead
-lead a b c d e f = record { led = a; cell = b; gap = c; k = d; stations = e; ways = f }
+abbrev pub lead : Bool → Float → ℕ → List ℕ → List Float → Lead
+lead a b c d e = record { led = a; gap = b; k = c; stations = d; ways = e }
 
 -- the station numbers, the unit with the gaps, and the work lists of buses, branches' ends, blocks, places and boxes; what leads lines
-pub record Held : Type 0 where
+pub record RunLists : Type 0 where
   pub sub : List ℕ
   pub measures : Measures
   pub buses : List ℕ
@@ -43,7 +42,7 @@ pub record Held : Type 0 where
   pub frames : List Float
   pub lead : Lead
 
-abbrev pub held : List ℕ → Measures → List ℕ → List ℕ → List Float → List Float → List Float → Lead → Held
+abbrev pub held : List ℕ → Measures → List ℕ → List ℕ → List Float → List Float → List Float → Lead → RunLists
 held a b c d e f g h = record { sub = a; measures = b; buses = c; ends = d; blocks = e; places = f; frames = g; lead = h }
 
 -- the block of station s, unit × scale
@@ -80,14 +79,14 @@ internalFrom sub measures buses blocks frames a b ra rb =
     slotOf measures buses blocks frames (stationOf sub a) a ra ∷ slotOf measures buses blocks frames (stationOf sub b) b rb ∷ []
 
 -- the path between the slots of a line from station s to station t, led round boxes where there are iterations
-unfoldable pub ledIn : Bool → Float → Float → ℕ → List ℕ → List Float → ℕ → ℕ → List Point → List Point
-ledIn led cell gap k stations frames s t path =
-    cond led (detour (boxesIn k frames) (occupied (countsIn k stations)) cell gap s t path) path
+unfoldable pub ledIn : Bool → Float → ℕ → List ℕ → List Float → ℕ → ℕ → List Point → List Point
+ledIn led gap k stations frames s t path =
+    cond led (detour (boxesIn k frames) (occupied (countsIn k stations)) gap s t path) path
 
 -- the points of a line from station s to station t between its slots p and q, whose exits are x and y, by n waypoints, the first of them w
 unfoldable pub ledRun : Lead → List Float → ℕ → ℕ → Point → Point → Point → Point → ℕ → ℕ → List Point
 ledRun L frames s t p q x y w n =
-    p ∷ (ledIn (L .led) (L .cell) (L .gap) (L .k) (L .stations) frames s t (x ∷ (pathIn w n (L .ways) ++ (y ∷ []))) ++ (q ∷ []))
+    p ∷ (ledIn (L .led) (L .gap) (L .k) (L .stations) frames s t (x ∷ (pathIn w n (L .ways) ++ (y ∷ []))) ++ (q ∷ []))
 
 -- that of line e between the buses a and b, whose ends have the rows ra and rb; its exits stand behind the places of as many stations as there are buses
 unfoldable pub lineFrom : List ℕ → Measures → List ℕ → List Float → List Float → List Float → Lead → ℕ → ℕ → ℕ → ℕ → ℕ → ℕ → ℕ → List Point
@@ -98,7 +97,7 @@ lineFrom sub measures buses blocks places frames L e a b ra rb w n =
     let q = slotOf measures buses blocks frames t b rb in
     ledRun L frames s t p q (firstExit (length sub) places e) (secondExit (length sub) places e) w n
 
-unfoldable pub runFrom : Held → ℕ → ℕ → ℕ → ℕ → ℕ → Kind → List Point
+unfoldable pub runFrom : RunLists → ℕ → ℕ → ℕ → ℕ → ℕ → Kind → List Point
 runFrom H e ra rb w n Undrawn = []
 runFrom H e ra rb w n (Open a b) = openFrom (H .sub) (H .measures) (H .buses) (H .blocks) (H .frames) a b
 runFrom H e ra rb w n (Internal a b) = internalFrom (H .sub) (H .measures) (H .buses) (H .blocks) (H .frames) a b ra rb
@@ -111,7 +110,7 @@ wayOf ends e = getD ends (4 * e + 2) 0
 abbrev pub wayCount : List ℕ → ℕ → ℕ
 wayCount ends e = getD ends (4 * e + 3) 0
 
-unfoldable pub runIn : Held → ℕ → Kind → List Point
+unfoldable pub runIn : RunLists → ℕ → Kind → List Point
 runIn H e kind = runFrom H e (getD (H .ends) (4 * e) 0) (getD (H .ends) (4 * e + 1) 0) (wayOf (H .ends) e) (wayCount (H .ends) e) kind
 
 -- the run of branch e where it is no line, else no points
@@ -128,10 +127,10 @@ HasRoom n path = 2 * (n + 8) ≤ length path
 abbrev pub Fits : List ℕ → List Float → ℕ → Type 0
 Fits ends path e = HasRoom (wayCount ends e) path × (wayOf ends e + wayCount ends e < 2 ^ 31)
 
--- the lists of k stations are as long as leading needs, and the index enters their boxes by cells of this side, or none
-abbrev pub Stands : Float → ℕ → List ℕ → List Float → List ℕ → Type 0
-Stands cell k stations frames index =
-    (2 * k ≤ length stations) × (4 * k ≤ length frames) × (k ≤ 4096) × Indexed (boxesIn k frames) (occupied (countsIn k stations)) cell k index
+-- the lists of k stations are as long as leading needs, and the index enters their boxes, or none
+abbrev pub Stands : ℕ → List ℕ → List Float → List ℕ → Type 0
+Stands k stations frames index =
+    (2 * k ≤ length stations) × (4 * k ≤ length frames) × (k ≤ 4096) × Indexed (boxesIn k frames) (occupied (countsIn k stations)) index
 
 -- a list holds these points and no more than so many are asked for
 pub record Ran (r : ℕ) (path : List Float) (points : List Point) : Type 0 where

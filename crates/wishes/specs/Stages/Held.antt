@@ -1,7 +1,7 @@
 -- What the rounds of spacing read from the lent lists, and what they make of it: `route_lines` from 'Where each line's waypoint `j` is now' on. Definitions only.
 use Prim.Native.Nat.{ℕ, zero, suc, _+_, _-_, _*_, _≤_, _<_}
 use mathlib.Core.Path.{_≡_}
-use mathlib.Core.Bool.{Bool, true, false, cond}
+use mathlib.Core.Bool.{true, cond}
 use mathlib.Core.List.{List, map}
 use lib.Dec.{leb, ltb}
 use lib.ListN.{length, getD, take, set}
@@ -90,7 +90,7 @@ pointIn m ends centres corners numbers ps x =
     between (lowIn corners centres h) (highIn corners centres h) (getD ps x nan)
 
 -- What stands still while crossings are spaced: the number of branches, and that of the points before the exits in their list; the list of ends and routes, that of exits, that of the mesh's points, the mesh's corners, and the crossings' numbers.
-pub record Held : Type 0 where
+pub record RoundLists : Type 0 where
   pub m : ℕ
   pub base : ℕ
   pub ends : List ℕ
@@ -99,10 +99,10 @@ pub record Held : Type 0 where
   pub corners : List ℕ
   pub numbers : List ℕ
 
-abbrev pub held : ℕ → ℕ → List ℕ → List Float → List Float → List ℕ → List ℕ → Held
+abbrev pub held : ℕ → ℕ → List ℕ → List Float → List Float → List ℕ → List ℕ → RoundLists
 held a b c d e f g = record { m = a; base = b; ends = c; places = d; centres = e; corners = f; numbers = g }
 
-module _ (H : Held) where
+module _ (H : RoundLists) where
   abbrev pub edgeHeld : ℕ → ℕ
   edgeHeld c = edgeIn (H .m) (H .ends) c
 
@@ -132,7 +132,7 @@ module _ (H : Held) where
       cond (ltb x past) (placeOr (param (beforeIn ps e first x) (behindIn ps e past x) u w) t) t
 
 -- each channel's crossings stand in a stretch of the first `most`
-pub record Ready (H : Held) (channels most : ℕ) : Type 0 where
+pub record Ready (H : RoundLists) (channels most : ℕ) : Type 0 where
   pub rising : (c : ℕ) → c < channels → startHeld H c ≤ startHeld H (c + 1)
   pub within : (c : ℕ) → c < channels → startHeld H (c + 1) ≤ most
 
@@ -144,7 +144,7 @@ spaceBy range at n wish ps =
     putAll (map at o) (spaced range (inOrder ws o)) ps
 
 -- `occupied` points stand before the ranges
-module _ (occupied : ℕ) (H : Held) where
+module _ (occupied : ℕ) (H : RoundLists) where
   -- channel c's crossings spaced
   unfoldable pub spaceIn : ℕ → List Float → List Float
   spaceIn c ps =

@@ -1,7 +1,6 @@
 -- `bars::span::first_with` meets its contract. Assumes nothing.
 use native.Mathlib.Omega.{arith}
 use Rattle.bars.proofs.Rows.{first-none, first-some}
-use borrow.Author.Needs.{needs}
 use Rattle.bars.proofs.span.first_with.Statement.{statement}
 use Rattle.bars.proofs.span.first_with.Tie as tie
 use Rattle.bars.proofs.span.first_with.Reads as reads

@@ -1,6 +1,4 @@
 -- `bars::span::include` meets its contract. Assumes nothing.
-use native.Mathlib.Omega.{arith}
-use lib.ListN.{length-set}
 use Rattle.bars.proofs.Rows.{put-is}
 use borrow.Author.Needs.{needs}
 use Rattle.bars.proofs.span.include.Statement.{statement}

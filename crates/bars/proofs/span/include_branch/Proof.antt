@@ -1,5 +1,5 @@
 -- `bars::span::include_branch` meets its contract. Assumes nothing.
-use mathlib.Core.Path.{_≡_, refl, sym, _∙_}
+use mathlib.Core.Path.{refl, sym, _∙_}
 use native.Mathlib.Omega.{arith}
 use Rattle.bars.proofs.Rows.{two, undrawn-included, open-included, internal-included, line-included}
 use borrow.Author.Needs.{needs}

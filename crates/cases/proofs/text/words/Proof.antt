@@ -1,6 +1,5 @@
 -- `cases::text::words` meets its contract. Assumes nothing.
 use Prim.Native.Nat.{_≤_, _-_}
-use lib.ListN.{length}
 use borrow.Author.Needs.{needs}
 use Rattle.cases.proofs.text.words.Statement.{statement}
 use Rattle.cases.proofs.text.words.Tie as tie

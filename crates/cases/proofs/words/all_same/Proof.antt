@@ -1,7 +1,5 @@
 -- `cases::words::all_same` meets its contract. Assumes nothing.
 use Prim.Native.Nat.{_≤_, _-_}
-use mathlib.Core.Path.{_≡_}
-use lib.ListN.{length}
 use borrow.Author.Needs.{needs}
 use Rattle.cases.proofs.words.all_same.Statement.{statement}
 use Rattle.cases.proofs.words.all_same.Tie as tie

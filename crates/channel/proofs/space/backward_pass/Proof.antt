@@ -3,7 +3,7 @@ use Rattle.channel.proofs.Passes.{Back, back-start, back-step, back-end
 use borrow.Author.Needs.{needs}
 use lib.ListN.{length, length-set}
 use native.Mathlib.Omega.{arith}
-use Prim.Native.Nat.{_-_, _≤_}
+use Prim.Native.Nat.{_-_}
 use mathlib.Core.Path.{refl}
 use Rattle.channel.proofs.space.backward_pass.Statement.{statement}
 use Rattle.channel.proofs.space.backward_pass.Tie as tie

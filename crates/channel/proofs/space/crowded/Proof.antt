@@ -2,7 +2,6 @@
 use mathlib.Core.Path.{refl}
 use Rattle.channel.specs.Space.{crowded}
 use Rattle.channel.proofs.Keys.{whole}
-use borrow.Author.Needs.{needs}
 use Rattle.channel.proofs.space.crowded.Statement.{statement}
 use Rattle.channel.proofs.space.crowded.Tie as tie
 

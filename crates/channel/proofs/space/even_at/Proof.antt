@@ -3,7 +3,6 @@ use native.Mathlib.Omega.{arith}
 use borrow.Author.Tests.{eq-eqb, ne-eqb}
 use Rattle.channel.specs.Space.{evenAt}
 use Rattle.channel.proofs.Keys.{whole}
-use borrow.Author.Needs.{needs}
 use Rattle.channel.proofs.space.even_at.Statement.{statement}
 use Rattle.channel.proofs.space.even_at.Tie as tie
 

@@ -4,7 +4,7 @@ use Rattle.channel.proofs.Passes.{Forth, forth-start, forth-step, forth
 use borrow.Author.Needs.{needs}
 use lib.ListN.{length, length-set}
 use native.Mathlib.Omega.{arith}
-use Prim.Native.Nat.{_-_, _≤_}
+use Prim.Native.Nat.{_-_}
 use Rattle.channel.proofs.space.forward_pass.Statement.{statement}
 use Rattle.channel.proofs.space.forward_pass.Tie as tie
 

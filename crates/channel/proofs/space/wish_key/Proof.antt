@@ -1,5 +1,5 @@
 -- `channel::space::wish_key` meets its contract. Assumes nothing.
-use mathlib.Core.Path.{sym, ap, _∙_, subst}
+use mathlib.Core.Path.{sym, _∙_, subst}
 use mathlib.Core.Bool.{Bool, not}
 use lib.Dec.{T}
 use Rattle.channel.proofs.Keys.{key-nan, no-nan, key-number}

@@ -1,5 +1,4 @@
 -- `crossings::channels::make_channel` meets its contract. Assumes nothing.
-use native.Mathlib.Omega.{arith}
 use mathlib.Core.Path.{refl}
 use Rattle.crossings.proofs.Written.{channel-made}
 use borrow.Author.Needs.{needs}

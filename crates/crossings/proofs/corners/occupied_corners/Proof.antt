@@ -1,8 +1,5 @@
 -- `crossings::corners::occupied_corners` meets its contract. Assumes nothing.
 use Rattle.crossings.proofs.Occupied.{order-as}
-use mathlib.Core.Path.{ap, _∙_}
-use Prim.Native.Nat.{ℕ}
-use Rattle.network.specs.Views.{orderIn}
 use borrow.Author.Needs.{needs}
 use Rattle.crossings.proofs.corners.occupied_corners.Statement.{statement}
 use Rattle.crossings.proofs.corners.occupied_corners.Tie as tie

@@ -1,6 +1,6 @@
 -- `crossings::crossings::store_trail` meets its contract. Assumes nothing.
 use native.Mathlib.Omega.{arith}
-use mathlib.Core.Path.{_≡_, refl, _∙_}
+use mathlib.Core.Path.{_≡_, refl}
 use Prim.Native.Nat.{_+_, _-_, _≤_}
 use lib.ListN.{length, take}
 use Rattle.crossings.specs.Route.{crossAll}

@@ -1,7 +1,6 @@
 -- `crossings::gap::gap_of` meets its contract. Assumes nothing.
 use mathlib.Core.Path.{refl}
 use Rattle.crossings.specs.Gap.{gapOf}
-use borrow.Author.Needs.{needs}
 use Rattle.crossings.proofs.gap.gap_of.Statement.{statement}
 use Rattle.crossings.proofs.gap.gap_of.Tie as tie
 

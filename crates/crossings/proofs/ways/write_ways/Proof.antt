@@ -1,12 +1,12 @@
 -- `crossings::ways::write_ways` meets its contract. Assumes nothing.
 use lib.ListN.{length-set}
 use native.Mathlib.Omega.{arith}
-use mathlib.Core.Path.{_≡_, refl, _∙_}
+use mathlib.Core.Path.{_≡_, refl}
 use Prim.Native.Nat.{_-_, _≤_}
 use lib.ListN.{length}
 use Rattle.network.specs.Views.{orderIn}
 use Rattle.crossings.specs.Stages.Store.{wayOf, Wayed}
-use Rattle.crossings.proofs.Written.{ways-start, ways-more, ways-end, length-pair}
+use Rattle.crossings.proofs.Written.{ways-start, ways-more, ways-end}
 use borrow.Author.Needs.{needs}
 use Rattle.crossings.proofs.ways.write_ways.Statement.{statement}
 use Rattle.crossings.proofs.ways.write_ways.Tie as tie

@@ -14,15 +14,15 @@ use Rattle.detour.proofs.path.detour.Statement.{statement}
 use Rattle.detour.proofs.path.detour.Tie as tie
 
 abbrev Inv-loop : tie.InvT-loop
-Inv-loop cell gap k stations frames index a b path₀ first count n₀ i₀ left₀ path n i left =
+Inv-loop gap k stations frames index a b path₀ first count n₀ i₀ left₀ path n i left =
     (i ≤ n) × (n + left ≤ count + 4) × (length path ≡ length path₀) × (take (2 * first) path ≡ take (2 * first) path₀) × (first + count + 4 < 2 ^ 63)
-    × Going (boxesIn k frames) (occupied (countsIn k stations)) cell gap a b (Detour.detour (boxesIn k frames) (occupied (countsIn k stations)) cell gap a b (pathIn first count path₀)) left (pathIn first i path) (pathIn (first + i) (n - i) path)
+    × Going (boxesIn k frames) (occupied (countsIn k stations)) gap a b (Detour.detour (boxesIn k frames) (occupied (countsIn k stations)) gap a b (pathIn first count path₀)) left (pathIn first i path) (pathIn (first + i) (n - i) path)
 
 abbrev μ-loop : tie.MeasureT-loop
-μ-loop cell gap k stations frames index a b path₀ first count n₀ i₀ left₀ path n i left = 2 * left + (n - i)
+μ-loop gap k stations frames index a b path₀ first count n₀ i₀ left₀ path n i left = 2 * left + (n - i)
 
 loop-holds : tie.Need-loop-holds Inv-loop μ-loop
-loop-holds c = (omega arith, omega arith, refl, refl, omega (arith, c .before .before .before .before .pre .1 .1), led-start _ _ _ _ _ _ _ _ _)
+loop-holds c = (omega arith, omega arith, refl, refl, omega (arith, c .before .before .before .before .pre .1 .1), led-start _ _ _ _ _ _ _ _)
 
 add-loop : tie.Need-add-loop Inv-loop μ-loop
 add-loop c = search needs
@@ -31,7 +31,7 @@ same-length : tie.Need-same-length Inv-loop μ-loop
 same-length c = c .before .before .loop .inv .2
 
 returns : tie.Need-returns Inv-loop μ-loop
-returns c = led-spent _ _ _ _ _ _ _ _ _ _ _ _ _ (c .before .before .loop .inv .0) (c .before .before .loop .inv .3) (c .before .before .loop .inv .5) (c .if1 .taken)
+returns c = led-spent _ _ _ _ _ _ _ _ _ _ _ _ (c .before .before .loop .inv .0) (c .before .before .loop .inv .3) (c .before .before .loop .inv .5) (c .if1 .taken)
 
 add-point-in : tie.Need-add-point-in Inv-loop μ-loop
 add-point-in c = search needs
@@ -61,7 +61,7 @@ loop-less : tie.Need-loop-less Inv-loop μ-loop
 loop-less c = search needs
 
 loop-again : tie.Need-loop-again Inv-loop μ-loop
-loop-again c = (omega arith, omega arith, c .before .before .before .before .before .before .before .before .before .loop .inv .2, c .before .before .before .before .before .before .before .before .before .loop .inv .3, c .before .before .before .before .before .before .before .before .before .loop .inv .4, turn-free _ _ _ _ _ _ _ _ (c .before .before .before .before .before .before .before .before .before .loop .i) (c .before .before .before .before .before .before .before .before .before .loop .n) (c .before .before .before .before .before .before .before .before .before .loop .left) (c .before .before .before .before .before .before .before .before .before .loop .path) _ _ _ (c .before .before .before .before .before .before .before .before .loop-test .taken) (c .before .before .before .before .before .before .before .if1 .left) (c .before .before .before .before .before .point-in .ensures) (c .before .before .before .point-in2 .ensures) (c .before .before .hit-among .ensures) (c .before .before .before .before .before .before .before .before .before .loop .inv .5) (c .enum-told .given .1))
+loop-again c = (omega arith, omega arith, c .before .before .before .before .before .before .before .before .before .loop .inv .2, c .before .before .before .before .before .before .before .before .before .loop .inv .3, c .before .before .before .before .before .before .before .before .before .loop .inv .4, turn-free _ _ _ _ _ _ _ (c .before .before .before .before .before .before .before .before .before .loop .i) (c .before .before .before .before .before .before .before .before .before .loop .n) (c .before .before .before .before .before .before .before .before .before .loop .left) (c .before .before .before .before .before .before .before .before .before .loop .path) _ _ _ (c .before .before .before .before .before .before .before .before .loop-test .taken) (c .before .before .before .before .before .before .before .if1 .left) (c .before .before .before .before .before .point-in .ensures) (c .before .before .before .point-in2 .ensures) (c .before .before .hit-among .ensures) (c .before .before .before .before .before .before .before .before .before .loop .inv .5) (c .enum-told .given .1))
 
 enum-known-h : tie.Need-enum-known-h Inv-loop μ-loop
 enum-known-h c = search needs
@@ -94,13 +94,13 @@ loop-less-2 : tie.Need-loop-less-2 Inv-loop μ-loop
 loop-less-2 c = omega (arith, c .before .before .before .before .before .before .before .before .before .before .before .before .before .before .before .before .loop .inv .0, c .before .before .before .before .before .before .before .before .before .before .before .before .before .before .before .before .loop .inv .1, c .before .before .before .before .before .before .before .before .before .before .before .before .before .before .before .before .loop .inv .2, c .before .before .before .before .before .before .before .before .before .before .before .before .before .before .before .before .loop .inv .4, c .before .before .before .before .before .before .before .before .before .before .before .before .before .before .before .loop-test .taken, c .before .before .before .before .before .before .before .before .before .before .before .before .before .before .before .before .before .before .before .before .before .pre .1 .1, c .before .before .before .before .before .before .before .before .before .before .before .before .before .before .if1 .left)
 
 loop-again-2 : tie.Need-loop-again-2 Inv-loop μ-loop
-loop-again-2 c = (omega (arith, c .before .before .before .before .before .before .before .before .before .before .before .before .before .before .before .before .loop .inv .0, c .before .before .before .before .before .before .before .before .before .before .before .before .before .before .before .before .loop .inv .1, c .before .before .before .before .before .before .before .before .before .before .before .before .before .before .before .before .loop .inv .2, c .before .before .before .before .before .before .before .before .before .before .before .before .before .before .before .before .loop .inv .4, c .before .before .before .before .before .before .before .before .before .before .before .before .before .before .before .loop-test .taken, c .before .before .before .before .before .before .before .before .before .before .before .before .before .before .before .before .before .before .before .before .before .pre .1 .1), omega (arith, c .before .before .before .before .before .before .before .before .before .before .before .before .before .before .before .before .loop .inv .0, c .before .before .before .before .before .before .before .before .before .before .before .before .before .before .before .before .loop .inv .1, c .before .before .before .before .before .before .before .before .before .before .before .before .before .before .before .before .loop .inv .2, c .before .before .before .before .before .before .before .before .before .before .before .before .before .before .before .before .loop .inv .4, c .before .before .before .before .before .before .before .before .before .before .before .before .before .before .before .loop-test .taken, c .before .before .before .before .before .before .before .before .before .before .before .before .before .before .before .before .before .before .before .before .before .pre .1 .1, c .before .before .before .before .before .before .before .before .before .before .before .before .before .before .if1 .left), c .before .before .put-in .kept .0 ∙ c .before .before .before .before .before .before .before .before .before .before .before .before .before .before .before .before .loop .inv .2, start-kept _ _ _ _ _ (c .before .before .put-in .ensures) (c .before .before .before .before .before .before .before .before .before .before .before .before .before .before .before .before .before .before .before .before .before .args .first) (omega arith) ∙ c .before .before .before .before .before .before .before .before .before .before .before .before .before .before .before .before .loop .inv .3, c .before .before .before .before .before .before .before .before .before .before .before .before .before .before .before .before .loop .inv .4, turn-put _ _ _ _ _ _ _ _ (c .before .before .before .before .before .before .before .before .before .before .before .before .before .before .before .before .loop .i) (c .before .before .before .before .before .before .before .before .before .before .before .before .before .before .before .before .loop .n) (c .before .before .before .before .before .before .before .before .before .before .before .before .before .before .before .before .loop .left) (c .before .before .before .before .before .before .before .before .before .before .before .before .before .before .before .before .loop .path) _ _ _ (c .before .before .before .before .before .before .before .before .before .before .before .before .before .before .before .loop-test .taken) (c .before .before .before .before .before .before .before .before .before .before .before .before .before .before .if1 .left) (c .before .before .before .before .before .before .before .before .before .before .before .before .point-in .ensures) (c .before .before .before .before .before .before .before .before .before .before .point-in2 .ensures) (c .before .before .before .before .before .before .before .before .before .hit-among .ensures) (c .before .before .before .before .before .before .before .before .before .before .before .before .before .before .before .before .loop .inv .5) _ _ _ _ (c .before .before .before .before .before .before .before .h .given .1) (c .before .before .before .before .before .box-in .ensures) (c .before .before .before .before .corner .ensures) (c .before .before .put-in .ensures))
+loop-again-2 c = (omega (arith, c .before .before .before .before .before .before .before .before .before .before .before .before .before .before .before .before .loop .inv .0, c .before .before .before .before .before .before .before .before .before .before .before .before .before .before .before .before .loop .inv .1, c .before .before .before .before .before .before .before .before .before .before .before .before .before .before .before .before .loop .inv .2, c .before .before .before .before .before .before .before .before .before .before .before .before .before .before .before .before .loop .inv .4, c .before .before .before .before .before .before .before .before .before .before .before .before .before .before .before .loop-test .taken, c .before .before .before .before .before .before .before .before .before .before .before .before .before .before .before .before .before .before .before .before .before .pre .1 .1), omega (arith, c .before .before .before .before .before .before .before .before .before .before .before .before .before .before .before .before .loop .inv .0, c .before .before .before .before .before .before .before .before .before .before .before .before .before .before .before .before .loop .inv .1, c .before .before .before .before .before .before .before .before .before .before .before .before .before .before .before .before .loop .inv .2, c .before .before .before .before .before .before .before .before .before .before .before .before .before .before .before .before .loop .inv .4, c .before .before .before .before .before .before .before .before .before .before .before .before .before .before .before .loop-test .taken, c .before .before .before .before .before .before .before .before .before .before .before .before .before .before .before .before .before .before .before .before .before .pre .1 .1, c .before .before .before .before .before .before .before .before .before .before .before .before .before .before .if1 .left), c .before .before .put-in .kept .0 ∙ c .before .before .before .before .before .before .before .before .before .before .before .before .before .before .before .before .loop .inv .2, start-kept _ _ _ _ _ (c .before .before .put-in .ensures) (c .before .before .before .before .before .before .before .before .before .before .before .before .before .before .before .before .before .before .before .before .before .args .first) (omega arith) ∙ c .before .before .before .before .before .before .before .before .before .before .before .before .before .before .before .before .loop .inv .3, c .before .before .before .before .before .before .before .before .before .before .before .before .before .before .before .before .loop .inv .4, turn-put _ _ _ _ _ _ _ (c .before .before .before .before .before .before .before .before .before .before .before .before .before .before .before .before .loop .i) (c .before .before .before .before .before .before .before .before .before .before .before .before .before .before .before .before .loop .n) (c .before .before .before .before .before .before .before .before .before .before .before .before .before .before .before .before .loop .left) (c .before .before .before .before .before .before .before .before .before .before .before .before .before .before .before .before .loop .path) _ _ _ (c .before .before .before .before .before .before .before .before .before .before .before .before .before .before .before .loop-test .taken) (c .before .before .before .before .before .before .before .before .before .before .before .before .before .before .if1 .left) (c .before .before .before .before .before .before .before .before .before .before .before .before .point-in .ensures) (c .before .before .before .before .before .before .before .before .before .before .point-in2 .ensures) (c .before .before .before .before .before .before .before .before .before .hit-among .ensures) (c .before .before .before .before .before .before .before .before .before .before .before .before .before .before .before .before .loop .inv .5) _ _ _ _ (c .before .before .before .before .before .before .before .h .given .1) (c .before .before .before .before .before .box-in .ensures) (c .before .before .before .before .corner .ensures) (c .before .before .put-in .ensures))
 
 same-length-2 : tie.Need-same-length-2 Inv-loop μ-loop
 same-length-2 c = c .before .loop .inv .2
 
 returns-2 : tie.Need-returns-2 Inv-loop μ-loop
-returns-2 c = led-end _ _ _ _ _ _ _ _ _ _ _ _ _ (c .before .loop .inv .0) (c .before .loop .inv .3) (c .before .loop .inv .5) (omega (arith, c .loop-test .left))
+returns-2 c = led-end _ _ _ _ _ _ _ _ _ _ _ _ (c .before .loop .inv .0) (c .before .loop .inv .3) (c .before .loop .inv .5) (omega (arith, c .loop-test .left))
 
 pub detour-spec : {M : Type 1} → statement M
 detour-spec =

@@ -1,7 +1,6 @@
 -- `drawing::answers::answer_of` meets its contract. Assumes nothing.
 use Rattle.drawing.specs.Answer.{answerBy}
 use Rattle.drawing.proofs.Lates.{answer-refused}
-use borrow.Author.Needs.{needs}
 use Rattle.drawing.proofs.answers.answer_of.Statement.{statement}
 use Rattle.drawing.proofs.answers.answer_of.Tie as tie
 use Rattle.drawing.proofs.answers.answer_of.Reads as reads

@@ -1,7 +1,6 @@
 -- `drawing::late::late_of` meets its contract. Assumes nothing.
 use native.Mathlib.Omega.{arith}
 use Rattle.drawing.proofs.Lates.{by-earlier, by-room, by-none}
-use borrow.Author.Needs.{needs}
 use Rattle.drawing.proofs.late.late_of.Statement.{statement}
 use Rattle.drawing.proofs.late.late_of.Tie as tie
 use Rattle.drawing.proofs.late.late_of.Reads as reads

@@ -2,9 +2,7 @@ use native.Mathlib.Omega.{arith}
 use Rattle.network.proofs.Shapes.{shape-fits, test-on, test-off}
 -- `drawing::refuse::refusal_of_input` meets its contract. Assumes nothing.
 use Rattle.drawing.proofs.Early.{by-shape, by-range, by-distance, by-results, by-work, by-none}
-use mathlib.Core.Path.{sym, ap, _∙_}
-use Prim.Native.Nat.{ℕ}
-use Rattle.drawing.specs.Answer.{shortResults, shortWork}
+use mathlib.Core.Path.{sym, _∙_}
 use borrow.Author.Needs.{needs}
 use Rattle.drawing.proofs.refuse.refusal_of_input.Statement.{statement}
 use Rattle.drawing.proofs.refuse.refusal_of_input.Tie as tie

@@ -2,7 +2,6 @@
 use native.Mathlib.Omega.{arith}
 use borrow.Author.Tests.{lt-ltb, le-ltb}
 use Rattle.drawing.specs.Answer.{shortWork}
-use borrow.Author.Needs.{needs}
 use Rattle.drawing.proofs.refuse.short_work.Statement.{statement}
 use Rattle.drawing.proofs.refuse.short_work.Tie as tie
 use Rattle.drawing.proofs.refuse.short_work.Reads as reads

@@ -1,11 +1,10 @@
 -- `grouping::group::channel_keys` meets its contract. Assumes nothing.
-use Prim.Native.Nat.{ℕ, _≤_, _*_, _+_, _-_}
-use mathlib.Core.Path.{_≡_, sym, ap, _∙_}
-use mathlib.Core.List.{List, _++_, append-nil}
+use Prim.Native.Nat.{_≤_, _*_, _+_, _-_}
+use mathlib.Core.Path.{_∙_}
 use native.Mathlib.Omega.{arith}
 use native.Mathlib.Nat.{add-zero}
-use lib.ListN.{length, getD, drop, drop-of-length-le}
-use Rattle.order.specs.Table.{table, strided}
+use lib.ListN.{length, getD}
+use Rattle.order.specs.Table.{strided}
 use Rattle.grouping.proofs.Tabling.{Tabled, table-start, table-step, table-end}
 use borrow.Author.Needs.{needs}
 use Rattle.grouping.proofs.group.channel_keys.Statement.{statement}

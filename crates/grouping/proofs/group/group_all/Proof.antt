@@ -1,8 +1,6 @@
 -- `grouping::group::group_all` meets its contract. Assumes nothing.
-use mathlib.Core.Path.{_≡_, refl, sym, ap, _∙_, subst}
-use Prim.Native.Nat.{ℕ}
+use mathlib.Core.Path.{refl}
 use native.Mathlib.Omega.{arith}
-use lib.ListN.{length}
 use Rattle.walk.proofs.Rounds.{round-made}
 use Rattle.grouping.proofs.Grouping.{grouped}
 use borrow.Author.Needs.{needs}

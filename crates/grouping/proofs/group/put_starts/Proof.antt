@@ -1,11 +1,8 @@
 use Rattle.grouping.proofs.Grouping.{start-done, round-long}
 -- `grouping::group::put_starts` meets its contract. Assumes nothing.
-use Prim.Native.Nat.{ℕ, _≤_, _<_, _+_, _-_}
-use mathlib.Core.Path.{_≡_, refl, ap, sym, _∙_, subst}
-use mathlib.Core.List.{List}
+use Prim.Native.Nat.{_≤_, _+_, _-_}
 use native.Mathlib.Omega.{arith}
-use lib.ListN.{length, getD}
-use Rattle.walk.proofs.Rounds.{cornerAt, length-round}
+use lib.ListN.{length}
 use Rattle.grouping.proofs.Grouping.{Starting, start-none, start-past, start-here, start-end}
 use borrow.Author.Needs.{needs}
 use Rattle.grouping.proofs.group.put_starts.Statement.{statement}

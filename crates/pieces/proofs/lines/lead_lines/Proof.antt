@@ -11,11 +11,11 @@ use Rattle.pieces.proofs.lines.lead_lines.Lts as lts
 use Rattle.pieces.proofs.lines.lead_block.Reads as lead-block-reads
 
 abbrev Inv-loop : tie.InvT-loop
-Inv-loop write first sub from to service measures buses ends blocks places frames led cell gap k stations index ways path₀ numbers₀ branches₀ next₀ start₀ path numbers branches next start =
-    Blocks (held sub measures buses ends blocks places frames (lead led cell gap k stations ways)) from to service write next₀ path₀ numbers₀ branches₀ start next path numbers branches
+Inv-loop write first sub from to service measures buses ends blocks places frames led gap k stations index ways path₀ numbers₀ branches₀ next₀ start₀ path numbers branches next start =
+    Blocks (held sub measures buses ends blocks places frames (lead led gap k stations ways)) from to service write next₀ path₀ numbers₀ branches₀ start next path numbers branches
 
 abbrev μ-loop : tie.MeasureT-loop
-μ-loop write first sub from to service measures buses ends blocks places frames led cell gap k stations index ways path₀ numbers₀ branches₀ next₀ start₀ path numbers branches next start =
+μ-loop write first sub from to service measures buses ends blocks places frames led gap k stations index ways path₀ numbers₀ branches₀ next₀ start₀ path numbers branches next start =
     length from - start
 
 loop-holds : tie.Need-loop-holds Inv-loop μ-loop
@@ -31,7 +31,7 @@ loop-less : tie.Need-loop-less Inv-loop μ-loop
 loop-less c = omega (arith, c .before .before .before .before .before .before .before .before .before .before .loop-test .taken)
 
 loop-again : tie.Need-loop-again Inv-loop μ-loop
-loop-again c = blocks-more _ _ _ _ _ _ _ _ _ (c .before .before .before .before .before .before .before .before .before .before .before .loop .inv) (c .before .before .before .before .before .before .before .before .before .before .loop-test .taken) (c .before .before .before .before .before .before .lead-block .ensures) (c .before .before .before .before .before .before .lead-block .kept .1 .1 .1 .1 .1 .1 .1 .1 .1 .1 .1 .1 .1 .1 .1 .1 .1 .1 .1 .1 .0) (c .before .before .before .before .before .before .lead-block .kept .1 .1 .1 .1 .1 .1 .1 .1 .1 .1 .1 .1 .1 .1 .1 .1 .1 .1 .1 .1 .1 .0) (c .before .before .before .before .before .before .lead-block .kept .1 .1 .1 .1 .1 .1 .1 .1 .1 .1 .1 .1 .1 .1 .1 .1 .1 .1 .1 .1 .1 .1 .0)
+loop-again c = blocks-more _ _ _ _ _ _ _ _ _ (c .before .before .before .before .before .before .before .before .before .before .before .loop .inv) (c .before .before .before .before .before .before .before .before .before .before .loop-test .taken) (c .before .before .before .before .before .before .lead-block .ensures) (c .before .before .before .before .before .before .lead-block .kept .1 .1 .1 .1 .1 .1 .1 .1 .1 .1 .1 .1 .1 .1 .1 .1 .1 .1 .1 .0) (c .before .before .before .before .before .before .lead-block .kept .1 .1 .1 .1 .1 .1 .1 .1 .1 .1 .1 .1 .1 .1 .1 .1 .1 .1 .1 .1 .0) (c .before .before .before .before .before .before .lead-block .kept .1 .1 .1 .1 .1 .1 .1 .1 .1 .1 .1 .1 .1 .1 .1 .1 .1 .1 .1 .1 .1 .0)
 
 same-length : tie.Need-same-length Inv-loop μ-loop
 same-length c = c .before .loop .inv .sized

@@ -1,7 +1,6 @@
 -- `results::lists::role_of` meets its contract. Assumes nothing.
-use mathlib.Core.Path.{sym, _∙_, refl, subst, ap}
+use mathlib.Core.Path.{sym, ap}
 use Rattle.runs.specs.Run.{role}
-use Rattle.network.specs.declared.words.Kind.{Kind}
 use borrow.Author.Needs.{needs}
 use Rattle.results.proofs.lists.role_of.Statement.{statement}
 use Rattle.results.proofs.lists.role_of.Tie as tie

@@ -1,8 +1,7 @@
 -- `results::lists::write_stations` meets its contract. Assumes nothing.
 use Prim.Native.Nat.{_-_, _≤_}
-use mathlib.Core.Path.{_≡_, refl, ap, _∙_}
+use mathlib.Core.Path.{_≡_, ap}
 use native.Mathlib.Omega.{arith}
-use lib.ListN.{length}
 use lib.Ieee.{nan}
 use Rattle.order.specs.Table.{strided}
 use Rattle.network.specs.Views.{boxesIn}

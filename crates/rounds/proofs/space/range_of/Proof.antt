@@ -1,7 +1,6 @@
 use Rattle.rounds.proofs.Ranges.{boxed-low, boxed-high}
 -- `rounds::space::range_of` meets its contract. Assumes nothing.
 use Rattle.rounds.proofs.Ranges.{ranged}
-use native.Mathlib.Omega.{arith}
 use borrow.Author.Needs.{needs}
 use Rattle.rounds.proofs.space.range_of.Statement.{statement}
 use Rattle.rounds.proofs.space.range_of.Tie as tie

@@ -1,7 +1,7 @@
 -- `routing::lines::count_line` meets its contract. Assumes nothing.
 use Rattle.geometry.specs.Plane.{pointAt}
 use native.Mathlib.Omega.{arith}
-use mathlib.Core.Path.{_∙_, sym, refl}
+use mathlib.Core.Path.{sym, refl}
 use Rattle.routing.proofs.Branching.{walk-none, walk-counted}
 use Rattle.walk.proofs.Walks.{trail-short}
 use borrow.Author.Needs.{needs}

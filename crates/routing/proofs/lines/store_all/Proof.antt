@@ -1,7 +1,7 @@
 -- `routing::lines::store_all` meets its contract. Assumes nothing.
 use native.Mathlib.Omega.{arith}
 use mathlib.Core.Path.{_≡_, refl}
-use Prim.Native.Nat.{_-_, _≤_}
+use Prim.Native.Nat.{_-_}
 use lib.ListN.{length}
 use Rattle.crossings.specs.Stages.Store.{stock}
 use Rattle.routing.proofs.Branching.{mesh-most, crossings-few}

@@ -1,6 +1,6 @@
 -- `routing::lines::store_branch` meets its contract. Assumes nothing.
 use native.Mathlib.Omega.{arith}
-use mathlib.Core.Path.{_≡_, _∙_, refl, sym, ap}
+use mathlib.Core.Path.{_∙_, refl, sym, ap}
 use Prim.Native.Nat.{ℕ, _-_}
 use Rattle.routing.proofs.Branching.{branch-none, branch-stored, way-counted, mesh-most, trail-inside}
 use Rattle.geometry.specs.Plane.{pointAt}

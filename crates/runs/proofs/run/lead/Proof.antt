@@ -1,6 +1,5 @@
 -- `runs::run::lead` meets its contract. Assumes nothing.
 use native.Mathlib.Omega.{arith}
-use mathlib.Core.Path.{_≡_}
 use Rattle.runs.proofs.Paths.{led-yes, led-no}
 use borrow.Author.Needs.{needs}
 use Rattle.runs.proofs.run.lead.Statement.{statement}
@@ -16,10 +15,10 @@ same-length : tie.Need-same-length
 same-length c = search needs
 
 returns : tie.Need-returns
-returns c = led-yes _ _ _ _ _ _ _ _ _ _ _ _ (c .before .before .before .before .if1 .taken) (c .before .before .detour .ensures)
+returns c = led-yes _ _ _ _ _ _ _ _ _ _ _ (c .before .before .before .before .if1 .taken) (c .before .before .detour .ensures)
 
 returns-2 : tie.Need-returns-2
-returns-2 c = (led-no _ _ _ _ _ _ _ _ _ (c .if1 .left), omega arith)
+returns-2 c = (led-no _ _ _ _ _ _ _ _ (c .if1 .left), omega arith)
 
 pub lead-spec : {M : Type 1} → statement M
 lead-spec = tie.close (tie.spec detour-requires same-length returns returns-2)

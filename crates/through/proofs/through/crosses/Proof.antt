@@ -29,7 +29,7 @@ is-hit-requires : tie.Need-is-hit-requires
 is-hit-requires c κs = search needs
 
 returns : tie.Need-returns
-returns c = crosses-by _ _ _ _ _ _ _ _ _ _ _ _ _ _ _ _ _ (c .before .before .before .before .before .before .before .piece-start .ensures) (c .before .before .before .before .before .before .piece-end .ensures) (c .before .before .before .before .before .end-at .ensures) (c .before .before .before .before .station-at .ensures) (c .before .before .before .end-at2 .ensures) (c .before .before .station-at2 .ensures) (c .before .hit-among .ensures) (c .is-hit .ensures)
+returns c = crosses-by _ _ _ _ _ _ _ _ _ _ _ _ _ _ _ _ (c .before .before .before .before .before .before .before .piece-start .ensures) (c .before .before .before .before .before .before .piece-end .ensures) (c .before .before .before .before .before .end-at .ensures) (c .before .before .before .before .station-at .ensures) (c .before .before .before .end-at2 .ensures) (c .before .before .station-at2 .ensures) (c .before .hit-among .ensures) (c .is-hit .ensures)
 
 pub crosses-spec : {M : Type 1} → statement M
 crosses-spec =

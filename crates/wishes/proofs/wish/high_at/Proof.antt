@@ -1,5 +1,5 @@
 -- `wishes::wish::high_at` meets its contract. Assumes nothing.
-use Rattle.mesh.specs.Mesh.{lowAt, highAt}
+use Rattle.mesh.specs.Mesh.{highAt}
 use native.Mathlib.Omega.{arith}
 use borrow.Author.Needs.{needs}
 use Rattle.wishes.proofs.wish.high_at.Statement.{statement}

@@ -1,5 +1,5 @@
 -- `wishes::wish::low_at` meets its contract. Assumes nothing.
-use Rattle.mesh.specs.Mesh.{lowAt, highAt}
+use Rattle.mesh.specs.Mesh.{lowAt}
 use native.Mathlib.Omega.{arith}
 use borrow.Author.Needs.{needs}
 use Rattle.wishes.proofs.wish.low_at.Statement.{statement}

@@ -1,0 +1,4 @@
+pub mod First
+pub mod Length
+pub mod Stages
+pub mod Cases

@@ -1,3 +1,0 @@
-pub mod Cells
-pub mod Index
-pub mod Stages
