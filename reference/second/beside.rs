@@ -35,18 +35,27 @@ fn asked<T: Send + 'static>(work: impl FnOnce() -> Result<T, u32> + Send + 'stat
     }
 }
 
+/// Both results where neither call is refused; else what is wrong, if anything, is noted.
+fn drawn<'a, T, U>(
+    got: &'a Result<Result<T, u32>, Vec<String>>,
+    want: &'a Result<U, u32>,
+    wrong: &mut Vec<String>,
+) -> Option<(&'a T, &'a U)> {
+    match (got, want) {
+        (Ok(Ok(got)), Ok(want)) => return Some((got, want)),
+        (Ok(Err(a)), Err(b)) if a == b => {}
+        (Ok(a), b) => wrong.push(format!("answers {:?} and {:?}", a.as_ref().err(), b.as_ref().err())),
+        (Err(told), _) => wrong.extend(told.iter().cloned()),
+    }
+    None
+}
+
 pub fn layout_wrong(call: &Call, want: &Result<TxLayout, u32>, _: u64) -> Vec<String> {
     let c = call.clone();
-    let got = match asked(move || layout(&c.net, &c.options, &c.mesh, &c.lent)) {
-        Ok(got) => got,
-        Err(wrong) => return wrong,
+    let (got, mut wrong) = (asked(move || layout(&c.net, &c.options, &c.mesh, &c.lent)), Vec::new());
+    let Some((got, want)) = drawn(&got, want, &mut wrong) else {
+        return wrong;
     };
-    let (got, want) = match (&got, want) {
-        (Ok(got), Ok(want)) => (got, want),
-        (Err(a), Err(b)) if a == b => return Vec::new(),
-        (a, b) => return vec![format!("answers {:?} and {:?}", a.as_ref().err(), b.as_ref().err())],
-    };
-    let mut wrong = Vec::new();
     floats("unit", &[got.unit], &[want.unit], &mut wrong);
     floats("bounds", &got.bounds, &want.bounds, &mut wrong);
     floats("positions", &got.positions, &want.positions, &mut wrong);
@@ -61,16 +70,10 @@ pub fn layout_wrong(call: &Call, want: &Result<TxLayout, u32>, _: u64) -> Vec<St
 
 pub fn audit_wrong(call: &AuditCall, want: &Result<Figures, u32>, _: u64) -> Vec<String> {
     let c = call.clone();
-    let got = match asked(move || audit(&c.net, &c.drawing, &c.room)) {
-        Ok(got) => got,
-        Err(wrong) => return wrong,
+    let (got, mut wrong) = (asked(move || audit(&c.net, &c.drawing, &c.room)), Vec::new());
+    let Some((got, want)) = drawn(&got, want, &mut wrong) else {
+        return wrong;
     };
-    let (got, want) = match (&got, want) {
-        (Ok(got), Ok(want)) => (got, want),
-        (Err(a), Err(b)) if a == b => return Vec::new(),
-        (a, b) => return vec![format!("answers {:?} and {:?}", a.as_ref().err(), b.as_ref().err())],
-    };
-    let mut wrong = Vec::new();
     equal("overlaps", &got.overlaps, &want.overlaps, &mut wrong);
     equal("through", &got.through, &want.through, &mut wrong);
     floats("displacement", &got.displacement, &want.displacement, &mut wrong);

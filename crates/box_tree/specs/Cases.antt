@@ -17,16 +17,16 @@ use Rattle.box_tree.specs.First.{entryAt, comesFirst, sooner, look, foun
 abbrev none : ℕ
 none = 4294967295
 
--- the piece (0, 0.5) to (10, 0.5) among two boxes of these numbers, a's passed over
-abbrev first : ℕ → List ℕ → FirstHit
-first a l =
+-- the piece (0, 0.5) to (10, 0.5) among two boxes of these numbers, a's and b's passed over
+abbrev first : ℕ → ℕ → List ℕ → FirstHit
+first a b l =
     firstHit
     (boxesIn 2 (map (ofBits binary64) l))
     (0 ∷ 1 ∷ [])
     (point (ofBits binary64 0) (ofBits binary64 0x3FE0_0000_0000_0000))
     (point (ofBits binary64 0x4024_0000_0000_0000) (ofBits binary64 0x3FE0_0000_0000_0000))
     a
-    none
+    b
 
 -- boxes 1, 0, 3, 9 and 3.25, 0, 4.25, 1
 abbrev apart : List ℕ
@@ -40,6 +40,8 @@ both =
     0xBFF0_0000_0000_0000 ∷ 0 ∷ 0x4008_0000_0000_0000 ∷ 0x4022_0000_0000_0000
     ∷ 0xBFF0_0000_0000_0000 ∷ 0 ∷ 0x4011_0000_0000_0000 ∷ 0x3FF0_0000_0000_0000 ∷ []
 
-pub worked : first none apart ∷ first 0 apart ∷ first none both ∷ first 0 both ∷ [] ≡ At 0 ∷ At 1 ∷ At 0 ∷ At 1 ∷ []
+pub worked :
+    first none none apart ∷ first 0 none apart ∷ first none 0 apart ∷ first 0 1 apart ∷ first none none both ∷ first 0 none both ∷ first none 0 both ∷ []
+    ≡ At 0 ∷ At 1 ∷ At 1 ∷ Free ∷ At 0 ∷ At 1 ∷ At 1 ∷ []
 unfolding firstHit found look sooner comesFirst entryAt enters entryOf clipped clipBy cut part boxesIn tableFrom ofBits lt eq neg sub div maxOf minOf
 worked = refl
