@@ -66,7 +66,7 @@ call!(audit = tansygate_audit(
     sub: u32, kv: u64, from: i64, to: i64, xy: f64, boxes: f64, roles: u8, pieces: f64, branches: u32
 ) -> Audited);
 
-/// The needed length of a list that holds the tree of boxes, for n buses (docs/WORK.md).
+/// The needed length of a list that boxes are entered in by cell, for n buses (docs/WORK.md).
 pub fn index_length(n: usize) -> usize {
     5 * n
 }

@@ -6,7 +6,8 @@ use lib.ListN.{length}
 use lib.Ieee.{Float}
 use Rattle.findings.specs.declared.answer.Audit.{Audit}
 use Rattle.findings.specs.declared.answer.Audit.the-variants.{Refused}
-use Rattle.findings.specs.Drawn.{Drawn, Lists, Work, work, roomOf}
+use Rattle.findings.specs.Drawn.{Drawn, Lists, Work, roomOf}
+use Rattle.findings.proofs.Lent.{work}
 use Rattle.findings.specs.Answer.{early, cleared, call, callLate, callEarly, auditOf, Answered, Inner}
 use Rattle.findings.proofs.Number.{answered}
 

@@ -1,6 +1,5 @@
 // Work lists back to zeros.
 ghost use mathlib.Core.Path.{_≡_};
-ghost use Rattle.findings.specs.Drawn.{work};
 ghost use Rattle.findings.specs.Answer.{cleared};
 use results::clears::zero_f;
 use results::clears::zero_u32;
@@ -15,7 +14,7 @@ pub(crate) fn clear_work(
     points: &mut [f64],
     path: &mut [f64],
 )
-    ensures { λ _. ⌜ work (now (stations .exit)) (now (index .exit)) (now (spare .exit)) (now (keys .exit)) (now (points .exit)) (now (path .exit)) ≡ cleared (work (now (stations .entry)) (now (index .entry)) (now (spare .entry)) (now (keys .entry)) (now (points .entry)) (now (path .entry))) ⌝ }
+    ensures { λ _. ⌜ record { stations = now (stations .exit); index = now (index .exit); spare = now (spare .exit); keys = now (keys .exit); points = now (points .exit); path = now (path .exit) } ≡ cleared (record { stations = now (stations .entry); index = now (index .entry); spare = now (spare .entry); keys = now (keys .entry); points = now (points .entry); path = now (path .entry) }) ⌝ }
 {
     zero_u32(stations);
     zero_u32(index);

@@ -2,7 +2,7 @@
 ghost use Prim.Native.Nat.{_*_, _≤_};
 ghost use lib.ListN.{length};
 ghost use Rattle.network.specs.Words.{stationCount};
-ghost use Rattle.findings.specs.Drawn.{drawn, lists};
+ghost use Rattle.findings.specs.Drawn.{drawn};
 ghost use Rattle.findings.specs.Answer.{Inner};
 use findings::answer::Audit;
 use findings::stages::figures_of;
@@ -36,7 +36,7 @@ pub(crate) fn audited(
     requires { ⌜ (stationCount (now sub) ≤ length (now displacement)) × (stationCount (now sub) ≤ length (now spacing)) × (length (now branches) ≤ length (now relative)) × (2 * length (now sub) ≤ length (now points)) × (2 * length (now sub) ≤ length (now path)) ⌝ }
     requires { ⌜ (length (now sub) ≤ length (now index)) × (length (now sub) ≤ length (now spare)) × (length (now sub) ≤ length (now keys)) ⌝ }
     ensures { λ r. ⌜ Inner (drawn (now (sub .entry)) (now (kv .entry)) (now (from .entry)) (now (to .entry)) (now (xy .entry)) (now (boxes .entry)) (now (roles .entry)) (now (pieces .entry)) (now (branches .entry)))
-        (lists (now (displacement .entry)) (now (spacing .entry)) (now (relative .entry))) r (lists (now (displacement .exit)) (now (spacing .exit)) (now (relative .exit))) ⌝ }
+        (record { displacement = now (displacement .entry); spacing = now (spacing .entry); relative = now (relative .entry) }) r (record { displacement = now (displacement .exit); spacing = now (spacing .exit); relative = now (relative .exit) }) ⌝ }
 {
     if !fits(sub, from, to, boxes, roles, pieces, branches) {
         return Audit::Refused(13);

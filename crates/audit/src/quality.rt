@@ -1,5 +1,4 @@
 // The public call.
-ghost use Rattle.findings.specs.Drawn.{drawn, lists, work};
 ghost use Rattle.findings.specs.Answer.{call, Answered};
 use crate::clear::clear_work;
 use crate::inside::audited;
@@ -29,9 +28,9 @@ pub fn tx_layout_quality(
     branches: &[u32],
 ) -> Audit
     ensures { λ r. ⌜ Answered
-        (drawn (now (sub .entry)) (now (kv .entry)) (now (from .entry)) (now (to .entry)) (now (xy .entry)) (now (boxes .entry)) (now (roles .entry)) (now (pieces .entry)) (now (branches .entry)))
-        (lists (now (displacement .entry)) (now (spacing .entry)) (now (relative .entry))) (work (now (stations .entry)) (now (index .entry)) (now (spare .entry)) (now (keys .entry)) (now (points .entry)) (now (path .entry)))
-        (call r (lists (now (displacement .exit)) (now (spacing .exit)) (now (relative .exit))) (work (now (stations .exit)) (now (index .exit)) (now (spare .exit)) (now (keys .exit)) (now (points .exit)) (now (path .exit)))) ⌝ }
+        (record { station = now (sub .entry); kv = now (kv .entry); from = now (from .entry); to = now (to .entry); xy = now (xy .entry); boxes = now (boxes .entry); roles = now (roles .entry); pieces = now (pieces .entry); branches = now (branches .entry) })
+        (record { displacement = now (displacement .entry); spacing = now (spacing .entry); relative = now (relative .entry) }) (record { stations = now (stations .entry); index = now (index .entry); spare = now (spare .entry); keys = now (keys .entry); points = now (points .entry); path = now (path .entry) })
+        (call r (record { displacement = now (displacement .exit); spacing = now (spacing .exit); relative = now (relative .exit) }) (record { stations = now (stations .exit); index = now (index .exit); spare = now (spare .exit); keys = now (keys .exit); points = now (points .exit); path = now (path .exit) })) ⌝ }
 {
     let room = Room {
         displacement: displacement.len(),

@@ -13,7 +13,7 @@ use Rattle.geometry.specs.Plane.{point}
 use Rattle.network.specs.declared.words.Kind.{Kind}
 use Rattle.network.specs.declared.words.Kind.the-variants.{Undrawn, Open, Internal, Line}
 use Rattle.network.specs.Words.{kindAt, stationOf}
-use Rattle.network.specs.declared.options.Gaps.{Gaps}
+use Rattle.options.specs.declared.Gaps.{Gaps}
 use Rattle.placement.specs.Place.{boxIn}
 use Rattle.bars.specs.declared.Bar.{Bar}
 

@@ -7,7 +7,7 @@ ghost use Rattle.bars.specs.Bar.{barX, rowY, rows, bare, spanOf, reach, 
 ghost use Rattle.bars.specs.Exit.{exitX};
 use geometry::Box;
 use geometry::Point;
-use network::options::Gaps;
+use options::Gaps;
 
 // A bar, top to bottom.
 pub struct Bar {

@@ -2,8 +2,8 @@
 use crate::words::float_at;
 use crate::words::same;
 use crate::words::word_at;
+use crossing::Param;
 use geometry::Box;
-use geometry::Param;
 use geometry::Point;
 
 const HIT: u64 = 0x68_6974;
@@ -46,7 +46,7 @@ fn hit_agrees(w: &[u64]) -> bool {
 }
 
 fn param_agrees(w: &[u64]) -> bool {
-    let p = geometry::line_param(
+    let p = crossing::line_param(
         point_at(w, 0),
         point_at(w, 2),
         point_at(w, 4),
@@ -63,7 +63,7 @@ pub(crate) fn agrees(name: u64, w: &[u64]) -> bool {
         return hit_agrees(w);
     }
     if name == CRS {
-        let crosses = geometry::segments_cross(
+        let crosses = crossing::segments_cross(
             point_at(w, 0),
             point_at(w, 2),
             point_at(w, 4),

@@ -6,7 +6,7 @@ use Rattle.float.specs.Ops.{f0, f1}
 use Rattle.float.specs.Small.{clampOf}
 use Rattle.geometry.specs.declared.Point.{Point}
 use Rattle.geometry.specs.declared.Box.{Box}
-use Rattle.geometry.proofs.Clips.{InUnit}
+use Rattle.crossing.proofs.Places.{InUnit}
 use Rattle.channel.specs.Channel.{held, channelOf}
 
 clamp-held : (x : Float) → InUnit (clampOf x f0 f1)

@@ -11,10 +11,10 @@ use lib.Ieee.{Float}
 use Rattle.order.specs.Table.{table}
 use Rattle.order.proofs.Tables.{length-table, getD-table}
 use Rattle.geometry.specs.declared.Point.{Point}
-use Rattle.network.specs.declared.options.Options.{Options}
+use Rattle.options.specs.declared.Options.{Options}
 use Rattle.network.specs.Words.{stationOf, kinds, occupied}
 use Rattle.network.specs.Views.{countsIn, fromRowsIn, toRowsIn, pointsIn, boxesIn}
-use Rattle.placement.specs.Sized.{illSized}
+use Rattle.sized.specs.Sized.{illSized}
 use Rattle.runs.specs.Run as Run
 use Rattle.runs.specs.Run.{Scene}
 use Rattle.runs.specs.Stages.Views.{held, lead}
@@ -29,7 +29,7 @@ use Rattle.drawing.specs.Network.{Network}
 use Rattle.drawing.specs.Drawing as Drawing
 use Rattle.drawing.specs.Drawing.{measuresOf, planned, drawing, straightScene, ledScene, routedScene, routedOf, sceneOf}
 use Rattle.drawing.specs.Answer.{routedBy}
-use Rattle.chart.specs.Stages.Held.{Laid}
+use Rattle.chart.specs.Stages.Laid.{Laid}
 use Rattle.chart.specs.Stages.Charted.{routedLate, Charted}
 use Rattle.chart.proofs.Scenes.{bars-held, sceneBy, lines-held, runs-held}
 

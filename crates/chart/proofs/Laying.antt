@@ -9,12 +9,12 @@ use lib.Ieee.{Float}
 use Rattle.order.proofs.Tables.{table-ext}
 use Rattle.geometry.specs.declared.Point.{Point}
 use Rattle.geometry.specs.Plane.{pointAt}
-use Rattle.network.specs.declared.options.Options.{Options}
-use Rattle.network.specs.Options.{searchOf}
+use Rattle.options.specs.declared.Options.{Options}
+use Rattle.options.specs.Options.{searchOf}
 use Rattle.network.specs.Words.{stationOf, stationCount, kinds}
 use Rattle.network.proofs.Stations.{station-below}
 use Rattle.network.specs.Views.{columnsIn, fromRowsIn, toRowsIn, pointsIn, boxesIn}
-use Rattle.placement.specs.Place.{Frame}
+use Rattle.free_places.specs.Search.{Frame}
 use Rattle.placement.specs.Stages.Views.{framesIn}
 use Rattle.plan.specs.Stages.Plan.{Interiors, Settled}
 use Rattle.bars.specs.Bar as Bars
@@ -24,7 +24,7 @@ use Rattle.crossings.specs.Stages.Views.{grid}
 use Rattle.exits.specs.Stages.Exits.{Exited}
 use Rattle.drawing.specs.Network.{Network}
 use Rattle.drawing.specs.Drawing.{measuresOf, planned, straightScene}
-use Rattle.chart.specs.Stages.Held.{Holds, Laid}
+use Rattle.chart.specs.Stages.Laid.{Holds, Laid}
 use Rattle.chart.proofs.Scenes.{settled-held}
 
 -- a bus's station is below their number

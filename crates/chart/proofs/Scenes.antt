@@ -14,9 +14,9 @@ use Rattle.order.proofs.Strides.{getD-first, getD-strided}
 use Rattle.geometry.specs.declared.Point.{Point}
 use Rattle.geometry.specs.declared.Box.{Box}
 use Rattle.geometry.specs.Plane.{origin}
-use Rattle.network.specs.declared.options.Gaps.{Gaps}
-use Rattle.network.specs.declared.options.Options.{Options}
-use Rattle.network.specs.Options.{searchOf}
+use Rattle.options.specs.declared.Gaps.{Gaps}
+use Rattle.options.specs.declared.Options.{Options}
+use Rattle.options.specs.Options.{searchOf}
 use Rattle.network.specs.declared.words.Kind.{Kind}
 use Rattle.network.specs.declared.words.Kind.the-variants.{Undrawn, Open, Internal, Line}
 use Rattle.network.specs.Words.{stationOf, busCounts, kindOf, kinds, Safe, occupied}
@@ -26,16 +26,18 @@ use Rattle.network.proofs.Views.{getD-points, getD-boxes}
 use Rattle.network.proofs.Branches.{kind-safe}
 use Rattle.stations.specs.Column as Column
 use Rattle.stations.specs.Row as Row
-use Rattle.units.specs.declared.Measures.{Measures}
-use Rattle.units.specs.Size as Sizes
-use Rattle.units.specs.Size.{Size, sizeAt}
+use Rattle.measures.specs.declared.Measures.{Measures}
+use Rattle.sizes.specs.Size as Sizes
+use Rattle.sizes.specs.Size.{Size, sizeAt}
 use Rattle.units.specs.Unit.{spacing, typical, unitFor}
-use Rattle.units.specs.Scale as Scale
-use Rattle.units.specs.Stages.Views.{sizeIn, sizesIn, scalesIn}
+use Rattle.scales.specs.Scale as Scale
+use Rattle.sizes.specs.Stages.Views.{sizeIn, sizesIn, scalesIn}
 use Rattle.offsets.specs.Offset.{offsets}
 use Rattle.turns.specs.Turns.{placementOrder}
 use Rattle.placement.specs.Place as Place
-use Rattle.placement.specs.Place.{Frame, frameFor, noBox, boxIn}
+use Rattle.free_places.specs.Search as PlaceSearch
+use Rattle.placement.specs.Place.{noBox, boxIn}
+use Rattle.free_places.specs.Search.{Frame, frameFor}
 use Rattle.placement.specs.Stages.Views.{framesIn}
 use Rattle.bars.specs.declared.Bar.{Bar}
 use Rattle.bars.specs.Bar as Bars
@@ -54,7 +56,7 @@ use Rattle.results.specs.Stages.Bars.{barsIn}
 use Rattle.plan.specs.Stages.Plan.{Interiors, Settled}
 use Rattle.drawing.specs.Network.{Network}
 use Rattle.drawing.specs.Drawing.{measuresOf, straightScene, ledScene, lineFor, lineOf, planned}
-use Rattle.chart.specs.Stages.Held.{Holds}
+use Rattle.chart.specs.Stages.Laid.{Holds}
 
 map-table : {A B : Type 0} (g : A → B) (f : ℕ → A) (a n : ℕ) → map g (tableFrom f a n) ≡ tableFrom (λ i. g (f i)) a n
 unfolding tableFrom
@@ -70,7 +72,7 @@ unfolding sizesIn
 length-sizes k l = length-table (sizeIn l) k
 
 pub block-held : (measures : Measures) (k s : ℕ) (l : List Float) → s < k → blockAt (blocksBy (framesIn measures k l)) s ≡ blockOf (measures .unit) l s
-unfolding Place.frames frameFor blockOf
+unfolding PlaceSearch.frames frameFor blockOf
 block-held measures k s l h =
     let n : s < length (sizesIn k l) = rw (length-sizes k l) h in
     ap (λ (z : List Float). getD z s f0)
@@ -209,7 +211,7 @@ module _ (sub : List ℕ) (measures : Measures) (buses : List ℕ) (blocks frame
 
 -- ---- the whole drawing
 
-frames-cong : (G : Gaps) (u v : Float) (sc sc' : List Float) (z z' : List Size) → u ≡ v → sc ≡ sc' → z ≡ z' → Place.frames (record { unit = u; gaps = G }) sc z ≡ Place.frames (record { unit = v; gaps = G }) sc' z'
+frames-cong : (G : Gaps) (u v : Float) (sc sc' : List Float) (z z' : List Size) → u ≡ v → sc ≡ sc' → z ≡ z' → PlaceSearch.frames (record { unit = u; gaps = G }) sc z ≡ PlaceSearch.frames (record { unit = v; gaps = G }) sc' z'
 frames-cong G u v sc sc' z z' p q r = cc
 
 spans-cong : (sub : List ℕ) (ks : List Kind) (a a' b b' : List ℕ) → a ≡ a' → b ≡ b' → Bars.spans sub ks a b ≡ Bars.spans sub ks a' b'
@@ -270,7 +272,7 @@ module _ (o : Options) (N : Network) (k : ℕ) (unit : Float) (search : ℕ) (bu
       order = placementOrder sub (N .kv) counts
 
       fs : List Frame
-      fs = Place.frames
+      fs = PlaceSearch.frames
           (measuresOf o (unitFor (o .fill) (spacing seeds counts) (typical (Sizes.sizes (o .gaps) sub ks counts) counts)))
           (Scale.scales o seeds counts (spacing seeds counts)) (Sizes.sizes (o .gaps) sub ks counts)
 

@@ -1,2 +1,2 @@
 pub mod Charted
-pub mod Held
+pub mod Laid

@@ -2,17 +2,17 @@
 ghost use mathlib.Core.Path.{_≡_};
 ghost use Prim.Native.Nat.{_+_, _*_, _≤_};
 ghost use lib.ListN.{length};
-ghost use Rattle.network.specs.Options.{searchOf};
+ghost use Rattle.options.specs.Options.{searchOf};
 ghost use Rattle.network.specs.Words.{stationCount};
 ghost use Rattle.drawing.specs.Network.{network};
-ghost use Rattle.chart.specs.Stages.Held.{Laid};
+ghost use Rattle.chart.specs.Stages.Laid.{Laid};
 use bars::span::spans;
 use exits::write_exits;
-use network::options::Options;
-use network::options::search_of;
+use measures::Measures;
+use options::Options;
+use options::search_of;
 use plan::interiors;
 use plan::settle;
-use units::Measures;
 
 // The search of these options, 0 where it is below 0.
 fn search_in(o: Options) -> usize

@@ -4,20 +4,20 @@ pub mod lay;
 ghost use mathlib.Core.Path.{_≡_};
 ghost use Prim.Native.Nat.{_+_, _*_, _≤_, min};
 ghost use lib.ListN.{length};
-ghost use Rattle.network.specs.Options.{searchOf};
+ghost use Rattle.options.specs.Options.{searchOf};
 ghost use Rattle.network.specs.Words.{stationCount, occupied};
 ghost use Rattle.network.specs.Views.{countsIn, boxesIn};
-ghost use Rattle.placement.specs.Sized.{illSized};
-ghost use Rattle.box_tree.specs.Stages.Tree.{Indexed};
+ghost use Rattle.sized.specs.Sized.{illSized};
+ghost use Rattle.grid.specs.Stages.Cells.{Indexed};
 ghost use Rattle.drawing.specs.Network.{network};
-ghost use Rattle.chart.specs.Stages.Held.{Laid};
+ghost use Rattle.chart.specs.Stages.Laid.{Laid};
 ghost use Rattle.chart.specs.Stages.Charted.{Charted};
 use crate::lay::lay;
-use box_tree::build::index_boxes;
-use network::options::Options;
-use placement::sized::ill_sized;
+use box_cells::build::index_boxes;
+use measures::Measures;
+use options::Options;
 use routes::route_lines;
-use units::Measures;
+use sized::ill_sized;
 
 // The unit, and the late refusal so far, 8, 9 or 10, 0 for none.
 pub struct Course {
@@ -179,14 +179,6 @@ pub fn chart(
         along,
         ways,
     );
-    index_boxes(
-        0 < o.route_iterations,
-        k,
-        stations,
-        frames,
-        sorted,
-        spare,
-        keys,
-    );
+    index_boxes(0 < o.route_iterations, k, stations, frames, sorted);
     course
 }

@@ -11,7 +11,7 @@ use Rattle.order.specs.Order.{upFrom, keep}
 use Rattle.geometry.specs.declared.Point.{Point}
 use Rattle.geometry.specs.declared.Box.{Box}
 use Rattle.geometry.specs.Plane.{point, pointAt}
-use Rattle.geometry.specs.Cross.{param, placeOr}
+use Rattle.crossing.specs.Cross.{param, placeOr}
 use Rattle.channel.specs.declared.Channel.{Channel}
 use Rattle.channel.specs.Channel.{channelOf}
 use Rattle.channel.specs.Space.{wishOrder, inOrder, spaced, putAll}

@@ -37,7 +37,7 @@ pub fn occupied_corners(k: usize, stations: &mut [u32], places: &[f64], path: &m
     ensures { λ r. ⌜ take (2 * r) (now (path .exit)) ≡ coordinates (pointsIn k (now (places .entry))) (occupied (countsIn k (now (stations .entry)))) ⌝ }
     ensures { λ r. ⌜ r ≤ k ⌝ }
 {
-    let c = units::unit::coordinates(k, stations, places, path);
+    let c = units::coordinates(k, stations, places, path);
     note_occupied(k, stations);
     c
 }

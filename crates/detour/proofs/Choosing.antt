@@ -26,6 +26,13 @@ module _ (p q c d : Point) (best : Choice) (a b : ℕ) (e : best ≡ Over d) (f 
   pub cheaper-old : b ≤ a → Over d ≡ cheaper p q best c
   cheaper-old h = ap (λ (t : Bool). cond t (Over c) (Over d)) (sym (le-ltb a b h)) ∙ by
 
+-- the cheapest of four points
+pub four : (p q c0 c1 c2 c3 : Point) (e1 e2 e3 : Choice) (r : Point) → e1 ≡ cheaper p q (Over c0) c1 → e2 ≡ cheaper p q e1 c2 → e3 ≡ cheaper p q e2 c3
+    → r ≡ orElse e3 p → r ≡ orElse (cheapest p q Nowhere (c0 ∷ c1 ∷ c2 ∷ c3 ∷ [])) p
+unfolding cheapest cheaper
+four p q c0 c1 c2 c3 e1 e2 e3 r f1 f2 f3 h =
+    h ∙ ap (λ (x : Choice). orElse x p) (f3 ∙ ap (λ (x : Choice). cheaper p q x c3) (f2 ∙ ap (λ (x : Choice). cheaper p q x c2) f1))
+
 module _ (p q : Point) (b : Box) where
   -- the cheapest so far after one more point, where that clears the box
   abbrev after : Choice → Point → Choice
@@ -48,21 +55,21 @@ module _ (p q : Point) (b : Box) where
       ∙ clear-step d1 c2 (c3 ∷ []) ∙ ap (λ (x : Choice). cheapest p q x (clearing p q b (c3 ∷ []))) (sym e2)
       ∙ clear-step d2 c3 [] ∙ ap (λ (x : Choice). cheapest p q x (clearing p q b [])) (sym e3))
 
-  four : (c0 c1 c2 c3 : Point) (e1 e2 e3 : Choice) → e1 ≡ cheaper p q (Over c0) c1 → e2 ≡ cheaper p q e1 c2 → e3 ≡ cheaper p q e2 c3
-      → e3 ≡ cheapest p q Nowhere (c0 ∷ c1 ∷ c2 ∷ c3 ∷ [])
-  unfolding cheapest cheaper
-  four c0 c1 c2 c3 e1 e2 e3 f1 f2 f3 =
-      f3 ∙ ap (λ (x : Choice). cheaper p q x c3) (f2 ∙ ap (λ (x : Choice). cheaper p q x c2) f1)
+  -- the four corners taken in turn: d3 is the cheapest of those that clear the box
+  module _ (gap : Float) (d0 d1 d2 d3 : Choice) (r : Point)
+      (k0 : d0 ≡ after Nowhere (point (b .left ⊖ gap ⊗ f½) (b .top ⊖ gap ⊗ f½)))
+      (k1 : d1 ≡ after d0 (point (b .right ⊕ gap ⊗ f½) (b .top ⊖ gap ⊗ f½)))
+      (k2 : d2 ≡ after d1 (point (b .right ⊕ gap ⊗ f½) (b .bottom ⊕ gap ⊗ f½)))
+      (k3 : d3 ≡ after d2 (point (b .left ⊖ gap ⊗ f½) (b .bottom ⊕ gap ⊗ f½)))
+    where
+      corner-by : r ≡ orElse d3 (orElse (cheapest p q Nowhere (cornersOf b (gap ⊗ f½))) p) → r ≡ corner p q b gap
+      unfolding corner cornersOf
+      corner-by h = h ∙ ap (λ (x : Choice). orElse x (orElse (cheapest p q Nowhere (cornersOf b (gap ⊗ f½))) p)) (four-clear _ _ _ _ d0 d1 d2 d3 k0 k1 k2 k3)
 
-  pub corner-made : (gap : Float) (d0 d1 d2 d3 e1 e2 e3 : Choice) (o r : Point)
-      → let g = gap ⊗ f½ in
-      let c0 = point (b .left ⊖ g) (b .top ⊖ g) in
-      let c1 = point (b .right ⊕ g) (b .top ⊖ g) in
-      let c2 = point (b .right ⊕ g) (b .bottom ⊕ g) in
-      let c3 = point (b .left ⊖ g) (b .bottom ⊕ g) in
-      d0 ≡ after Nowhere c0 → d1 ≡ after d0 c1 → d2 ≡ after d1 c2 → d3 ≡ after d2 c3
-      → e1 ≡ cheaper p q (Over c0) c1 → e2 ≡ cheaper p q e1 c2 → e3 ≡ cheaper p q e2 c3 → o ≡ orElse e3 p → r ≡ orElse d3 o → r ≡ corner p q b gap
-  unfolding corner cornersOf
-  corner-made gap d0 d1 d2 d3 e1 e2 e3 o r k0 k1 k2 k3 f1 f2 f3 h i =
-      i ∙ ap (λ (x : Choice). orElse x o) (four-clear _ _ _ _ d0 d1 d2 d3 k0 k1 k2 k3)
-      ∙ ap (orElse (cheapest p q Nowhere (clearing p q b (cornersOf b (gap ⊗ f½))))) (h ∙ ap (λ (x : Choice). orElse x p) (four _ _ _ _ e1 e2 e3 f1 f2 f3))
+      pub corner-clear : d3 ≡ Over r → r ≡ corner p q b gap
+      unfolding orElse
+      corner-clear h = corner-by (sym (ap (λ (x : Choice). orElse x (orElse (cheapest p q Nowhere (cornersOf b (gap ⊗ f½))) p)) h))
+
+      pub corner-any : d3 ≡ Nowhere → r ≡ orElse (cheapest p q Nowhere (cornersOf b (gap ⊗ f½))) p → r ≡ corner p q b gap
+      unfolding orElse
+      corner-any h i = corner-by (i ∙ sym (ap (λ (x : Choice). orElse x (orElse (cheapest p q Nowhere (cornersOf b (gap ⊗ f½))) p)) h))

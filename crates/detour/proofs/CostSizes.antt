@@ -6,7 +6,7 @@ use Rattle.float.specs.Hypot.{hypotOf}
 use Rattle.float.specs.Size.{AtMost}
 use Rattle.float.proofs.SizeLaws.{add-under, sub-under, hypot-most}
 use Rattle.geometry.specs.declared.Point.{Point}
-use Rattle.geometry.proofs.Crossing.{Near}
+use Rattle.geometry.proofs.PointSizes.{Near}
 use Rattle.detour.specs.Detour.{cost}
 
 module _ (k : ℕ) (K : k + 3 ≤ 2097) where

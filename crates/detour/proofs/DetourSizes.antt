@@ -10,12 +10,12 @@ use Rattle.float.specs.Size.{AtMost}
 use Rattle.float.proofs.SizeLaws.{add-under, sub-under, mul-most, f½-most}
 use Rattle.geometry.specs.declared.Point.{Point}
 use Rattle.geometry.specs.declared.Box.{Box}
-use Rattle.geometry.proofs.Crossing.{Near}
+use Rattle.geometry.proofs.PointSizes.{Near}
 use Rattle.placement.specs.Place.{boxIn}
 use Rattle.placement.proofs.PlaceSizes.{Edges}
-use Rattle.box_tree.specs.declared.first.FirstHit.{FirstHit}
-use Rattle.box_tree.specs.declared.first.FirstHit.the-variants.{Free, At}
-use Rattle.box_tree.specs.First.{firstHit}
+use Rattle.first_box.specs.declared.FirstHit.{FirstHit}
+use Rattle.first_box.specs.declared.FirstHit.the-variants.{Free, At}
+use Rattle.first_box.specs.First.{firstHit}
 use Rattle.detour.specs.declared.corner.Choice.{Choice}
 use Rattle.detour.specs.declared.corner.Choice.the-variants.{Nowhere, Over}
 use Rattle.detour.specs.Detour.{cornersOf, costKey, clears, clearing, cheaper, cheapest, orElse, corner, detourOn, detourTo, detour}

@@ -7,7 +7,7 @@ use prog.Wp.{Heap}
 use ghost.Atoms.{Atoms}
 use contract.Lifetimes.{Lfts, Shares, toks}
 use contract.Monad.{fact, factI}
-use types.Kit.{Given, raw, _⊛_, _$_, _∵_, !, qed, by, move, split, frame, done}
+use types.Kit.{Given, raw, _⊛_, _$_, _∵_, !, qed, by, move, use1, split, frame, done}
 use denote.Steps.{heard}
 use denote.Triple.Walked.{says}
 use lib.ListN.{length}
@@ -15,9 +15,9 @@ use lib.Ieee.{Float}
 use Rattle.geometry.specs.declared.Point.{Point}
 use Rattle.network.specs.Words.{occupied}
 use Rattle.network.specs.Views.{countsIn, boxesIn}
-use Rattle.box_tree.specs.declared.first.FirstHit.{FirstHit}
-use Rattle.box_tree.specs.First.{firstHit}
-use Rattle.box_tree.specs.Stages.Tree.{Indexed}
+use Rattle.first_box.specs.declared.FirstHit.{FirstHit}
+use Rattle.first_box.specs.First.{firstHit}
+use Rattle.grid.specs.Stages.Cells.{Indexed}
 
 -- what the lists asked for hold, and what is found in them
 abbrev pub Long : List ℕ → List Float → ℕ → Type 0
@@ -46,3 +46,13 @@ module _ {M : Type 1} (𝓤 : URA M) (H : Heap 𝓤) (A : Atoms 𝓤) (W : Given
 
   pub from-facts : (P Q : SProp 𝓤) (φ ψ : Type 0) → (φ → ψ → ent 𝓤 P Q) → ent 𝓤 (sep 𝓤 P (sep 𝓤 (fact 𝓤 φ) (fact 𝓤 ψ))) Q
   from-facts P Q φ ψ h = qed W (raw P ∷ (raw (fact 𝓤 φ) ⊛ raw (fact 𝓤 ψ)) ∷ []) ∵ move ! (1 ∷ []) $ split ! $ heard ! φ (λ x. heard ! ψ (λ y. by ! (h x y)))
+
+  -- the same of one fact, and of three
+  pub with-fact : (P : SProp 𝓤) (φ : Type 0) → φ → ent 𝓤 P (sep 𝓤 P (fact 𝓤 φ))
+  with-fact P φ x = qed W (raw P ∷ []) ∵ frame ! $ by ! (factI 𝓤 φ (emp 𝓤) x)
+
+  pub with-three : (P : SProp 𝓤) (φ ψ χ : Type 0) → φ → ψ → χ → ent 𝓤 P (sep 𝓤 P (sep 𝓤 (fact 𝓤 φ) (sep 𝓤 (fact 𝓤 ψ) (fact 𝓤 χ))))
+  with-three P φ ψ χ x y z = qed W (raw P ∷ []) ∵ use1 W (raw P ⊛ raw (fact 𝓤 χ)) (with-fact P χ z) $ split ! $ use1 W (raw P ⊛ raw (fact 𝓤 ψ)) (with-fact P ψ y) $ split ! $ use1 W (raw P ⊛ raw (fact 𝓤 φ)) (with-fact P φ x) $ split ! $ frame ! $ frame ! $ frame ! $ done !
+
+  pub from-three : (P Q : SProp 𝓤) (φ ψ χ : Type 0) → (φ → ψ → χ → ent 𝓤 P Q) → ent 𝓤 (sep 𝓤 P (sep 𝓤 (fact 𝓤 φ) (sep 𝓤 (fact 𝓤 ψ) (fact 𝓤 χ)))) Q
+  from-three P Q φ ψ χ h = qed W (raw P ∷ (raw (fact 𝓤 φ) ⊛ (raw (fact 𝓤 ψ) ⊛ raw (fact 𝓤 χ))) ∷ []) ∵ move ! (1 ∷ []) $ split ! $ heard ! φ (λ x. split ! $ heard ! ψ (λ y. heard ! χ (λ z. by ! (h x y z))))

@@ -5,3 +5,5 @@ pub mod Detours
 pub mod DetourSizes
 pub mod CostSizes
 pub mod Lending
+pub mod Turning
+pub mod Again

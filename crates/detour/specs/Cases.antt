@@ -16,8 +16,8 @@ use Rattle.geometry.specs.Plane.{point}
 use Rattle.geometry.specs.Clip.{part, cut, clipBy, met, clipped, hits}
 use Rattle.geometry.specs.Entry.{entryOf, enters}
 use Rattle.network.specs.Views.{boxesIn}
-use Rattle.box_tree.specs.declared.first.FirstHit.the-variants.{Free, At}
-use Rattle.box_tree.specs.First.{entryAt, comesFirst, sooner, look, found, firstHit}
+use Rattle.first_box.specs.declared.FirstHit.the-variants.{Free, At}
+use Rattle.first_box.specs.First.{entryAt, comesFirst, sooner, look, found, firstHit}
 use Rattle.detour.specs.Detour.{cornersOf, cost, costKey, clears, clearing, cheaper, cheapest, orElse, corner, detourOn, detourTo, detour}
 
 -- point i of a list

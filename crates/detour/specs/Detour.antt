@@ -11,10 +11,10 @@ use Rattle.geometry.specs.declared.Box.{Box}
 use Rattle.geometry.specs.Plane.{point, shrunk}
 use Rattle.geometry.specs.Clip.{hits}
 use Rattle.placement.specs.Place.{boxIn}
-use Rattle.box_tree.specs.declared.first.FirstHit.the-variants.{Free, At}
+use Rattle.first_box.specs.declared.FirstHit.the-variants.{Free, At}
 use Rattle.detour.specs.declared.corner.Choice.{Choice}
 use Rattle.detour.specs.declared.corner.Choice.the-variants.{Nowhere, Over}
-use Rattle.box_tree.specs.First.{firstHit}
+use Rattle.first_box.specs.First.{firstHit}
 
 -- the four points g off a box's corners
 unfoldable pub cornersOf : Box → Float → List Point

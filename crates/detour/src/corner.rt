@@ -1,7 +1,9 @@
 // The point by which a piece goes round a box: a corner of it, half a gap off.
 ghost use mathlib.Core.Path.{_≡_};
 ghost use mathlib.Core.Bool.{cond};
-ghost use Rattle.detour.specs.Detour.{cost, costKey, clears, cheaper, orElse, corner};
+ghost use mathlib.Core.List.{[], _∷_};
+ghost use Rattle.detour.specs.Detour.{cost, costKey, clears, cheaper, cheapest, orElse, corner};
+ghost use Rattle.detour.specs.declared.corner.Choice.the-variants.{Nowhere};
 use float::hypot::hypot;
 use float::key::order_key;
 use geometry::Box;
@@ -80,6 +82,16 @@ fn or_else(best: Choice, other: Point) -> Point
     }
 }
 
+// The cheapest of four points.
+fn cheapest_of(p: Point, q: Point, c0: Point, c1: Point, c2: Point, c3: Point) -> Point
+    ensures { λ r. ⌜ r ≡ orElse (cheapest p q Nowhere (c0 ∷ c1 ∷ c2 ∷ c3 ∷ [])) p ⌝ }
+{
+    let e1 = cheaper(p, q, Choice::Over(c0), c1);
+    let e2 = cheaper(p, q, e1, c2);
+    let e3 = cheaper(p, q, e2, c3);
+    or_else(e3, p)
+}
+
 // The point by which the piece p q goes round box b: the cheapest of the corners that clear it, else of all four.
 pub(crate) fn corner(p: Point, q: Point, b: Box, gap: f64) -> Point
     ensures { λ r. ⌜ r ≡ corner p q b gap ⌝ }
@@ -105,8 +117,8 @@ pub(crate) fn corner(p: Point, q: Point, b: Box, gap: f64) -> Point
     let d1 = cheaper_clear(p, q, b, d0, c1);
     let d2 = cheaper_clear(p, q, b, d1, c2);
     let d3 = cheaper_clear(p, q, b, d2, c3);
-    let e1 = cheaper(p, q, Choice::Over(c0), c1);
-    let e2 = cheaper(p, q, e1, c2);
-    let e3 = cheaper(p, q, e2, c3);
-    or_else(d3, or_else(e3, p))
+    match d3 {
+        Choice::Nowhere => cheapest_of(p, q, c0, c1, c2, c3),
+        Choice::Over(c) => c,
+    }
 }

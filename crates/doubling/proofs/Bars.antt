@@ -13,10 +13,10 @@ use Rattle.float.proofs.DoubleRange.{widen-to, add-stepped, mul-stepped}
 use Rattle.float.proofs.DoublePairs.{lt-of-doubles, widen-doubles, add-doubles, sub-doubles, mul-doubles-2, div-doubles, num-stepped}
 use Rattle.order.specs.Order.{pick}
 use Rattle.geometry.specs.declared.Box.{Box}
-use Rattle.network.specs.declared.options.Gaps.{Gaps}
+use Rattle.options.specs.declared.Gaps.{Gaps}
 use Rattle.bars.specs.declared.Bar.{Bar}
 use Rattle.bars.specs.Bar.{Span, bare, rows, barX, rowY, reach, barMiddle, lengthened, barFor}
-use Rattle.placement.specs.Doubles.{DoublesBox}
+use Rattle.free_places.specs.Doubles.{DoublesBox}
 use Rattle.doubling.specs.Doubling.{EachGap}
 use Rattle.doubling.proofs.Sizes.{Gap, power, two, two-positive}
 

@@ -17,7 +17,7 @@ use Rattle.order.specs.Order.{pick}
 use Rattle.order.proofs.Tables.{table-ext}
 use Rattle.geometry.specs.declared.Point.{Point}
 use Rattle.geometry.specs.Plane.{point, origin}
-use Rattle.network.specs.declared.options.Options.{Options}
+use Rattle.options.specs.declared.Options.{Options}
 use Rattle.network.specs.Words.{stationCount, stationOf, busesIn}
 use Rattle.network.specs.Seed.{pointOf, busPoint, plus, sumTo, mean, seedOf, seeds}
 use Rattle.drawing.specs.Network.{Network}

@@ -8,10 +8,10 @@ use lib.Seq.{take-at, drop-at}
 use lib.Ieee.{Float}
 use Rattle.float.specs.Double.{scaled}
 use Rattle.order.proofs.Tables.{length-table}
-use Rattle.network.specs.declared.options.Options.{Options}
+use Rattle.options.specs.declared.Options.{Options}
 use Rattle.network.specs.Words.{stationCount, busCounts, kindOf, kinds}
 use Rattle.network.specs.Seed.{busPoint}
-use Rattle.units.specs.Scale.{scales}
+use Rattle.scales.specs.Scale.{scales}
 use Rattle.placement.specs.Place.{boxes}
 use Rattle.bars.specs.Bar.{bars, position}
 use Rattle.runs.specs.Run.{Piece, role}

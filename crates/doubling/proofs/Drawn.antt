@@ -17,12 +17,12 @@ use Rattle.order.specs.Table.{table}
 use Rattle.order.proofs.Tables.{length-table, getD-table}
 use Rattle.geometry.specs.declared.Point.{Point}
 use Rattle.geometry.specs.declared.Box.{Box}
-use Rattle.network.specs.declared.options.Options.{Options}
-use Rattle.network.specs.Options.{searchOf}
+use Rattle.options.specs.declared.Options.{Options}
+use Rattle.options.specs.Options.{searchOf}
 use Rattle.network.specs.declared.words.Kind.{Kind}
 use Rattle.network.specs.Words.{busCounts, kinds, occupied}
 use Rattle.placement.specs.Place.{noBox, boxes}
-use Rattle.placement.specs.Sized.{illSized}
+use Rattle.sized.specs.Sized.{illSized}
 use Rattle.bars.specs.declared.Bar.{Bar}
 use Rattle.bars.specs.Bar.{bars, position}
 use Rattle.crossings.specs.Route as Route
@@ -35,7 +35,7 @@ use Rattle.drawing.specs.Network.{Network}
 use Rattle.drawing.specs.Drawing.{Plan, planned, straightScene, ledScene, routedOf, routedScene, waysOf, sceneOf, drawing}
 use Rattle.drawing.specs.Answer.{crossingRoom, routedBy, lateBy, late, listsOf}
 use Rattle.units.specs.Doubles.{DoublesPoint, Paired}
-use Rattle.placement.specs.Doubles.{DoublesBox}
+use Rattle.free_places.specs.Doubles.{DoublesBox}
 use Rattle.doubling.specs.Twice.{TwiceBox, Twice, DoubledMap}
 use Rattle.doubling.specs.Doubling.{withMap}
 use Rattle.doubling.proofs.Bars.{DoublesBar}

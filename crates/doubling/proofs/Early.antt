@@ -25,12 +25,12 @@ use Rattle.order.specs.Table.{howMany, which}
 use Rattle.order.proofs.Tables.{howMany-zero, howMany-no, which-suc, which-yes, length-table}
 use Rattle.geometry.specs.declared.Point.{Point}
 use Rattle.geometry.specs.Plane.{pointAt}
-use Rattle.network.specs.declared.options.Gaps.{Gaps}
-use Rattle.network.specs.declared.options.Options.{Options}
-use Rattle.network.specs.Options.{between, searchFits, gapFits, gapsFit, inRange}
+use Rattle.options.specs.declared.Gaps.{Gaps}
+use Rattle.options.specs.declared.Options.{Options}
+use Rattle.options.specs.Options.{between, searchFits, gapFits, gapsFit, inRange}
 use Rattle.network.specs.Words.{stationCount, busCounts, isOccupied, occupied, kindOf, kinds}
 use Rattle.network.specs.Seed.{seeds, placeAt}
-use Rattle.network.specs.Refusal.{tooMany, above, farOut, tooFar, refuse, shapeRefusal}
+use Rattle.refusals.specs.Refusal.{tooMany, above, farOut, tooFar, refuse, shapeRefusal}
 use Rattle.units.specs.Unit.{coordinates}
 use Rattle.drawing.specs.declared.room.Room.{Room}
 use Rattle.drawing.specs.Network.{Network}

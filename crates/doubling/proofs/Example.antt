@@ -18,13 +18,13 @@ use Rattle.order.specs.Order.{upFrom, count, keep}
 use Rattle.order.specs.Table.{tableFrom}
 use Rattle.order.specs.Median.{medianOf, orElse}
 use Rattle.proximity.specs.Near.{nearest}
-use Rattle.network.specs.declared.options.Options.{Options}
-use Rattle.network.specs.Options.{defaults}
+use Rattle.options.specs.declared.Options.{Options}
+use Rattle.options.specs.Options.{defaults}
 use Rattle.network.specs.Words.{pastTo, stationCount, busesIn, busCounts, occupied}
 use Rattle.network.specs.Seed.{busPoint, pointOf, sumTo, mean, seedOf, seeds}
-use Rattle.network.specs.Refusal.{above}
+use Rattle.refusals.specs.Refusal.{above}
 use Rattle.stations.specs.Row.{rowsIn}
-use Rattle.units.specs.Size.{sizeFor, sizes, sides}
+use Rattle.sizes.specs.Size.{sizeFor, sizes, sides}
 use Rattle.units.specs.Unit.{coordinates, spacing, spacingOf, typical, unitFor}
 use Rattle.drawing.specs.Network.{Network, network}
 use Rattle.doubling.specs.Doubling.{HasPoint, Allowed, Asked}

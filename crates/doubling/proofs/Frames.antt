@@ -15,17 +15,17 @@ use Rattle.order.specs.Table.{tableFrom}
 use Rattle.geometry.specs.declared.Point.{Point}
 use Rattle.geometry.specs.Plane.{point, pointAt}
 use Rattle.proximity.specs.Near.{neighbours}
-use Rattle.network.specs.declared.options.Gaps.{Gaps}
-use Rattle.network.specs.declared.options.Options.{Options}
+use Rattle.options.specs.declared.Gaps.{Gaps}
+use Rattle.options.specs.declared.Options.{Options}
 use Rattle.network.specs.Words.{isOccupied, occupied}
 use Rattle.network.specs.Seed.{placeAt}
-use Rattle.units.specs.Size.{Size}
+use Rattle.sizes.specs.Size.{Size}
 use Rattle.units.specs.Unit.{coordinates}
-use Rattle.units.specs.Scale.{tier, occupiedBelow, scaleAt, scalesOf, scales}
-use Rattle.units.proofs.Near.{occupied-below}
-use Rattle.placement.specs.Place.{frameFor}
+use Rattle.scales.specs.Scale.{tier, occupiedBelow, scaleAt, scalesOf, scales}
+use Rattle.scales.proofs.NearScales.{occupied-below}
+use Rattle.free_places.specs.Search.{frameFor}
 use Rattle.units.specs.Doubles.{DoublesPoint}
-use Rattle.placement.specs.Doubles.{DoublesFrame}
+use Rattle.free_places.specs.Doubles.{DoublesFrame}
 use Rattle.doubling.proofs.Sizes.{Gap, two, two-positive}
 use Rattle.units.proofs.SpacingDoubles.{neighbours-of-doubles}
 

@@ -24,7 +24,7 @@ use Rattle.float.proofs.DoubleRange.{sub-stepped, hypot-stepped}
 use Rattle.geometry.specs.declared.Point.{Point}
 use Rattle.geometry.specs.Plane.{pointAt}
 use Rattle.proximity.specs.Near.{distance}
-use Rattle.network.specs.declared.options.Options.{Options}
+use Rattle.options.specs.declared.Options.{Options}
 use Rattle.network.specs.declared.words.Kind.{Kind}
 use Rattle.network.specs.Words.{busCounts, occupied}
 use Rattle.network.specs.Seed.{seeds}

@@ -22,11 +22,11 @@ use Rattle.float.proofs.DoubleKeys.{lt-abs, twice-mul}
 use Rattle.float.proofs.DoubleRange.{stepped-doublable}
 use Rattle.float.proofs.DoublePairs.{eq-of-doubles}
 use Rattle.geometry.specs.Plane.{pointAt}
-use Rattle.network.specs.declared.options.Options.{Options}
+use Rattle.options.specs.declared.Options.{Options}
 use Rattle.network.specs.declared.words.Kind.{Kind}
 use Rattle.network.specs.Words.{busCounts, occupied, kinds}
 use Rattle.network.specs.Seed.{seeds}
-use Rattle.network.specs.Refusal.{above}
+use Rattle.refusals.specs.Refusal.{above}
 use Rattle.units.specs.Unit.{coordinates}
 use Rattle.drawing.specs.Network.{Network}
 use Rattle.drawing.specs.declared.room.Room.{Room}

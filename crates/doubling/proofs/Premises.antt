@@ -18,7 +18,7 @@ use Rattle.float.proofs.Whole.{abs-grains}
 use Rattle.float.proofs.DoubleLaws.{lt-twice, abs-twice, finite-twice}
 use Rattle.float.proofs.DoubleKeys.{lt-abs}
 use Rattle.float.proofs.DoubleRange.{number-stepped}
-use Rattle.network.specs.Refusal.{above}
+use Rattle.refusals.specs.Refusal.{above}
 use Rattle.doubling.specs.Twice.{DoubledMap}
 use Rattle.doubling.specs.Doubling.{least, Allowed}
 use Rattle.doubling.proofs.Seeds.{Mapped}

@@ -15,7 +15,7 @@ use Rattle.order.specs.Order.{pick}
 use Rattle.order.specs.Table.{joined}
 use Rattle.geometry.specs.declared.Point.{Point}
 use Rattle.geometry.specs.declared.Box.{Box}
-use Rattle.network.specs.declared.options.Gaps.{Gaps}
+use Rattle.options.specs.declared.Gaps.{Gaps}
 use Rattle.network.specs.declared.words.Kind.{Kind}
 use Rattle.network.specs.declared.words.Kind.the-variants.{Undrawn, Open, Internal, Line}
 use Rattle.network.specs.Words.{kindAt, stationOf}
@@ -28,7 +28,7 @@ use Rattle.bars.specs.Exit.{exitX, exit}
 use Rattle.runs.specs.Run.{Scene, Piece, slot, ledPath, linePoints, runFor, runOf, apart, pieces, isLine, allPieces}
 use Rattle.results.specs.Bounds.{around, aroundAll, nowhere, boundsOf}
 use Rattle.units.specs.Doubles.{DoublesPoint, Paired}
-use Rattle.placement.specs.Doubles.{DoublesBox}
+use Rattle.free_places.specs.Doubles.{DoublesBox}
 use Rattle.doubling.specs.Doubling.{EachGap}
 use Rattle.doubling.specs.Twice.{TwiceBox}
 use Rattle.doubling.proofs.Sizes.{Gap, power, two, two-positive}

@@ -27,14 +27,14 @@ use Rattle.order.specs.Table.{table}
 use Rattle.order.proofs.Tables.{getD-table, length-table, howMany-le}
 use Rattle.order.specs.Median.{finiteOf, insertFloat, sortFloats, middle, medianOf, orElse}
 use Rattle.geometry.specs.declared.Point.{Point}
-use Rattle.network.specs.declared.options.Gaps.{Gaps}
-use Rattle.network.specs.declared.options.Options.{Options}
+use Rattle.options.specs.declared.Gaps.{Gaps}
+use Rattle.options.specs.declared.Options.{Options}
 use Rattle.network.specs.declared.words.Kind.{Kind}
 use Rattle.network.specs.Words.{busesIn, busCounts, isOccupied, occupied}
 use Rattle.stations.specs.Row.{rowsIn}
-use Rattle.units.specs.Size.{Size, widthFor, heightFor, sizeFor, sizes, sizeAt, sides}
+use Rattle.sizes.specs.Size.{Size, widthFor, heightFor, sizeFor, sizes, sizeAt, sides}
 use Rattle.units.specs.Unit.{typical}
-use Rattle.units.specs.Scale.{tier, scaleAt, scalesOf, scales}
+use Rattle.scales.specs.Scale.{tier, scaleAt, scalesOf, scales}
 use Rattle.doubling.specs.Doubling.{EachGap}
 
 -- ---- constants

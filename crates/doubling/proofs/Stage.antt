@@ -18,23 +18,24 @@ use Rattle.order.specs.Median.{medianOf}
 use Rattle.order.proofs.Tables.{getD-table, length-table, howMany-le}
 use Rattle.geometry.specs.declared.Point.{Point}
 use Rattle.proximity.specs.Near.{nearest}
-use Rattle.network.specs.declared.options.Gaps.{Gaps}
-use Rattle.network.specs.declared.options.Options.{Options}
+use Rattle.options.specs.declared.Gaps.{Gaps}
+use Rattle.options.specs.declared.Options.{Options}
 use Rattle.network.specs.declared.words.Kind.{Kind}
 use Rattle.network.specs.Words.{stationCount, busesIn, busCounts, occupied}
 use Rattle.network.specs.Seed.{seedOf, seeds, placeAt}
 use Rattle.stations.specs.Row.{fromRows, toRows}
-use Rattle.units.specs.Size.{Size, sizes, sizeAt}
+use Rattle.sizes.specs.Size.{Size, sizes, sizeAt}
 use Rattle.units.specs.Unit.{coordinates, spacing, typical, unitFor}
-use Rattle.units.specs.Scale.{scales}
+use Rattle.scales.specs.Scale.{scales}
 use Rattle.offsets.specs.Offset.{offsets}
-use Rattle.placement.specs.Place.{Frame, frameFor, frames, frameAt, places, boxes, boxIn}
+use Rattle.placement.specs.Place.{places, boxes, boxIn}
+use Rattle.free_places.specs.Search.{Frame, frameFor, frames, frameAt}
 use Rattle.turns.specs.Turns.{placementOrder}
-use Rattle.placement.specs.Sized.{illSized}
+use Rattle.sized.specs.Sized.{illSized}
 use Rattle.turns.specs.Stages.Listed.{Turns}
 use Rattle.turns.proofs.Queue.{order-turns}
 use Rattle.units.specs.Doubles.{DoublesPoint}
-use Rattle.placement.specs.Doubles.{DoublesBox, DoublesFrame, Reach}
+use Rattle.free_places.specs.Doubles.{DoublesBox, DoublesFrame, Reach}
 use Rattle.drawing.specs.Drawing.{measuresOf}
 use Rattle.doubling.specs.Doubling.{EachGap}
 use Rattle.doubling.specs.Twice.{DoubledMap}
@@ -42,7 +43,8 @@ use Rattle.doubling.proofs.Seeds.{Mapped, bus-doubles, seeds-doubles, f
 use Rattle.units.proofs.SpacingDoubles.{Some, spacing-doubles, unit-doubles}
 use Rattle.doubling.proofs.Sizes.{Gap, Blocks, power, sizes-stepped, typical-stepped, typical-positive, scales-stepped}
 use Rattle.doubling.proofs.Frames.{coordinates-doubles, scales-same, frame-doubles}
-use Rattle.placement.proofs.PlaceDoubles.{offsets-small, places-doubles, boxes-doubles, ill-sized-of-doubles}
+use Rattle.placement.proofs.PlaceDoubles.{offsets-small, places-doubles, boxes-doubles}
+use Rattle.sized.proofs.SizedDoubles.{ill-sized-of-doubles}
 
 -- ---- limits: up to 2 ^ 53 - 1 times a power of two
 limit : (q k : ℕ) → q < 2 ^ 53 → k ≤ 2044 → Limit (q * 2 ^ k)

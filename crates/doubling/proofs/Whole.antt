@@ -20,19 +20,20 @@ use Rattle.order.specs.Table.{table}
 use Rattle.order.proofs.Tables.{getD-table, length-table, howMany-le}
 use Rattle.geometry.specs.declared.Point.{Point}
 use Rattle.geometry.specs.declared.Box.{Box}
-use Rattle.network.specs.declared.options.Options.{Options}
+use Rattle.options.specs.declared.Options.{Options}
 use Rattle.network.specs.declared.words.Kind.{Kind}
 use Rattle.network.specs.declared.words.Kind.the-variants.{Undrawn, Open, Internal, Line}
 use Rattle.network.specs.Words.{kindAt, stationOf, occupied, busCounts}
 use Rattle.network.specs.Seed.{seeds}
 use Rattle.stations.specs.Column.{column, columns}
 use Rattle.stations.specs.Row.{row, fromRow, toRow, fromRows, toRows}
-use Rattle.placement.specs.Place.{Frame, frameAt, boxIn, boxes}
+use Rattle.placement.specs.Place.{boxIn, boxes}
+use Rattle.free_places.specs.Search.{Frame, frameAt}
 use Rattle.bars.specs.declared.Bar.{Bar}
 use Rattle.bars.specs.Bar.{Span, bare, rows, include, includeEnd, includeBranch, spanTo, spans, barFor, bars, barAt, blockAt}
 use Rattle.results.specs.Bounds.{around, aroundAll, nowhere, boundsOf}
 use Rattle.units.specs.Doubles.{DoublesPoint}
-use Rattle.placement.specs.Doubles.{DoublesBox, DoublesFrame}
+use Rattle.free_places.specs.Doubles.{DoublesBox, DoublesFrame}
 use Rattle.doubling.specs.Twice.{TwiceBox, DoubledMap}
 use Rattle.doubling.proofs.Bars.{DoublesBar, Block, Rows, bar-doubles}
 use Rattle.doubling.proofs.Runs.{bounds-doubled}

@@ -11,11 +11,11 @@ use Rattle.float.specs.Small.{absOf, isFinite}
 use Rattle.float.specs.Ops.{f0}
 use Rattle.float.specs.Double.{scaled}
 use Rattle.geometry.specs.declared.Box.{Box}
-use Rattle.network.specs.declared.options.Gaps.{Gaps}
-use Rattle.network.specs.declared.options.Options.{Options}
+use Rattle.options.specs.declared.Gaps.{Gaps}
+use Rattle.options.specs.declared.Options.{Options}
 use Rattle.network.specs.Words.{stationCount, busCounts, isOccupied}
 use Rattle.network.specs.Seed.{seeds, placeAt}
-use Rattle.network.specs.Refusal.{above}
+use Rattle.refusals.specs.Refusal.{above}
 use Rattle.drawing.specs.declared.answer.Plot.{Plot}
 use Rattle.drawing.specs.declared.answer.Answer.the-variants.{Drawn}
 use Rattle.drawing.specs.Network.{Network, Lists}

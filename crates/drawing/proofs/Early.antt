@@ -4,10 +4,10 @@ use mathlib.Core.Path.{_≡_, refl, sym}
 use mathlib.Core.Bool.{true, false}
 use Prim.Native.Nat.{ℕ, zero, suc}
 use lib.ListN.{length}
-use Rattle.network.specs.declared.options.Options.{Options}
-use Rattle.network.specs.Options.{inRange}
+use Rattle.options.specs.declared.Options.{Options}
+use Rattle.options.specs.Options.{inRange}
 use Rattle.network.specs.Words.{stationCount}
-use Rattle.network.specs.Refusal.{refuse, shapeRefusal, tooFar}
+use Rattle.refusals.specs.Refusal.{refuse, shapeRefusal, tooFar}
 use Rattle.drawing.specs.declared.room.Room.{Room}
 use Rattle.drawing.specs.Network.{Network}
 use Rattle.drawing.specs.Answer.{orLater, early, meshLength, shortResults, shortWork}

@@ -27,18 +27,18 @@ use Rattle.order.proofs.Tables.{length-table, getD-table, howMany-le, all-which
 use Rattle.geometry.specs.declared.Point.{Point}
 use Rattle.geometry.specs.declared.Box.{Box}
 use Rattle.geometry.specs.Plane.{origin}
-use Rattle.geometry.proofs.Crossing.{Near}
+use Rattle.geometry.proofs.PointSizes.{Near}
 use Rattle.mesh.specs.Mesh.{meshOk}
 use Rattle.mesh.proofs.Meshes.{Sound, mesh-sound}
-use Rattle.network.specs.declared.options.Options.{Options}
+use Rattle.options.specs.declared.Options.{Options}
 use Rattle.network.specs.declared.words.Kind.{Kind}
 use Rattle.network.specs.declared.words.Kind.the-variants.{Undrawn, Open, Internal, Line}
-use Rattle.network.specs.Options.{inRange, between, searchFits, gapsFit, searchOf}
+use Rattle.options.specs.Options.{inRange, between, searchFits, gapsFit, searchOf}
 use Rattle.network.specs.Words.{stationCount, busesIn, busCounts, stationOf, isOccupied, occupied, kindOf, kinds, kindAt, Safe}
-use Rattle.network.specs.Refusal.{refuse, tooFar}
+use Rattle.refusals.specs.Refusal.{refuse, tooFar}
 use Rattle.network.specs.Seed as Seed
 use Rattle.network.specs.Seed.{placeAt, seedOf}
-use Rattle.network.proofs.SeedSizes.{Times, seed-times}
+use Rattle.refusals.proofs.SeedSizes.{Times, seed-times}
 use Rattle.network.proofs.Stations.{station-below}
 use Rattle.network.proofs.Branches.{kind-safe}
 use Rattle.stations.specs.Column as Column
@@ -46,19 +46,22 @@ use Rattle.stations.specs.Column.{falling, voltage}
 use Rattle.stations.specs.Row as Row
 use Rattle.stations.specs.Row.{hasRow, rowKey, row}
 use Rattle.stations.proofs.RowLaw as RowLaw
-use Rattle.units.specs.Size as Sizes
+use Rattle.sizes.specs.Size as Sizes
 use Rattle.units.specs.Unit.{coordinates, spacing, typical, unitFor}
-use Rattle.units.specs.Scale as Scale
+use Rattle.scales.specs.Scale as Scale
 use Rattle.units.proofs.UnitSizes.{spacing-most, spacing-plus, typical-least, typical-positive, unit-most, unit-plus, coordinates-each, coordinates-length, point-near}
-use Rattle.units.proofs.SideSizes.{table-at, Sides, Narrow, gaps-narrow, sizes-most, Scaled, scale-in, scales-all, scales-at}
+use Rattle.sizes.proofs.SideSizes.{table-at, Sides, Narrow, gaps-narrow, sizes-most}
+use Rattle.scales.proofs.ScaleSizes.{Scaled, scale-in, scales-all, scales-at}
 use Rattle.offsets.specs.Offset as Offset
 use Rattle.turns.specs.Turns.{placementOrder}
 use Rattle.turns.specs.Stages.Listed.{Turns}
 use Rattle.turns.proofs.Queue.{order-turns}
 use Rattle.turns.proofs.OrderLaw.{bus-occupied}
-use Rattle.placement.specs.Sized.{illSized}
+use Rattle.sized.specs.Sized.{illSized}
 use Rattle.placement.specs.Place as Place
-use Rattle.placement.specs.Place.{Frame, frameAt, boxIn, noBox}
+use Rattle.free_places.specs.Search as PlaceSearch
+use Rattle.placement.specs.Place.{boxIn, noBox}
+use Rattle.free_places.specs.Search.{Frame, frameAt}
 use Rattle.placement.proofs.PlaceSizes.{Edges, frames-most, places-near, offsets-near, boxes-most}
 use Rattle.bars.specs.declared.Bar.{Bar}
 use Rattle.bars.specs.Bar as Bars
@@ -258,7 +261,7 @@ module _ (O : Options) (N : Network) (R : Ranged O) (few-buses : length (N .stat
   scales = Scale.scales O seeds counts gap
 
   abbrev frames : List Frame
-  frames = Place.frames (measuresOf O unit) scales sizes
+  frames = PlaceSearch.frames (measuresOf O unit) scales sizes
 
   abbrev order : List ℕ
   order = placementOrder sub (N .kv) counts

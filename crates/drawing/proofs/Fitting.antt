@@ -9,16 +9,16 @@ use lib.IntN.{ℤ, pos, negsuc}
 use lib.ListN.{length}
 use lib.Ieee.{binary64, lt, le, ofBits}
 use borrow.Author.Tests.{ltb-false, leb-true}
-use Rattle.network.specs.declared.options.Options.{Options}
+use Rattle.options.specs.declared.Options.{Options}
 use Rattle.float.specs.Ops.{f0, f1}
-use Rattle.network.specs.Options.{inRange, between, searchFits, gapsFit, searchOf}
+use Rattle.options.specs.Options.{inRange, between, searchFits, gapsFit, searchOf}
 use Rattle.network.specs.Words.{stationCount}
-use Rattle.network.specs.Refusal.{refuse, shapeRefusal, tooFar}
-use Rattle.box_tree.specs.Length.{indexLength}
+use Rattle.refusals.specs.Refusal.{refuse, shapeRefusal, tooFar}
+use Rattle.box_cells.specs.Length.{indexLength}
 use Rattle.drawing.specs.declared.room.Room.{Room}
 use Rattle.drawing.specs.Network.{Network}
 use Rattle.drawing.specs.Answer.{orLater, early, meshLength, sorting, shortResults, shortWork, crossingRoom}
-use Rattle.network.proofs.Shapes.{Shape, shape-fits, test-on}
+use Rattle.refusals.proofs.Shapes.{Shape, shape-fits, test-on}
 
 -- The lent lists have the lengths that a network of this shape asks.
 pub record Fits (o : Options) (N : Network) (R : Room) : Type 0 where

@@ -9,9 +9,10 @@ use lib.Dec.{ltb}
 use lib.Ieee.{Float}
 use borrow.Author.Tests.{ltb-false, lt-ltb, le-ltb}
 use Rattle.geometry.specs.declared.Box.{Box}
-use Rattle.network.specs.Refusal.{refuse}
+use Rattle.refusals.specs.Refusal.{refuse}
 use Rattle.drawing.specs.declared.answer.Answer.the-variants.{Refused}
-use Rattle.drawing.specs.Network.{work, crossings}
+use Rattle.drawing.specs.Network.{crossings}
+use Rattle.drawing.proofs.Lent.{work}
 use Rattle.drawing.specs.Answer.{orLater, pieceRoom, lateBy, answerBy}
 
 enough : (r : ℕ) (b : Bool) → orLater r (refuse b 11 0) ≡ 0 → b ≡ false

@@ -5,3 +5,4 @@ pub mod Written
 pub mod Lates
 pub mod Number
 pub mod Finite
+pub mod Lent

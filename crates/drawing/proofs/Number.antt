@@ -6,11 +6,11 @@ use lib.Dec.{ltb}
 use lib.Ieee.{Float}
 use lib.ListN.{length}
 use Rattle.geometry.specs.declared.Box.{Box}
-use Rattle.network.specs.declared.options.Options.{Options}
-use Rattle.network.specs.Options.{inRange}
+use Rattle.options.specs.declared.Options.{Options}
+use Rattle.options.specs.Options.{inRange}
 use Rattle.network.specs.Words.{stationCount, occupied}
-use Rattle.network.specs.Refusal.{refuse, tooMany, kvUnlike, toUnlike, numberTooHigh, strayVoltage, tooFar, shapeRefusal}
-use Rattle.placement.specs.Sized.{illSized}
+use Rattle.refusals.specs.Refusal.{refuse, tooMany, kvUnlike, toUnlike, numberTooHigh, strayVoltage, tooFar, shapeRefusal}
+use Rattle.sized.specs.Sized.{illSized}
 use Rattle.routes.specs.Routes.{routeRefusal}
 use Rattle.drawing.specs.Network.{Network, Lists, Work, Crossings}
 use Rattle.drawing.specs.Drawing.{drawing}

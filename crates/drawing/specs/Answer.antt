@@ -8,17 +8,17 @@ use lib.Ieee.{Float}
 use Rattle.float.specs.Small.{isFinite}
 use Rattle.float.specs.Ops.{f0}
 use Rattle.geometry.specs.declared.Box.{Box}
-use Rattle.network.specs.declared.options.Options.{Options}
-use Rattle.network.specs.Options.{inRange}
+use Rattle.options.specs.declared.Options.{Options}
+use Rattle.options.specs.Options.{inRange}
 use Rattle.network.specs.Words.{stationCount, occupied}
-use Rattle.network.specs.Refusal.{refuse, shapeRefusal, tooFar}
-use Rattle.placement.specs.Sized.{illSized}
-use Rattle.box_tree.specs.Length.{indexLength}
+use Rattle.refusals.specs.Refusal.{refuse, shapeRefusal, tooFar}
+use Rattle.sized.specs.Sized.{illSized}
+use Rattle.box_cells.specs.Length.{indexLength}
 use Rattle.bars.specs.Bar.{position}
 use Rattle.drawing.specs.declared.room.Room.{Room}
 use Rattle.drawing.specs.declared.answer.Answer.{Answer}
 use Rattle.drawing.specs.declared.answer.Answer.the-variants.{Drawn, Refused}
-use Rattle.drawing.specs.Network.{Network, Lists, lists, Work, work, Crossings, crossings}
+use Rattle.drawing.specs.Network.{Network, Lists, Work, Crossings, crossings}
 use Rattle.routes.specs.Routes.{routeRefusal}
 use Rattle.runs.specs.Run.{Piece}
 use Rattle.runs.specs.Finite.{allOf, finitePoint, finiteBox, finiteBar}
@@ -122,26 +122,28 @@ late d R =
 -- the drawing as lists of numbers
 unfoldable pub listsOf : Drawing → Lists
 listsOf d =
-    lists
-    (flat (λ b. pointNumbers (position b)) (d .bars))
-    (flat barNumbers (d .bars))
-    (flat boxNumbers (d .boxes))
-    (d .scales)
-    (d .roles)
-    (flat pieceNumbers (d .pieces))
-    (map (λ (p : Piece). p .branch) (d .pieces))
+    record {
+      positions = flat (λ b. pointNumbers (position b)) (d .bars);
+      bars = flat barNumbers (d .bars);
+      boxes = flat boxNumbers (d .boxes);
+      scales = d .scales;
+      roles = d .roles;
+      pieces = flat pieceNumbers (d .pieces);
+      branches = map (λ (p : Piece). p .branch) (d .pieces);
+    }
 
 -- the lists after a call: a refusal changes no result list
 unfoldable pub listsAfter : ℕ → Lists → Lists → Lists
 listsAfter r D L =
-    lists
-    (after r (D .positions) (L .positions))
-    (after r (D .bars) (L .bars))
-    (after r (D .boxes) (L .boxes))
-    (after r (D .scales) (L .scales))
-    (after r (D .roles) (L .roles))
-    (after r (D .pieces) (L .pieces))
-    (after r (D .branches) (L .branches))
+    record {
+      positions = after r (D .positions) (L .positions);
+      bars = after r (D .bars) (L .bars);
+      boxes = after r (D .boxes) (L .boxes);
+      scales = after r (D .scales) (L .scales);
+      roles = after r (D .roles) (L .roles);
+      pieces = after r (D .pieces) (L .pieces);
+      branches = after r (D .branches) (L .branches);
+    }
 
 -- After a call that isn't refused by 1 to 7 all work lists hold zeros.
 abbrev pub zeroNumbers : List ℕ → List ℕ
@@ -152,17 +154,18 @@ zeros l = replicate (length l) f0
 
 unfoldable pub clearedWork : Work → Work
 clearedWork W =
-    work
-    (zeroNumbers (W .stations))
-    (zeroNumbers (W .buses))
-    (zeroNumbers (W .ends))
-    (zeroNumbers (W .sorted))
-    (zeroNumbers (W .spare))
-    (zeroNumbers (W .keys))
-    (zeros (W .places))
-    (zeros (W .blocks))
-    (zeros (W .frames))
-    (zeros (W .path))
+    record {
+      stations = zeroNumbers (W .stations);
+      buses = zeroNumbers (W .buses);
+      ends = zeroNumbers (W .ends);
+      sorted = zeroNumbers (W .sorted);
+      spare = zeroNumbers (W .spare);
+      keys = zeroNumbers (W .keys);
+      places = zeros (W .places);
+      blocks = zeros (W .blocks);
+      frames = zeros (W .frames);
+      path = zeros (W .path);
+    }
 
 unfoldable pub clearedCrossings : Crossings → Crossings
 clearedCrossings X =

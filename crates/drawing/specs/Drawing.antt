@@ -11,22 +11,23 @@ use Rattle.order.specs.Order.{pick}
 use Rattle.order.specs.Table.{table}
 use Rattle.geometry.specs.declared.Point.{Point}
 use Rattle.geometry.specs.declared.Box.{Box}
-use Rattle.network.specs.declared.options.Gaps.{Gaps}
-use Rattle.network.specs.declared.options.Options.{Options}
-use Rattle.network.specs.Options.{searchOf}
+use Rattle.options.specs.declared.Gaps.{Gaps}
+use Rattle.options.specs.declared.Options.{Options}
+use Rattle.options.specs.Options.{searchOf}
 use Rattle.network.specs.declared.words.Kind.{Kind}
 use Rattle.network.specs.declared.words.Kind.the-variants.{Undrawn, Open, Internal, Line}
 use Rattle.network.specs.Words.{busCounts, kinds, kindAt, stationOf, occupied}
 use Rattle.network.specs.Seed as Seed
 use Rattle.stations.specs.Column as Column
 use Rattle.stations.specs.Row as Row
-use Rattle.units.specs.declared.Measures.{Measures}
-use Rattle.units.specs.Size as Sizes
+use Rattle.measures.specs.declared.Measures.{Measures}
+use Rattle.sizes.specs.Size as Sizes
 use Rattle.units.specs.Unit.{coordinates, spacing, typical, unitFor}
-use Rattle.units.specs.Scale as Scale
+use Rattle.scales.specs.Scale as Scale
 use Rattle.offsets.specs.Offset as Offset
 use Rattle.turns.specs.Turns.{placementOrder}
 use Rattle.placement.specs.Place as Place
+use Rattle.free_places.specs.Search as PlaceSearch
 use Rattle.bars.specs.declared.Bar.{Bar}
 use Rattle.bars.specs.Bar as Bars
 use Rattle.bars.specs.Exit.{exit}
@@ -86,13 +87,13 @@ planned O N =
     let gap = spacing seeds counts in
     let unit = unitFor (O .fill) gap (typical sizes counts) in
     let scales = Scale.scales O seeds counts gap in
-    let frames = Place.frames (measuresOf O unit) scales sizes in
+    let frames = PlaceSearch.frames (measuresOf O unit) scales sizes in
     let order = placementOrder sub (N .kv) counts in
     let offsets = Offset.offsets (searchOf (O .search)) in
     let places = Place.places frames offsets seeds order in
     let found = table (Place.foundFree frames offsets seeds order) (length order) in
     let boxes = Place.boxes frames counts places in
-    let blocks = map (λ (r : Place.Frame). r .f) frames in
+    let blocks = map (λ (r : PlaceSearch.Frame). r .f) frames in
     let bars = Bars.bars (O .gaps) sub columns (Bars.spans sub ks fromRows toRows) blocks boxes in
     record {
       counts = counts;

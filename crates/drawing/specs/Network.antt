@@ -28,9 +28,6 @@ pub record Lists : Type 0 where
   pub pieces : List Float
   pub branches : List ℕ
 
-abbrev pub lists : List Float → List Float → List Float → List Float → List ℕ → List Float → List ℕ → Lists
-lists a b c d e f g = record { positions = a; bars = b; boxes = c; scales = d; roles = e; pieces = f; branches = g }
-
 -- the work lists of fixed needed length
 pub record Work : Type 0 where
   pub stations : List ℕ
@@ -43,21 +40,6 @@ pub record Work : Type 0 where
   pub blocks : List Float
   pub frames : List Float
   pub path : List Float
-
-abbrev pub work : List ℕ → List ℕ → List ℕ → List ℕ → List ℕ → List ℕ → List Float → List Float → List Float → List Float → Work
-work a b c d e f g h i j =
-    record {
-      stations = a;
-      buses = b;
-      ends = c;
-      sorted = d;
-      spare = e;
-      keys = f;
-      places = g;
-      blocks = h;
-      frames = i;
-      path = j;
-    }
 
 -- The crossing list is these and the three lists that sort: for each crossing three numbers, its place, and the two numbers of its point.
 pub record Crossings : Type 0 where

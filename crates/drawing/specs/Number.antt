@@ -4,11 +4,11 @@ use mathlib.Core.Path.{_≡_}
 use mathlib.Core.Bool.{not, _||_}
 use lib.Dec.{ltb}
 use lib.ListN.{length}
-use Rattle.network.specs.declared.options.Options.{Options}
-use Rattle.network.specs.Options.{inRange}
+use Rattle.options.specs.declared.Options.{Options}
+use Rattle.options.specs.Options.{inRange}
 use Rattle.network.specs.Words.{stationCount, occupied}
-use Rattle.network.specs.Refusal.{refuse, tooMany, kvUnlike, toUnlike, numberTooHigh, strayVoltage, tooFar}
-use Rattle.placement.specs.Sized.{illSized}
+use Rattle.refusals.specs.Refusal.{refuse, tooMany, kvUnlike, toUnlike, numberTooHigh, strayVoltage, tooFar}
+use Rattle.sized.specs.Sized.{illSized}
 use Rattle.drawing.specs.declared.room.Room.{Room}
 use Rattle.drawing.specs.Network.{Network, Lists, Work, Crossings}
 use Rattle.drawing.specs.Drawing.{drawing}

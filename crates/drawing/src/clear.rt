@@ -1,6 +1,6 @@
 // Work and crossing lists back to zeros.
 ghost use mathlib.Core.Path.{_≡_};
-ghost use Rattle.drawing.specs.Network.{work, crossings};
+ghost use Rattle.drawing.specs.Network.{crossings};
 ghost use Rattle.drawing.specs.Answer.{clearedWork, clearedCrossings};
 use results::clears::zero_f;
 use results::clears::zero_u32;
@@ -19,8 +19,8 @@ pub fn clear_work(
     frames: &mut [f64],
     path: &mut [f64],
 )
-    ensures { λ _. ⌜ work (now (stations .exit)) (now (buses .exit)) (now (ends .exit)) (now (sorted .exit)) (now (spare .exit)) (now (keys .exit)) (now (places .exit)) (now (blocks .exit)) (now (frames .exit)) (now (path .exit))
-        ≡ clearedWork (work (now (stations .entry)) (now (buses .entry)) (now (ends .entry)) (now (sorted .entry)) (now (spare .entry)) (now (keys .entry)) (now (places .entry)) (now (blocks .entry)) (now (frames .entry)) (now (path .entry))) ⌝ }
+    ensures { λ _. ⌜ record { stations = now (stations .exit); buses = now (buses .exit); ends = now (ends .exit); sorted = now (sorted .exit); spare = now (spare .exit); keys = now (keys .exit); places = now (places .exit); blocks = now (blocks .exit); frames = now (frames .exit); path = now (path .exit) }
+        ≡ clearedWork (record { stations = now (stations .entry); buses = now (buses .entry); ends = now (ends .entry); sorted = now (sorted .entry); spare = now (spare .entry); keys = now (keys .entry); places = now (places .entry); blocks = now (blocks .entry); frames = now (frames .entry); path = now (path .entry) }) ⌝ }
 {
     zero_u32(stations);
     zero_u32(buses);

@@ -5,11 +5,11 @@ ghost use lib.ListN.{length};
 ghost use Rattle.drawing.specs.Network.{network};
 ghost use Rattle.drawing.specs.Answer.{shortResults, shortWork, early};
 use crate::room::Room;
-use box_tree::build::index_length;
-use network::options::Options;
-use network::refuse::shape_refusal;
-use network::refuse::too_far;
+use box_cells::build::index_length;
 use network::words::station_count;
+use options::Options;
+use refusals::shape_refusal;
+use refusals::too_far;
 
 // Whether a result list of fixed length is too short for n buses, m branches and k stations.
 fn short_results(n: usize, m: usize, k: usize, room: Room) -> bool

@@ -8,13 +8,13 @@ use native.Mathlib.Omega.{arith}
 use lib.IntN.{ℤ}
 use lib.ListN.{length, take, drop}
 use lib.Ieee.{Float}
-use Rattle.network.specs.declared.options.Options.{Options}
+use Rattle.options.specs.declared.Options.{Options}
 use Rattle.drawing.specs.declared.answer.Plot.{Plot}
 use Rattle.drawing.specs.declared.answer.Answer.{Answer}
 use Rattle.drawing.specs.declared.answer.Answer.the-variants.{Drawn, Refused}
 use Rattle.drawing.specs.Network.{Network, network, Lists}
 use Rattle.layout.proofs.Drawn.{pieces-fit}
-use Rattle.small.specs.Held.{workLists, crossingLists, heldCall, SmallCall}
+use Rattle.small.specs.Small.{workLists, crossingLists, heldCall, SmallCall}
 use Rattle.listing.specs.declared.input.Counts.{Counts}
 use Rattle.listing.specs.declared.input.Parsed.the-variants as Parsed
 use Rattle.listing.specs.Input.{parsed}

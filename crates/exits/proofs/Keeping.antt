@@ -17,7 +17,7 @@ use Rattle.network.specs.Words.{stationOf, kindOf, Safe}
 use Rattle.network.specs.Views.{fromRowsIn, toRowsIn}
 use Rattle.network.proofs.Branches.{kind-safe}
 use Rattle.network.proofs.Views.{putPoint, point-same, point-other}
-use Rattle.units.specs.declared.Measures.{Measures}
+use Rattle.measures.specs.declared.Measures.{Measures}
 use Rattle.runs.specs.Stages.Views.{exitOf, firstExit, secondExit}
 use Rattle.crossings.specs.Route as Route
 use Rattle.crossings.specs.Stages.Views.{Grid, grid, exitAt, lineBetween, lineFor, lineIn}

@@ -9,6 +9,7 @@ ghost use Rattle.exits.specs.Stages.Exits.{noExits, exitFrom, lineExits,
 use bars::row_y;
 use geometry::Point;
 use geometry::number_at;
+use measures::Measures;
 use network::words::Kind;
 use network::words::kind_of;
 use network::words::station_of;
@@ -16,7 +17,6 @@ use order::at;
 use runs::run::box_at;
 use runs::run::exit_of;
 use runs::run::put_point;
-use units::Measures;
 
 // The two exits of a line: from its first station's box and from its second's.
 pub struct Exits {

@@ -1,6 +1,6 @@
 -- The numbers and the lists that cross, from those of the call inside. Assumes nothing.
 use mathlib.Core.Path.{_≡_, refl, ap, _∙_}
-use Rattle.network.specs.declared.options.Options.{Options}
+use Rattle.options.specs.declared.Options.{Options}
 use Rattle.drawing.specs.declared.answer.Answer.{Answer}
 use Rattle.drawing.specs.declared.answer.Answer.the-variants as Layouts
 use Rattle.drawing.specs.Network as Network

@@ -1,5 +1,4 @@
 // The audit call.
-ghost use Rattle.findings.specs.Drawn.{drawn, lists, work};
 ghost use Rattle.records.specs.Plain.{judged, AuditAnswered};
 use audit::quality::tx_layout_quality;
 use records::plain::Audited;
@@ -28,12 +27,12 @@ pub extern "C" fn tansygate_audit(
     branches: &[u32],
 ) -> Audited
     ensures { λ r. ⌜ AuditAnswered
-        (drawn (now (sub .entry)) (now (kv .entry)) (now (from .entry)) (now (to .entry)) (now (xy .entry)) (now (boxes .entry)) (now (roles .entry)) (now (pieces .entry)) (now (branches .entry)))
-        (lists (now (displacement .entry)) (now (spacing .entry)) (now (relative .entry)))
-        (work (now (stations .entry)) (now (index .entry)) (now (spare .entry)) (now (keys .entry)) (now (points .entry)) (now (path .entry)))
+        (record { station = now (sub .entry); kv = now (kv .entry); from = now (from .entry); to = now (to .entry); xy = now (xy .entry); boxes = now (boxes .entry); roles = now (roles .entry); pieces = now (pieces .entry); branches = now (branches .entry) })
+        (record { displacement = now (displacement .entry); spacing = now (spacing .entry); relative = now (relative .entry) })
+        (record { stations = now (stations .entry); index = now (index .entry); spare = now (spare .entry); keys = now (keys .entry); points = now (points .entry); path = now (path .entry) })
         (judged r
-        (lists (now (displacement .exit)) (now (spacing .exit)) (now (relative .exit)))
-        (work (now (stations .exit)) (now (index .exit)) (now (spare .exit)) (now (keys .exit)) (now (points .exit)) (now (path .exit)))) ⌝ }
+        (record { displacement = now (displacement .exit); spacing = now (spacing .exit); relative = now (relative .exit) })
+        (record { stations = now (stations .exit); index = now (index .exit); spare = now (spare .exit); keys = now (keys .exit); points = now (points .exit); path = now (path .exit) })) ⌝ }
 {
     let a = tx_layout_quality(
         displacement,

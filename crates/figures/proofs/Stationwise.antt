@@ -24,7 +24,7 @@ use Rattle.units.specs.Unit.{coordinates}
 use Rattle.units.proofs.Near.{nearest-take}
 use Rattle.order.specs.Over.{over}
 use Rattle.placement.specs.Place.{noBox, boxIn}
-use Rattle.placement.proofs.Rest.{onward, onward-yes, onward-end}
+use Rattle.free_places.proofs.Rest.{onward, onward-yes, onward-end}
 use Rattle.figures.specs.Figure.{middle, middles, displacements, shorter, bySides, spacingsFrom, spacings}
 
 -- ---- what is left of a list over the occupied stations

@@ -7,10 +7,10 @@ use lib.Dec.{eqb}
 use lib.ListN.{length}
 use borrow.Author.Tests.{ltb-false, ne-eqb}
 use Rattle.network.specs.Words.{stationCount}
-use Rattle.network.specs.Refusal.{refuse, shapeRefusal, tooFar}
-use Rattle.network.proofs.Shapes.{shape-fits, neither}
-use Rattle.box_tree.specs.Length.{indexLength}
-use Rattle.box_tree.proofs.Lengths.{index-least}
+use Rattle.refusals.specs.Refusal.{refuse, shapeRefusal, tooFar}
+use Rattle.refusals.proofs.Shapes.{shape-fits, neither}
+use Rattle.box_cells.specs.Length.{indexLength}
+use Rattle.box_cells.proofs.Lengths.{index-least}
 use Rattle.findings.specs.declared.room.Room.{Room}
 use Rattle.findings.specs.Drawn.{Drawn}
 use Rattle.findings.specs.Answer.{tooShort}

@@ -18,7 +18,8 @@ use Rattle.stretches.specs.Relative.{relatives}
 use Rattle.figures.proofs.Stationwise.{spacings-is}
 use Rattle.findings.specs.declared.answer.Figures.{Figures}
 use Rattle.through.specs.Through.{through}
-use Rattle.findings.specs.Drawn.{Drawn, lists}
+use Rattle.findings.specs.Drawn.{Drawn}
+use Rattle.findings.proofs.Lent.{lists}
 use Rattle.findings.specs.Answer.{boxesOf, stationsOf, figuresOf, listsOf, listsAfter, Figured}
 
 -- ---- the figures

@@ -17,7 +17,8 @@ use Rattle.fit.proofs.Testing.{all-finite}
 use Rattle.overlaps.specs.Stages.Sweep.{Finite}
 use Rattle.findings.specs.declared.answer.Figures.{Figures}
 use Rattle.findings.specs.declared.answer.Audit.the-variants.{Audited, Refused}
-use Rattle.findings.specs.Drawn.{Drawn, Lists, lists}
+use Rattle.findings.specs.Drawn.{Drawn, Lists}
+use Rattle.findings.proofs.Lent.{lists}
 use Rattle.findings.specs.Answer.{boxesOf, stationsOf, lateBy, late, figuresOf, listsOf, listsAfter, answerBy, Inner, Figured}
 
 -- ---- by the tests

@@ -4,3 +4,4 @@ pub mod Lates
 pub mod Figuring
 pub mod Accepted
 pub mod Number
+pub mod Lent

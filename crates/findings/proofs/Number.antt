@@ -5,7 +5,7 @@ use mathlib.Core.Bool.{Bool, true, false, not}
 use lib.Dec.{eqb}
 use lib.ListN.{length}
 use Rattle.network.specs.Words.{stationCount}
-use Rattle.network.specs.Refusal.{refuse, tooMany, kvUnlike, toUnlike, numberTooHigh, strayVoltage, shapeRefusal, tooFar}
+use Rattle.refusals.specs.Refusal.{refuse, tooMany, kvUnlike, toUnlike, numberTooHigh, strayVoltage, shapeRefusal, tooFar}
 use Rattle.fit.specs.Fit.{fits}
 use Rattle.fit.specs.Scale.{illDrawn}
 use Rattle.findings.specs.declared.answer.Figures.{Figures}

@@ -10,8 +10,8 @@ use Rattle.geometry.specs.declared.Box.{Box}
 use Rattle.network.specs.Words.{stationCount, busCounts, occupied}
 use Rattle.network.specs.Seed.{seeds}
 use Rattle.network.specs.Views.{boxesIn}
-use Rattle.network.specs.Refusal.{refuse, tooMany, kvUnlike, toUnlike, numberTooHigh, strayVoltage, shapeRefusal, tooFar}
-use Rattle.box_tree.specs.Length.{indexLength}
+use Rattle.refusals.specs.Refusal.{refuse, tooMany, kvUnlike, toUnlike, numberTooHigh, strayVoltage, shapeRefusal, tooFar}
+use Rattle.box_cells.specs.Length.{indexLength}
 use Rattle.runs.specs.Lists.{after}
 use Rattle.fit.specs.Fit.{fits}
 use Rattle.fit.specs.Scale.{illDrawn}
@@ -23,7 +23,7 @@ use Rattle.findings.specs.declared.answer.Figures.{Figures}
 use Rattle.findings.specs.declared.answer.Audit.{Audit}
 use Rattle.findings.specs.declared.answer.Audit.the-variants.{Audited, Refused}
 use Rattle.through.specs.Through.{through}
-use Rattle.findings.specs.Drawn.{Drawn, Lists, lists, Work, work, roomOf}
+use Rattle.findings.specs.Drawn.{Drawn, Lists, Work, roomOf}
 
 -- 01's number of an answer
 unfoldable pub numberOf : Audit → ℕ
@@ -79,10 +79,11 @@ auditNumber D R =
 
 unfoldable pub listsOf : Drawn → Lists
 listsOf D =
-    lists
-    (displacements (seeds (D .station) (D .xy)) (boxesOf D) (stationsOf D))
-    (spacings (boxesOf D) (stationsOf D))
-    (relatives (D .roles) (D .pieces) (D .branches))
+    record {
+      displacement = displacements (seeds (D .station) (D .xy)) (boxesOf D) (stationsOf D);
+      spacing = spacings (boxesOf D) (stationsOf D);
+      relative = relatives (D .roles) (D .pieces) (D .branches);
+    }
 
 unfoldable pub figuresOf : Drawn → Figures
 figuresOf D =
@@ -105,18 +106,23 @@ call a l w = record { answer = a; lists = l; work = w }
 
 -- A refusal changes no result list; result elements past the figures keep their old content.
 unfoldable pub listsAfter : ℕ → Lists → Lists → Lists
-listsAfter r F L = lists (after r (F .displacement) (L .displacement)) (after r (F .spacing) (L .spacing)) (after r (F .relative) (L .relative))
+listsAfter r F L = record {
+  displacement = after r (F .displacement) (L .displacement);
+  spacing = after r (F .spacing) (L .spacing);
+  relative = after r (F .relative) (L .relative);
+}
 
 -- After a call that isn't refused by 1 to 7 all work lists hold zeros.
 unfoldable pub cleared : Work → Work
 cleared W =
-    work
-    (replicate (length (W .stations)) 0)
-    (replicate (length (W .index)) 0)
-    (replicate (length (W .spare)) 0)
-    (replicate (length (W .keys)) 0)
-    (replicate (length (W .points)) f0)
-    (replicate (length (W .path)) f0)
+    record {
+      stations = replicate (length (W .stations)) 0;
+      index = replicate (length (W .index)) 0;
+      spare = replicate (length (W .spare)) 0;
+      keys = replicate (length (W .keys)) 0;
+      points = replicate (length (W .points)) f0;
+      path = replicate (length (W .path)) f0;
+    }
 
 unfoldable pub answerBy : ℕ → Figures → Audit
 answerBy zero f = Audited f

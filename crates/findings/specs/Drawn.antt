@@ -27,9 +27,6 @@ pub record Lists : Type 0 where
   pub spacing : List Float
   pub relative : List Float
 
-abbrev pub lists : List Float → List Float → List Float → Lists
-lists a b c = record { displacement = a; spacing = b; relative = c }
-
 -- the work lists
 pub record Work : Type 0 where
   pub stations : List ℕ
@@ -38,9 +35,6 @@ pub record Work : Type 0 where
   pub keys : List ℕ
   pub points : List Float
   pub path : List Float
-
-abbrev pub work : List ℕ → List ℕ → List ℕ → List ℕ → List Float → List Float → Work
-work a b c d e f = record { stations = a; index = b; spare = c; keys = d; points = e; path = f }
 
 -- the lengths of the lent lists
 abbrev pub roomOf : Lists → Work → Room

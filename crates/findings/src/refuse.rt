@@ -4,10 +4,10 @@ ghost use Prim.Native.Nat.{_≤_};
 ghost use Rattle.findings.specs.Drawn.{drawn};
 ghost use Rattle.findings.specs.Answer.{tooShort, early};
 use crate::room::Room;
-use box_tree::build::index_length;
-use network::refuse::shape_refusal;
-use network::refuse::too_far;
+use box_cells::build::index_length;
 use network::words::station_count;
+use refusals::shape_refusal;
+use refusals::too_far;
 
 // Whether a list is too short for n buses, k stations and p piece branch numbers.
 fn too_short(n: usize, k: usize, p: usize, room: Room) -> bool

@@ -5,7 +5,7 @@ ghost use lib.ListN.{length};
 ghost use Rattle.network.specs.Words.{stationCount, busCounts};
 ghost use Rattle.network.specs.Views.{countsIn};
 ghost use Rattle.overlaps.specs.Stages.Sweep.{Finite};
-ghost use Rattle.findings.specs.Drawn.{drawn, lists};
+ghost use Rattle.findings.specs.Drawn.{drawn};
 ghost use Rattle.findings.specs.Answer.{Figured};
 use crate::answer::Figures;
 use figures::figure::displacements;
@@ -15,7 +15,7 @@ use network::seed::seeds;
 use overlaps::count_overlaps;
 use stretches::relative::relative_lengths;
 use through::through::count_through;
-use units::unit::coordinates;
+use units::coordinates;
 
 // The figures of a drawing that isn't refused.
 pub fn figures_of(
@@ -44,7 +44,7 @@ pub fn figures_of(
     requires { ⌜ (k ≤ length (now displacement)) × (k ≤ length (now spacing)) × (length (now branches) ≤ length (now relative)) × (2 * length (now sub) ≤ length (now points)) × (2 * length (now sub) ≤ length (now path)) ⌝ }
     requires { ⌜ (length (now sub) ≤ length (now index)) × (length (now sub) ≤ length (now spare)) × (length (now sub) ≤ length (now keys)) ⌝ }
     ensures { λ r. ⌜ Figured (drawn (now (sub .entry)) (now (kv .entry)) (now (from .entry)) (now (to .entry)) (now (xy .entry)) (now (boxes .entry)) (now (roles .entry)) (now (pieces .entry)) (now (branches .entry)))
-        (lists (now (displacement .entry)) (now (spacing .entry)) (now (relative .entry))) r (lists (now (displacement .exit)) (now (spacing .exit)) (now (relative .exit))) ⌝ }
+        (record { displacement = now (displacement .entry); spacing = now (spacing .entry); relative = now (relative .entry) }) r (record { displacement = now (displacement .exit); spacing = now (spacing .exit); relative = now (relative .exit) }) ⌝ }
 {
     seeds(sub, xy, k, stations, points);
     displacements(k, stations, points, boxes, displacement);
@@ -57,8 +57,6 @@ pub fn figures_of(
         stations,
         boxes,
         index,
-        spare,
-        keys,
         sub,
         from,
         to,

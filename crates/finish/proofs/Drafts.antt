@@ -8,10 +8,10 @@ use lib.Dec.{ltb}
 use lib.ListN.{length}
 use lib.Ieee.{Float}
 use Rattle.geometry.specs.declared.Box.{Box}
-use Rattle.network.specs.declared.options.Options.{Options}
+use Rattle.options.specs.declared.Options.{Options}
 use Rattle.network.specs.Words.{kinds, occupied}
 use Rattle.network.specs.Views.{countsIn, boxesIn}
-use Rattle.units.specs.Stages.Views.{scalesIn}
+use Rattle.sizes.specs.Stages.Views.{scalesIn}
 use Rattle.bars.specs.Bar.{position}
 use Rattle.runs.specs.Run.{Piece, allPieces, role}
 use Rattle.runs.specs.Lists.{flat, pointNumbers, boxNumbers, barNumbers, pieceNumbers, after}
@@ -23,7 +23,8 @@ use Rattle.crossings.specs.Gap.{gapOf}
 use Rattle.drawing.specs.declared.answer.Answer.{Answer}
 use Rattle.drawing.specs.declared.answer.Answer.the-variants.{Refused}
 use Rattle.drawing.specs.declared.room.Room.{Room}
-use Rattle.drawing.specs.Network.{Network, Lists, lists}
+use Rattle.drawing.specs.Network.{Network, Lists}
+use Rattle.drawing.proofs.Lent.{lists}
 use Rattle.drawing.specs.Drawing.{measuresOf, drawing}
 use Rattle.drawing.specs.Answer.{lateBy, late, crossingRoom, listsOf, listsAfter, answerBy, answerFor}
 use Rattle.chart.specs.Stages.Charted.{routedLate, Charted}

@@ -5,7 +5,7 @@ ghost use lib.Dec.{ltb};
 ghost use lib.ListN.{length};
 ghost use Rattle.network.specs.Words.{occupied};
 ghost use Rattle.network.specs.Views.{countsIn, boxesIn};
-ghost use Rattle.box_tree.specs.Stages.Tree.{Indexed};
+ghost use Rattle.grid.specs.Stages.Cells.{Indexed};
 ghost use Rattle.drawing.specs.Network.{network};
 ghost use Rattle.drawing.specs.Answer.{crossingRoom};
 ghost use Rattle.chart.specs.Stages.Charted.{Charted};
@@ -15,10 +15,10 @@ use crossings::gap::gap_of;
 use drawing::late::late_of;
 use drawing::room::Room;
 use geometry::Box;
-use network::options::Options;
+use measures::Measures;
+use options::Options;
 use pieces::survey;
 use results::bounds::bounds_of;
-use units::Measures;
 
 // What a drawing answers beside its lists, and its late refusal, 0 for none.
 pub struct Draft {

@@ -6,8 +6,8 @@ ghost use Prim.Native.Nat.{_*_, _≤_};
 ghost use lib.ListN.{length};
 ghost use Rattle.network.specs.Words.{occupied};
 ghost use Rattle.network.specs.Views.{countsIn, boxesIn};
-ghost use Rattle.box_tree.specs.Stages.Tree.{Indexed};
-ghost use Rattle.drawing.specs.Network.{network, lists};
+ghost use Rattle.grid.specs.Stages.Cells.{Indexed};
+ghost use Rattle.drawing.specs.Network.{network};
 ghost use Rattle.drawing.specs.Drawing.{drawing};
 ghost use Rattle.drawing.specs.Answer.{crossingRoom, late};
 ghost use Rattle.chart.specs.Stages.Charted.{Charted};
@@ -19,12 +19,12 @@ use crossings::gap::gap_of;
 use drawing::answer::Answer;
 use drawing::answers::answer_of;
 use drawing::room::Room;
-use network::options::Options;
+use measures::Measures;
+use options::Options;
 use pieces::write_pieces;
 use results::buses::write_buses;
 use results::lists::write_roles;
 use results::lists::write_stations;
-use units::Measures;
 
 // Judges a drawing that nothing refuses so far, and writes it where nothing does.
 fn write(
@@ -62,7 +62,7 @@ fn write(
     requires { ⌜ Charted o (network (now sub) (now kv) (now from) (now to) (now service) (now xy) (now corners) (now twins)) k (crossingRoom room) (c .unit) (c .late) (now stations) (now buses) (now ends) (now blocks) (now places) (now frames) (now path) (now ways) ⌝ }
     requires { ⌜ Indexed (boxesIn k (now frames)) (occupied (countsIn k (now stations))) (now sorted) ⌝ }
     requires { ⌜ c .late ≡ 0 ⌝ }
-    ensures { λ r. ⌜ Drew o (network (now (sub .entry)) (now (kv .entry)) (now (from .entry)) (now (to .entry)) (now (service .entry)) (now (xy .entry)) (now (corners .entry)) (now (twins .entry))) (late (drawing o (network (now (sub .entry)) (now (kv .entry)) (now (from .entry)) (now (to .entry)) (now (service .entry)) (now (xy .entry)) (now (corners .entry)) (now (twins .entry)))) room) (lists (now (positions .entry)) (now (bars .entry)) (now (boxes .entry)) (now (scales .entry)) (now (roles .entry)) (now (pieces .entry)) (now (branches .entry))) r (lists (now (positions .exit)) (now (bars .exit)) (now (boxes .exit)) (now (scales .exit)) (now (roles .exit)) (now (pieces .exit)) (now (branches .exit))) ⌝ }
+    ensures { λ r. ⌜ Drew o (network (now (sub .entry)) (now (kv .entry)) (now (from .entry)) (now (to .entry)) (now (service .entry)) (now (xy .entry)) (now (corners .entry)) (now (twins .entry))) (late (drawing o (network (now (sub .entry)) (now (kv .entry)) (now (from .entry)) (now (to .entry)) (now (service .entry)) (now (xy .entry)) (now (corners .entry)) (now (twins .entry)))) room) (record { positions = now (positions .entry); bars = now (bars .entry); boxes = now (boxes .entry); scales = now (scales .entry); roles = now (roles .entry); pieces = now (pieces .entry); branches = now (branches .entry) }) r (record { positions = now (positions .exit); bars = now (bars .exit); boxes = now (boxes .exit); scales = now (scales .exit); roles = now (roles .exit); pieces = now (pieces .exit); branches = now (branches .exit) }) ⌝ }
 {
     let unit = c.unit;
     let gaps = o.gaps;
@@ -162,7 +162,7 @@ pub fn finish(
     requires { ⌜ (2 * length (now sub) ≤ length (now positions)) × (4 * length (now sub) ≤ length (now bars)) × (4 * k ≤ length (now boxes)) × (k ≤ length (now scales)) × (length (now from) ≤ length (now roles)) × (room .pieces ≡ length (now pieces)) × (room .branches ≡ length (now branches)) ⌝ }
     requires { ⌜ Charted o (network (now sub) (now kv) (now from) (now to) (now service) (now xy) (now corners) (now twins)) k (crossingRoom room) (c .unit) (c .late) (now stations) (now buses) (now ends) (now blocks) (now places) (now frames) (now path) (now ways) ⌝ }
     requires { ⌜ Indexed (boxesIn k (now frames)) (occupied (countsIn k (now stations))) (now sorted) ⌝ }
-    ensures { λ r. ⌜ Drew o (network (now (sub .entry)) (now (kv .entry)) (now (from .entry)) (now (to .entry)) (now (service .entry)) (now (xy .entry)) (now (corners .entry)) (now (twins .entry))) (late (drawing o (network (now (sub .entry)) (now (kv .entry)) (now (from .entry)) (now (to .entry)) (now (service .entry)) (now (xy .entry)) (now (corners .entry)) (now (twins .entry)))) room) (lists (now (positions .entry)) (now (bars .entry)) (now (boxes .entry)) (now (scales .entry)) (now (roles .entry)) (now (pieces .entry)) (now (branches .entry))) r (lists (now (positions .exit)) (now (bars .exit)) (now (boxes .exit)) (now (scales .exit)) (now (roles .exit)) (now (pieces .exit)) (now (branches .exit))) ⌝ }
+    ensures { λ r. ⌜ Drew o (network (now (sub .entry)) (now (kv .entry)) (now (from .entry)) (now (to .entry)) (now (service .entry)) (now (xy .entry)) (now (corners .entry)) (now (twins .entry))) (late (drawing o (network (now (sub .entry)) (now (kv .entry)) (now (from .entry)) (now (to .entry)) (now (service .entry)) (now (xy .entry)) (now (corners .entry)) (now (twins .entry)))) room) (record { positions = now (positions .entry); bars = now (bars .entry); boxes = now (boxes .entry); scales = now (scales .entry); roles = now (roles .entry); pieces = now (pieces .entry); branches = now (branches .entry) }) r (record { positions = now (positions .exit); bars = now (bars .exit); boxes = now (boxes .exit); scales = now (scales .exit); roles = now (roles .exit); pieces = now (pieces .exit); branches = now (branches .exit) }) ⌝ }
 {
     if c.late != 0 {
         return Answer::Refused(c.late);

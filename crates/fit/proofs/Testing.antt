@@ -13,7 +13,7 @@ use Rattle.float.specs.Ops.{f0}
 use Rattle.geometry.specs.declared.Box.{Box}
 use Rattle.network.specs.declared.words.Known.{Known}
 use Rattle.network.specs.Words.{stationCount}
-use Rattle.placement.specs.Sized.{largest, illSized}
+use Rattle.sized.specs.Sized.{largest, illSized}
 use Rattle.fit.specs.Fit.{isLine, endAt, isKnown, joins, allNamed, allJoin, moderate, allModerate, allOrdered, fits}
 use Rattle.fit.specs.Scale.{sizedEnds, illDrawn}
 use Rattle.fit.proofs.AllTo.{all-to-at}

@@ -7,7 +7,7 @@ use lib.ListN.{length, getD}
 use lib.Ieee.{Float, nan}
 use Rattle.float.specs.Ops.{f0}
 use Rattle.geometry.specs.declared.Box.{Box}
-use Rattle.placement.specs.Sized.{largest, sized, illSized}
+use Rattle.sized.specs.Sized.{largest, sized, illSized}
 use Rattle.order.specs.Order.{allTo}
 
 -- every piece end's coordinate divided by l is at most 2^40 in size

@@ -5,10 +5,10 @@ ghost use lib.ListN.{length};
 ghost use Rattle.network.specs.Words.{occupied};
 ghost use Rattle.network.specs.Views.{countsIn, boxesIn};
 ghost use Rattle.fit.specs.Scale.{sizedEnds, illDrawn};
-use placement::sized::any_occupied;
-use placement::sized::ill_sized;
-use placement::sized::largest;
-use placement::sized::sized;
+use sized::any_occupied;
+use sized::ill_sized;
+use sized::largest;
+use sized::sized;
 
 // Whether every piece end's coordinate divided by l is at most 2^40 in size.
 fn sized_ends(l: f64, pieces: &[f64]) -> bool

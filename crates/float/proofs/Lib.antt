@@ -1,5 +1,6 @@
 -- Laws that the functions' proofs use.
 pub mod Signs
+pub mod BySign
 pub mod Pack
 pub mod Rounding
 pub mod RoundLaws
@@ -29,3 +30,4 @@ pub mod DoubleOps
 pub mod DoubleKeys
 pub mod DoubleRange
 pub mod DoublePairs
+pub mod Ordered

@@ -1,20 +1,15 @@
--- Laws of the clip test and of the place on a segment: a piece hits a box just where each of the four tests, in the Rust's order, leaves
--- a part of it; a part that is left is not turned round; a place that `line_param` answers is held to 0..1. Assumes nothing.
-use mathlib.Core.Path.{_≡_, refl, ap, _∙_, subst}
-use Prim.Native.Nat.{ℕ}
-use native.Mathlib.Omega.{arith}
+-- Laws of the clip test: a piece hits a box just where each of the four tests, in the Rust's order, leaves a part of it; a part that is left
+-- is not turned round. Assumes nothing.
+use mathlib.Core.Path.{_≡_, refl, ap, _∙_}
 use mathlib.Core.Bool.{Bool, true, false, cond, _&&_}
 use lib.Ieee.{Float, lt, eq, neg, ofBits}
-use Rattle.float.specs.Small.{maxOf, minOf, clampOf}
+use Rattle.float.specs.Small.{maxOf, minOf}
 use Rattle.float.specs.Ops.{_⊖_, _⊘_, f0, f1}
 use Rattle.geometry.specs.declared.Point.{Point}
 use Rattle.geometry.specs.declared.Box.{Box}
 use Rattle.geometry.specs.declared.Clip.{Clip}
 use Rattle.geometry.specs.declared.Clip.the-variants.{Miss, Part}
-use Rattle.geometry.specs.declared.Param.{Param}
-use Rattle.geometry.specs.declared.Param.the-variants.{At, Parallel}
 use Rattle.geometry.specs.Clip.{part, cut, clipBy, met, clipped, hits}
-use Rattle.geometry.specs.Cross.{parallel, param, placeOr}
 
 -- what is left after one more test was left before it
 clip-met : (p q : Float) (c : Clip) → met (clipBy p q c) ≡ (met c && met (clipBy p q c))
@@ -77,26 +72,3 @@ clipped-straight p q b = clip-straight _ _ (top-test p q b) (clip-straight _ _ (
   where
     start : straight (Part f0 f1)
     start = refl
-
--- not below 0 and not above 1
-pub record InUnit (t : Float) : Type 0 where
-  pub low : lt t f0 ≡ false
-  pub high : lt f1 t ≡ false
-
-clamp-held : (x : Float) → InUnit (clampOf x f0 f1)
-unfolding clampOf lt ofBits
-clamp-held x = go (lt x f0) (lt f1 x) refl refl
-  where
-    go : (a b : Bool) → lt x f0 ≡ a → lt f1 x ≡ b → InUnit (cond a f0 (cond b f1 x))
-    go true b d e = record { low = refl; high = refl }
-    go false true d e = record { low = refl; high = refl }
-    go false false d e = record { low = d; high = e }
-
--- a place that is answered is held to 0..1
-pub place-held : (p q u w : Point) (t : Float) → param p q u w ≡ At t → InUnit t
-unfolding param placeOr
-place-held p q u w t = go (parallel _ _ _) _
-  where
-    go : (b : Bool) (x : Float) → cond b Parallel (At (clampOf x f0 f1)) ≡ At t → InUnit t
-    go true x h = let z : _≡_ {A = ℕ} 0 1 = cc in let y : ⊥ = omega arith in absurd y
-    go false x h = subst InUnit (ap (λ (y : Param). placeOr y f0) h) (clamp-held x)

@@ -1,5 +1,4 @@
 pub mod Plane
 pub mod Clip
 pub mod Entry
-pub mod Cross
 pub mod Cases

@@ -1,7 +1,7 @@
 // A call of layout with lists that are just long enough for 4,096 buses of one station, without branches and mesh.
 use drawing::answer::Answer;
 use layout::call::tx_schematic_layout;
-use network::options::Options;
+use options::Options;
 
 // The answer's number, 0 for a drawing.
 fn number(a: Answer) -> u32 {

@@ -5,8 +5,8 @@ mod call;
 
 use call::number_of;
 use libc::STDOUT_FILENO;
-use network::options::Gaps;
-use network::options::Options;
+use options::Gaps;
+use options::Options;
 
 // The answer's number of n buses of one station at (0, 0).
 fn of_buses(n: usize) -> u32 {

@@ -4,13 +4,13 @@ use mathlib.Core.Path.{_≡_}
 use mathlib.Core.Bool.{cond}
 use mathlib.Core.List.{List, []}
 use lib.Ieee.{Float, binary64, ofBits}
-use Rattle.network.specs.declared.options.Options.{Options}
-use Rattle.network.specs.Options.{defaults}
+use Rattle.options.specs.declared.Options.{Options}
+use Rattle.options.specs.Options.{defaults}
 use Rattle.drawing.specs.declared.answer.Answer.{Answer}
 use Rattle.drawing.specs.declared.answer.Answer.the-variants.{Drawn, Refused}
-use Rattle.drawing.specs.Network.{Network, network, Lists, lists}
+use Rattle.drawing.specs.Network.{Network, network, Lists}
 use Rattle.drawing.specs.Answer.{Call}
-use Rattle.small.specs.Held.{zeroNumbers, zeros, heldCall}
+use Rattle.small.specs.Small.{zeroNumbers, zeros, heldCall}
 use Rattle.listing.specs.Input.{Input, parsed}
 use Rattle.listing.specs.LinePlaces.{answer, numberOf}
 use Rattle.listing.specs.Output.{listing, refusal}
@@ -33,7 +33,15 @@ listOptions =
 
 -- the lists that it lends, long enough for 64 buses and 64 branches, whose runs have three pieces at most
 abbrev pub resultLists : Lists
-resultLists = lists (zeros 128) (zeros 256) (zeros 256) (zeros 64) (zeroNumbers 64) (zeros 768) (zeroNumbers 192)
+resultLists = record {
+  positions = zeros 128;
+  bars = zeros 256;
+  boxes = zeros 256;
+  scales = zeros 64;
+  roles = zeroNumbers 64;
+  pieces = zeros 768;
+  branches = zeroNumbers 192;
+}
 
 -- the call of layout, with these result lists, room for 64 stations and none for crossings
 unfoldable pub plotted : Network → Lists → Call

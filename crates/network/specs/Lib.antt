@@ -1,5 +1,3 @@
-pub mod Options
 pub mod Words
 pub mod Views
 pub mod Seed
-pub mod Refusal

@@ -1,5 +1,3 @@
-// The network as it is lent: its options, its words (known buses, live branches, occupied stations), seeds and the refusals that the input alone decides.
-pub mod options;
-pub mod refuse;
+// The network as it is lent: its words (known buses, live branches, occupied stations) and seeds.
 pub mod seed;
 pub mod words;

@@ -1,4 +1,4 @@
 -- Laws that the functions' proofs and the crates above use.
 pub mod Rule
-pub mod Held
+pub mod Pairs
 pub mod Sizes

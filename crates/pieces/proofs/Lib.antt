@@ -5,4 +5,3 @@ pub mod Adding
 pub mod Leading
 pub mod Passes
 pub mod ArrayLent
-pub mod Again

@@ -20,7 +20,7 @@ use Rattle.network.specs.declared.words.Kind.the-variants.{Undrawn, Open, Inter
 use Rattle.network.specs.Words.{stationOf, known, kindFor, kindOf, kindAt, kinds, Safe}
 use Rattle.network.proofs.Branches.{kind-safe}
 use Rattle.network.specs.Views.{pointsIn}
-use Rattle.units.specs.declared.Measures.{Measures}
+use Rattle.measures.specs.declared.Measures.{Measures}
 use Rattle.runs.specs.Run.{Piece, apart, pieces, isLine, allPieces}
 use Rattle.runs.specs.Lists.{flat, pieceNumbers, after}
 use Rattle.order.specs.Over.{over}

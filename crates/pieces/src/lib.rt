@@ -16,8 +16,8 @@ use crate::lines::lead_lines;
 use float::small::abs;
 use geometry::Point;
 use geometry::point_at;
+use measures::Measures;
 use runs::run::run;
-use units::Measures;
 
 // Whether two points differ.
 fn apart(p: Point, q: Point) -> bool

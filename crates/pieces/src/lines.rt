@@ -6,12 +6,12 @@ ghost use Rattle.runs.specs.Stages.Views.{held, lead, Stands};
 ghost use Rattle.pieces.specs.Stages.Pieces.{FitAll, passIn, blockIn};
 ghost use Rattle.pieces.specs.Stages.Passes.{requestPieces, listPieces, Asks, AskAll, RoomFor, Passed};
 use crate::tally;
+use measures::Measures;
 use order::at;
 use requests::request::LineRequest;
 use requests::request::request_at;
 use requests::request::requests_from;
 use runs::run::run_line;
-use units::Measures;
 
 // Leads the line that a request asks for, counts its pieces from number `first` on, writes them where it is to write, and answers the number after the last.
 fn lead_line(

@@ -13,10 +13,11 @@ use Rattle.order.specs.Table.{tableFrom}
 use Rattle.geometry.specs.declared.Point.{Point}
 use Rattle.geometry.specs.Plane.{origin}
 use Rattle.proximity.specs.Overlap.{meet, overlap}
-use Rattle.network.specs.Options.{defaultGaps}
+use Rattle.options.specs.Options.{defaultGaps}
 use Rattle.offsets.specs.declared.offset.Offset.{Offset}
 use Rattle.offsets.specs.Offset.{offsetNumber, offsetOf, gridNumber, offsetGrid, offsets}
-use Rattle.placement.specs.Place.{frameFor, frames, boxOn, buffered, free, place, firstFree, placeFor, boxOf, nextPlace, placesTo, places}
+use Rattle.placement.specs.Place.{boxOf, nextPlace, placesTo, places}
+use Rattle.free_places.specs.Search.{frameFor, frames, boxOn, buffered, free, place, firstFree, placeFor}
 
 abbrev offset : ℤ → ℤ → Offset
 offset x y = record { a = x; b = y }

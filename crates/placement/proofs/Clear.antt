@@ -14,7 +14,7 @@ use Rattle.geometry.specs.declared.Point.{Point}
 use Rattle.geometry.specs.declared.Box.{Box}
 use Rattle.geometry.specs.Plane.{edge, shrunk}
 use Rattle.proximity.specs.Overlap.{meet, overlap}
-use Rattle.placement.specs.Place.{Frame, boxOn, buffered}
+use Rattle.free_places.specs.Search.{Frame, boxOn, buffered}
 use Rattle.placement.proofs.Rank.{rank, Number, Plus, lt-rank, add-up, sub-down, add-number, sub-number, finite-number}
 
 -- a finite float of the format

@@ -1,11 +1,6 @@
-pub mod Rest
-pub mod Sizing
-pub mod Searching
-pub mod Columns
 pub mod Placing
 pub mod PlaceLaw
 pub mod PlaceSizes
-pub mod SearchDoubles
 pub mod PlaceDoubles
 pub mod Cases
 pub mod Rank

@@ -24,9 +24,10 @@ use Rattle.proximity.specs.Overlap.{overlap}
 use Rattle.network.specs.Words.{isOccupied, occupied}
 use Rattle.network.specs.Seed.{placeAt}
 use Rattle.stations.specs.Column.{falling}
-use Rattle.units.specs.Size.{Size}
+use Rattle.sizes.specs.Size.{Size}
 use Rattle.offsets.specs.declared.offset.Offset.{Offset}
-use Rattle.placement.specs.Place.{Frame, frameAt, boxOn, boxOf, buffered, places, foundFree, noBox, boxes, boxIn}
+use Rattle.placement.specs.Place.{boxOf, places, foundFree, noBox, boxes, boxIn}
+use Rattle.free_places.specs.Search.{Frame, frameAt, boxOn, buffered}
 use Rattle.turns.specs.Turns.{topTo, placementOrder}
 use Rattle.turns.specs.Stages.Listed.{Turns}
 use Rattle.turns.proofs.Queue.{order-turns}

@@ -1,6 +1,6 @@
--- All stations' places and boxes in two drawings, the second one's seeds and frames doubled: every place and every box is the doubled one, and refusal 8 is the same. Assumes nothing.
-use mathlib.Core.Path.{_≡_, refl, sym, ap, _∙_, subst}
-use mathlib.Core.Bool.{Bool, true, false, not, _||_, cond}
+-- All stations' places and boxes in two drawings, the second one's seeds and frames doubled: every place and every box is the doubled one. Assumes nothing.
+use mathlib.Core.Path.{_≡_, sym, _∙_, subst}
+use mathlib.Core.Bool.{Bool, true, false, cond}
 use mathlib.Core.List.{List, [], _∷_, map}
 use Prim.Native.Nat.{ℕ, zero, suc, _+_, _-_, _*_, _/_, _%_, _≤_, _<_}
 use native.Mathlib.Nat.{le-refl, le-of-lt, lt-of-not-le, mod-lt}
@@ -10,12 +10,10 @@ use lib.IntN.{pos, negsuc, natAbs}
 use lib.Dec.{lit<}
 use lib.ListN.{length, getD, take, set, length-set, List·getD-eq-default}
 use lib.Seq.{getD-set-same, getD-set-other}
-use lib.Ieee.{Float, binary64, le, eq, minus, ofBits}
+use lib.Ieee.{minus}
 use borrow.Author.Tests.{le-leb, lt-leb}
-use Rattle.float.specs.Small.{absOf}
-use Rattle.float.specs.Ops.{f0}
-use Rattle.float.specs.Double.{Limit, Doubles}
-use Rattle.float.proofs.DoublePairs.{eq-of-doubles, div-of-doubles, widen-doubles, max-doubles, sub-doubles, zero-doubles}
+use Rattle.float.specs.Double.{Limit}
+use Rattle.float.proofs.DoublePairs.{widen-doubles, zero-doubles}
 use Rattle.order.specs.Order.{pick, sortBy}
 use Rattle.order.specs.Table.{table}
 use Rattle.order.proofs.Tables.{getD-table, length-table}
@@ -27,11 +25,11 @@ use Rattle.network.specs.Seed.{placeAt}
 use Rattle.units.specs.Doubles.{DoublesPoint, Paired}
 use Rattle.offsets.specs.declared.offset.Offset.{Offset}
 use Rattle.offsets.specs.Offset.{offsetOf, offsetGrid, offsets}
-use Rattle.placement.specs.Place.{Frame, frameAt, placeFor, boxOf, boxOn, nextPlace, placesTo, places, boxes, boxIn, noBox}
-use Rattle.placement.specs.Sized.{largerSide, largest, sized, sizedBox, allSized, illSized}
+use Rattle.placement.specs.Place.{boxOf, nextPlace, placesTo, places, boxes, boxIn, noBox}
+use Rattle.free_places.specs.Search.{Frame, frameAt, placeFor, boxOn}
 use Rattle.turns.specs.Stages.Listed.{Turns}
-use Rattle.placement.specs.Doubles.{DoublesBox, DoublesFrame, Small, Reach}
-use Rattle.placement.proofs.SearchDoubles.{box-doubles, search-doubles}
+use Rattle.free_places.specs.Doubles.{DoublesBox, DoublesFrame, Small, Reach}
+use Rattle.free_places.proofs.SearchDoubles.{box-doubles, search-doubles}
 
 -- ---- offsets are at most 20 either way
 minus-small : (a : ℕ) → a ≤ 40 → natAbs (minus a 20) ≤ 20
@@ -173,36 +171,3 @@ boxes-doubles {lo} {t} {u} fs fs' counts ps ps' F S l s = go (decLe (length coun
         subst (λ (b : Box). DoublesBox lo (t + u) b (getD (table (at fs' ps') (length counts)) s noBox)) (sym (getD-table (at fs ps) (length counts) s noBox h))
         (subst (λ (b : Box). DoublesBox lo (t + u) (at fs ps s) b) (sym (getD-table (at fs' ps') (length counts) s noBox h))
         (pick-box (isOccupied counts s) (boxOn (placeAt ps s) (frameAt fs s .half)) (boxOn (placeAt ps' s) (frameAt fs' s .half)) (box-doubles (placeAt ps s) (placeAt ps' s) (frameAt fs s .half) (frameAt fs' s .half) (S s) (F s .half) l)))
-
--- ---- refusal 8
-module _ {lo top : ℕ} (bs bs' : List Box) (B : (s : ℕ) → DoublesBox lo top (boxIn bs s) (boxIn bs' s)) (l : Limit (top + top)) where
-  largest-doubles : (x x' : Float) → Doubles lo (top + top) x x' → (ss : List ℕ) → Doubles lo (top + top) (largest bs x ss) (largest bs' x' ss)
-  unfolding largest
-  largest-doubles x x' h [] = h
-  largest-doubles x x' h (s ∷ ss) =
-      let b = B s in
-      largest-doubles (largerSide x (boxIn bs s)) (largerSide x' (boxIn bs' s)) (max-doubles (max-doubles h (sub-doubles (b .right) (b .left) l)) (sub-doubles (b .bottom) (b .top-side) l)) ss
-
-  sized-of-doubles : {i j t u : ℕ} (x x' c c' : Float) → Doubles i t x x' → Doubles j u c c' → sized x' c' ≡ sized x c
-  unfolding sized
-  sized-of-doubles x x' c c' h k = ap (λ (q : Float). le (absOf q) (ofBits binary64 0x4270_0000_0000_0000)) (div-of-doubles k h)
-
-  all-sized-of-doubles : {i t : ℕ} (x x' : Float) → Doubles i t x x' → (ss : List ℕ) → allSized bs' x' ss ≡ allSized bs x ss
-  unfolding allSized sizedBox
-  all-sized-of-doubles x x' h [] = refl
-  all-sized-of-doubles x x' h (s ∷ ss) =
-      let b = B s in
-      let p = sized-of-doubles x x' (boxIn bs s .left) (boxIn bs' s .left) h (b .left) in
-      let q = sized-of-doubles x x' (boxIn bs s .top) (boxIn bs' s .top) h (b .top-side) in
-      let r = sized-of-doubles x x' (boxIn bs s .right) (boxIn bs' s .right) h (b .right) in
-      let z = sized-of-doubles x x' (boxIn bs s .bottom) (boxIn bs' s .bottom) h (b .bottom) in
-      let e = all-sized-of-doubles x x' h ss in
-      cc (p, q, r, z, e)
-
-  pub ill-sized-of-doubles : (ss : List ℕ) → illSized bs' ss ≡ illSized bs ss
-  unfolding illSized
-  ill-sized-of-doubles [] = refl
-  ill-sized-of-doubles (s ∷ ss) =
-      let h = largest-doubles f0 f0 (zero-doubles lo (top + top)) (s ∷ ss) in
-      ap (λ (b : Bool). b || not (allSized bs' (largest bs' f0 (s ∷ ss)) (s ∷ ss))) (eq-of-doubles h (zero-doubles lo (top + top)))
-      ∙ ap (λ (b : Bool). eq (largest bs f0 (s ∷ ss)) f0 || not b) (all-sized-of-doubles (largest bs f0 (s ∷ ss)) (largest bs' f0 (s ∷ ss)) h (s ∷ ss))

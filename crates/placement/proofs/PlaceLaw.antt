@@ -21,8 +21,9 @@ use Rattle.geometry.specs.Plane.{origin}
 use Rattle.proximity.specs.Overlap.{overlap}
 use Rattle.network.specs.Seed.{placeAt}
 use Rattle.offsets.specs.declared.offset.Offset.{Offset}
-use Rattle.placement.specs.declared.search.Found.the-variants.{At}
-use Rattle.placement.specs.Place.{Frame, free, buffered, place, tries, FirstOf, firstFree, orNext, placeFor, boxOn, frameAt, boxOf, nextPlace, placesTo, places, foundFree}
+use Rattle.free_places.specs.declared.Found.the-variants.{At}
+use Rattle.placement.specs.Place.{boxOf, nextPlace, placesTo, places, foundFree}
+use Rattle.free_places.specs.Search.{Frame, free, buffered, place, tries, FirstOf, firstFree, orNext, placeFor, boxOn, frameAt}
 use Rattle.turns.specs.Stages.Listed.{Turns}
 use Rattle.order.proofs.Sorting.{map-agree}
 use Rattle.placement.proofs.Placing.{all-of}

@@ -16,17 +16,18 @@ use Rattle.order.specs.Order.{pick}
 use Rattle.geometry.specs.declared.Point.{Point}
 use Rattle.geometry.specs.declared.Box.{Box}
 use Rattle.geometry.specs.Plane.{origin}
-use Rattle.geometry.proofs.Crossing.{Near}
+use Rattle.geometry.proofs.PointSizes.{Near}
 use Rattle.network.specs.Words.{isOccupied}
 use Rattle.network.specs.Seed.{placeAt}
-use Rattle.units.specs.declared.Measures.{Measures}
-use Rattle.units.specs.Size.{Size, sizeAt, larger}
-use Rattle.units.proofs.SideSizes.{Sides, table-at}
+use Rattle.measures.specs.declared.Measures.{Measures}
+use Rattle.sizes.specs.Size.{Size, sizeAt, larger}
+use Rattle.sizes.proofs.SideSizes.{Sides, table-at}
 use Rattle.offsets.specs.declared.offset.Offset.{Offset}
 use Rattle.offsets.specs.Offset.{offsets}
 use Rattle.turns.specs.Stages.Listed.{Turns}
-use Rattle.placement.specs.declared.search.Found.the-variants.{At}
-use Rattle.placement.specs.Place.{Frame, frameFor, frames, frameAt, boxOn, buffered, free, place, firstFree, orNext, placeFor, boxOf, nextPlace, placesTo, places, noBox, boxes, boxIn}
+use Rattle.free_places.specs.declared.Found.the-variants.{At}
+use Rattle.placement.specs.Place.{boxOf, nextPlace, placesTo, places, noBox, boxes, boxIn}
+use Rattle.free_places.specs.Search.{Frame, frameFor, frames, frameAt, boxOn, buffered, free, place, firstFree, orNext, placeFor}
 use Rattle.placement.proofs.PlaceLaw.{waits}
 use Rattle.offsets.specs.Complete.{Within}
 use Rattle.offsets.proofs.OffsetLaw.{offsets-within}

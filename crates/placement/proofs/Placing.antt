@@ -29,16 +29,18 @@ use Rattle.network.specs.Words.{isOccupied}
 use Rattle.network.specs.Seed.{placeAt}
 use Rattle.network.specs.Views.{countsIn, orderIn, pointsIn, boxesIn}
 use Rattle.network.proofs.Views.{length-points, getD-points, points-set, box-same, box-other, boxes-zero, boxes-push}
-use Rattle.units.specs.declared.Measures.{Measures}
-use Rattle.units.specs.Size.{Size, sizeAt}
-use Rattle.units.specs.Stages.Views.{sizeIn, sizesIn, scalesIn}
-use Rattle.units.proofs.Occupied.{is-occupied, not-occupied}
+use Rattle.measures.specs.declared.Measures.{Measures}
+use Rattle.sizes.specs.Size.{Size, sizeAt}
+use Rattle.sizes.specs.Stages.Views.{sizeIn, sizesIn, scalesIn}
+use Rattle.sizes.proofs.Occupied.{is-occupied, not-occupied}
 use Rattle.offsets.specs.declared.offset.Offset.{Offset}
-use Rattle.placement.specs.Place.{Frame, frameFor, frames, frameAt, boxOn, boxOf, free, placeFor, nextPlace, placesTo, places, noBox, boxes}
-use Rattle.placement.specs.Stages.Views.{frameIn, framesIn, putBox, keptBoxes, Holds, PlacedAs}
+use Rattle.placement.specs.Place.{boxOf, nextPlace, placesTo, places, noBox, boxes}
+use Rattle.free_places.specs.Search.{Frame, frameFor, frames, frameAt, boxOn, free, placeFor}
+use Rattle.placement.specs.Stages.Views.{frameIn, framesIn, putBox, PlacedAs}
+use Rattle.free_places.specs.Stages.Among.{keptBoxes, Holds}
 use Rattle.turns.specs.Stages.Listed.{Turns}
 use Rattle.order.proofs.Sorting.{map-agree}
-use Rattle.placement.proofs.Searching.{free-count, place-same}
+use Rattle.free_places.proofs.Searching.{free-count, place-same}
 
 pub all-of : (P : ℕ → Type 0) (l : List ℕ) → ((i : ℕ) → i < length l → P (getD l i 0)) → All P l
 all-of P [] h = tt

@@ -1,4 +1,2 @@
 pub mod Place
-pub mod Sized
-pub mod Doubles
 pub mod Stages

@@ -1,3 +1,2 @@
-// Placement: the first free place of each station, boxes and refusal 8.
+// Placement: the first free place of each station, and boxes.
 pub mod search;
-pub mod sized;

@@ -5,16 +5,16 @@ ghost use lib.ListN.{length};
 ghost use Rattle.network.specs.Words.{stationCount, busCounts};
 ghost use Rattle.network.specs.Views.{countsIn, pointsIn};
 ghost use Rattle.plan.specs.Stages.Plan.{Interiors, Settled};
-use network::options::Options;
+use measures::Measures;
+use measures::units;
 use network::seed::seeds;
 use network::words::bus_counts;
+use options::Options;
 use placement::search::place_by_table;
 use placement::search::station_boxes;
 use stations::columns::columns;
 use stations::rows::rows;
 use turns::turns::placement_order;
-use units::Measures;
-use units::units;
 
 // Bus counts, seeds, columns, rows, sizes and scales of k stations; answers the unit.
 pub fn interiors(

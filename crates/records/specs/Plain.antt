@@ -1,7 +1,7 @@
 -- What crosses to C and Rust: 01's number of an answer and the numbers beside the lists. Definitions only.
 use mathlib.Core.Path.{_≡_}
 use Rattle.float.specs.Ops.{f0}
-use Rattle.network.specs.declared.options.Options.{Options}
+use Rattle.options.specs.declared.Options.{Options}
 use Rattle.drawing.specs.declared.answer.Answer.{Answer}
 use Rattle.drawing.specs.declared.answer.Answer.the-variants as Layouts
 use Rattle.drawing.specs.Network as Network

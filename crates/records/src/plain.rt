@@ -3,8 +3,8 @@ ghost use mathlib.Core.Path.{_≡_};
 ghost use Rattle.records.specs.Plain.{optionsOf, plotted, audited};
 use drawing::answer::Answer;
 use findings::answer::Audit;
-use network::options::Gaps;
-use network::options::Options;
+use options::Gaps;
+use options::Options;
 
 // The options of a drawing (crate `network`).
 #[repr(C)]

@@ -24,8 +24,8 @@ use crate::words::u32_at;
 use crate::words::word_at;
 use drawing::answer::Answer;
 use drawing::answer::Plot;
-use network::options::Options;
-use small::held::draw_small;
+use options::Options;
+use small::draw::draw_small;
 
 fn options(w: &[u64]) -> Options {
     let d = Options::default();

@@ -15,7 +15,7 @@ use Rattle.geometry.specs.declared.Point.{Point}
 use Rattle.network.specs.declared.words.Kind.{Kind}
 use Rattle.network.specs.declared.words.Kind.the-variants.{Undrawn, Open, Internal, Line}
 use Rattle.network.specs.Words.{stationOf, kindOf}
-use Rattle.units.specs.declared.Measures.{Measures}
+use Rattle.measures.specs.declared.Measures.{Measures}
 use Rattle.runs.specs.Stages.Views.{slotOf, firstExit, secondExit}
 use Rattle.requests.specs.declared.request.LineRequest.{LineRequest}
 use Rattle.requests.specs.Stages.Requests.{Lists, nothingAt, lineRequest, requestOf, FilledTo}

@@ -5,6 +5,7 @@ ghost use lib.ListN.{length, getD};
 ghost use Rattle.network.specs.Words.{kindOf};
 ghost use Rattle.requests.specs.Stages.Requests.{nothingAt, lineRequest, requestOf, lists, FilledTo};
 use geometry::Point;
+use measures::Measures;
 use network::words::Kind;
 use network::words::kind_of;
 use network::words::station_of;
@@ -12,7 +13,6 @@ use order::at;
 use runs::run::first_exit;
 use runs::run::second_exit;
 use runs::run::slot_of;
-use units::Measures;
 
 // What a line asks for: its branch, its two stations, and its slot and exit at each end. The two stations are one where the branch is no line.
 pub struct LineRequest {

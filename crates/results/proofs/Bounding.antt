@@ -14,7 +14,7 @@ use Rattle.network.specs.Words.{occupied}
 use Rattle.network.specs.Views.{countsIn, boxesIn}
 use Rattle.network.proofs.Views.{getD-boxes}
 use Rattle.placement.specs.Place.{noBox}
-use Rattle.placement.proofs.Rest.{onward, onward-start, onward-yes, onward-no, onward-end}
+use Rattle.free_places.proofs.Rest.{onward, onward-start, onward-yes, onward-no, onward-end}
 use Rattle.results.specs.Bounds.{around, aroundAll, nowhere, boundsOf}
 
 -- ---- the box around the occupied stations' boxes

@@ -12,7 +12,7 @@ use Rattle.geometry.specs.declared.Box.{Box}
 use Rattle.geometry.specs.Plane.{boxAt}
 use Rattle.network.specs.Words.{stationOf}
 use Rattle.network.specs.Views.{boxesIn}
-use Rattle.units.specs.declared.Measures.{Measures}
+use Rattle.measures.specs.declared.Measures.{Measures}
 use Rattle.bars.specs.declared.Bar.{Bar}
 use Rattle.bars.specs.Bar.{position}
 use Rattle.runs.specs.Stages.Views.{barOf}

@@ -7,10 +7,10 @@ ghost use Rattle.runs.specs.Lists.{flat, pointNumbers, barNumbers, after};
 ghost use Rattle.results.specs.Stages.Bars.{barsIn};
 use crate::lists::put_numbers;
 use bars::position;
+use measures::Measures;
 use network::seed::put_point;
 use network::words::station_of;
 use runs::run::bar_of;
-use units::Measures;
 
 // The buses' positions and bars, unless the layout was refused with l.
 pub fn write_buses(

@@ -16,7 +16,8 @@ use Rattle.float.proofs.Keys.{plus}
 use Rattle.float.proofs.SizeLaws.{most-lit}
 use Rattle.order.proofs.Laws.{All}
 use Rattle.order.proofs.Merging.{le-or-lt}
-use Rattle.geometry.proofs.Crossing.{Near, place-most}
+use Rattle.crossing.proofs.Crossing.{place-most}
+use Rattle.geometry.proofs.PointSizes.{Near}
 use Rattle.channel.proofs.SpaceSizes.{Ready}
 use Rattle.channel.proofs.Crossed.{Stands, crossed-ready, crossed-ready-back}
 use Rattle.mesh.specs.Mesh.{next, at, endAt, lowAt, highAt}

@@ -9,10 +9,10 @@ use lib.Ieee.{Float}
 use Rattle.order.specs.Table.{table}
 use Rattle.order.proofs.Tables.{table-ext}
 use Rattle.network.specs.Views.{pointsIn}
-use Rattle.units.specs.declared.Measures.{Measures}
+use Rattle.measures.specs.declared.Measures.{Measures}
 use Rattle.crossings.specs.Route.{Scene, Routing, pointOf, roundsTo, routing}
 use Rattle.crossings.specs.Stages.Views.{grid, sceneIn}
-use Rattle.wishes.specs.Stages.Held.{RoundLists, held, edgeIn, pointHeld, roundsIn, Cornered, Ranged, Ready, Entered}
+use Rattle.wishes.specs.Stages.RoundLists.{RoundLists, held, edgeIn, pointHeld, roundsIn, Cornered, Ranged, Ready, Entered}
 use Rattle.grouping.specs.Stages.Grouped.{Grouped}
 use Rattle.rounds.proofs.Meaning.{Means, point-is, rounds-are}
 use Rattle.rounds.proofs.Holding.{cornered, means, ready}

@@ -17,14 +17,14 @@ use Rattle.geometry.specs.Plane.{pointAt, boxAt}
 use Rattle.mesh.specs.Mesh.{next, endAt, lowAt, highAt, meshOk}
 use Rattle.mesh.proofs.Meshes.{mesh-sound, next-in}
 use Rattle.network.proofs.Views.{getD-boxes}
-use Rattle.units.specs.declared.Measures.{Measures}
+use Rattle.measures.specs.declared.Measures.{Measures}
 use Rattle.placement.specs.Place.{boxIn, noBox}
 use Rattle.crossings.specs.Route as Route
 use Rattle.crossings.specs.Route.{Scene, Routing, Keyed, Crossing, Path, noCrossing, noPath, routing, makeChannel, crossingAt, channelAt, pathAt, centreAt, stationAt, members}
 use Rattle.runs.specs.Stages.Views.{firstExit, secondExit}
 use Rattle.crossings.specs.Stages.Views.{Grid, grid, lineIn, linesIn, sceneIn, Edged, Stored}
 use Rattle.crossings.specs.Gap.{gapOf}
-use Rattle.wishes.specs.Stages.Held.{RoundLists, held, edgeIn, lowIn, highIn, stationIn, rangeIn, Cornered, Ranged, Ready}
+use Rattle.wishes.specs.Stages.RoundLists.{RoundLists, held, edgeIn, lowIn, highIn, stationIn, rangeIn, Cornered, Ranged, Ready}
 use Rattle.exits.specs.Stages.Exits.{exitsOf, exitsIn, Exited}
 use Rattle.grouping.specs.Stages.Grouped.{startIn, memberIn, Grouped}
 use Rattle.rounds.proofs.Routed.{Traced, routed}

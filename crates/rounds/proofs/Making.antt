@@ -11,7 +11,7 @@ use Rattle.order.proofs.Tables.{length-table}
 use Rattle.channel.specs.declared.Channel.{Channel}
 use Rattle.channel.specs.Space.{wishOrder, inOrder, spaced, putAll}
 use Rattle.channel.proofs.Spacing.{length-spaced, length-order, length-inOrder}
-use Rattle.wishes.specs.Stages.Held.{RoundLists, startHeld, wishIn, rangeAt, spaceBy, spaceIn, spacedIn, roundsIn}
+use Rattle.wishes.specs.Stages.RoundLists.{RoundLists, startHeld, wishIn, rangeAt, spaceBy, spaceIn, spacedIn, roundsIn}
 use Rattle.grouping.specs.Stages.Grouped.{memberIn}
 
 -- by its wishes, taken before any place changes

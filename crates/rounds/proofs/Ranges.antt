@@ -15,7 +15,7 @@ use Rattle.channel.specs.Channel.{channelOf}
 use Rattle.mesh.specs.Mesh.{lowAt, highAt}
 use Rattle.crossings.specs.Gap.{gapOf}
 use Rattle.order.proofs.Merging.{le-or-lt}
-use Rattle.wishes.specs.Stages.Held.{edgeIn, lowIn, highIn, stationIn, rangeIn, rangeAt, putRange, Boxed, Cornered, Ranged}
+use Rattle.wishes.specs.Stages.RoundLists.{edgeIn, lowIn, highIn, stationIn, rangeIn, rangeAt, putRange, Boxed, Cornered, Ranged}
 
 part-at : (l : List Float) (a n i : ℕ) → i < n → getD (take n (drop a l)) i nan ≡ getD l (a + i) nan
 part-at l a n i h = getD-take n (drop a l) i nan h ∙ getD-drop a l i nan

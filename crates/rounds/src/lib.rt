@@ -8,12 +8,12 @@ ghost use Rattle.order.specs.Table.{table, strided};
 ghost use Rattle.network.specs.Views.{pointsIn, fromRowsIn, toRowsIn};
 ghost use Rattle.crossings.specs.Route.{pointOf, roundsTo, routing};
 ghost use Rattle.crossings.specs.Stages.Views.{grid, sceneIn};
-ghost use Rattle.wishes.specs.Stages.Held.{Entered};
+ghost use Rattle.wishes.specs.Stages.RoundLists.{Entered};
 use crate::space::put_points;
 use crate::space::rounds;
 use crate::space::write_ranges;
 use grouping::group::group;
-use units::Measures;
+use measures::Measures;
 
 // Spaces all crossings of the routing that the lists hold, so many rounds, and puts their points into `ways`. The channels' ranges are written behind the mesh's points; `sorted`, `spare` and `keys` are work lists.
 pub fn space_all_rounds(

@@ -6,7 +6,7 @@ ghost use lib.ListN.{length, take, drop};
 ghost use Rattle.order.specs.Table.{table};
 ghost use Rattle.channel.specs.Space.{putAll};
 ghost use Rattle.network.specs.Views.{pointsIn};
-ghost use Rattle.wishes.specs.Stages.Held.{held, edgeIn, stationIn, pointIn, wishIn, rangeIn, rangeAt, putRange, Boxed, Cornered, Ranged, Ready, spaceIn, spacedIn, roundsIn};
+ghost use Rattle.wishes.specs.Stages.RoundLists.{held, edgeIn, stationIn, pointIn, wishIn, rangeIn, rangeAt, putRange, Boxed, Cornered, Ranged, Ready, spaceIn, spacedIn, roundsIn};
 ghost use Rattle.grouping.specs.Stages.Grouped.{startIn, memberIn};
 use channel::Channel;
 use channel::ends::channel;

@@ -18,10 +18,10 @@ use Rattle.geometry.specs.declared.Point.{Point}
 use Rattle.geometry.specs.Plane.{point, pointAt}
 use Rattle.mesh.specs.Mesh.{meshOk}
 use Rattle.mesh.proofs.Meshes.{mesh-sound}
-use Rattle.network.specs.Refusal.{refuse}
+use Rattle.refusals.specs.Refusal.{refuse}
 use Rattle.network.specs.Views.{fromRowsIn, toRowsIn, pointsIn}
 use Rattle.detour.specs.Stages.Paths.{pathIn}
-use Rattle.units.specs.declared.Measures.{Measures}
+use Rattle.measures.specs.declared.Measures.{Measures}
 use Rattle.runs.specs.Stages.Views.{wayOf, wayCount}
 use Rattle.crossings.specs.Route as Route
 use Rattle.crossings.specs.Route.{Scene, Path, noPath, pathAt, pointOf, routing, roundsTo, waypoints}
@@ -31,7 +31,7 @@ use Rattle.routing.specs.Stages.Traced.{Traced, Pathless, lined}
 use Rattle.routing.specs.declared.routes.Routed.{Routed}
 use Rattle.routing.proofs.Rows.{path-row}
 use Rattle.routing.proofs.Known.{routing-few}
-use Rattle.wishes.specs.Stages.Held.{stationIn, Entered}
+use Rattle.wishes.specs.Stages.RoundLists.{stationIn, Entered}
 use Rattle.exits.specs.Stages.Exits.{Exited}
 use Rattle.exits.proofs.Keeping.{line-same, exited-rows}
 use Rattle.routes.specs.Routes.{crossingsOf, routeRefusal}

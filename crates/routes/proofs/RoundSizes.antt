@@ -18,10 +18,11 @@ use Rattle.order.specs.Order.{upFrom}
 use Rattle.order.proofs.Laws.{All, all-map}
 use Rattle.order.proofs.Tables.{all-which, howMany-le, length-which}
 use Rattle.geometry.specs.declared.Point.{Point}
-use Rattle.geometry.specs.declared.Param.{Param}
-use Rattle.geometry.specs.declared.Param.the-variants.{At, Parallel}
-use Rattle.geometry.specs.Cross.{param, placeOr}
-use Rattle.geometry.proofs.Crossing.{Near, place-most}
+use Rattle.crossing.specs.declared.Param.{Param}
+use Rattle.crossing.specs.declared.Param.the-variants.{At, Parallel}
+use Rattle.crossing.specs.Cross.{param, placeOr}
+use Rattle.crossing.proofs.Crossing.{place-most}
+use Rattle.geometry.proofs.PointSizes.{Near}
 use Rattle.channel.specs.Space.{wishOrder, inOrder, spaced}
 use Rattle.channel.proofs.SpaceSizes.{put-most, ordered-most}
 use Rattle.detour.proofs.DetourSizes.{Points}

@@ -20,7 +20,7 @@ use Rattle.crossings.specs.Stages.Views.{Grid, lineIn, linesIn, sceneIn}
 use Rattle.crossings.specs.Stages.Store.{Rising}
 use Rattle.routing.specs.Stages.Traced.{Pathless}
 use Rattle.crossings.proofs.Occupied.{occupied-rises}
-use Rattle.wishes.specs.Stages.Held.{stationIn}
+use Rattle.wishes.specs.Stages.RoundLists.{stationIn}
 use Rattle.routes.specs.Routes.{meshUsed, meshFits}
 use Rattle.routes.specs.Stages.Routed.{routedIn, Routes}
 use Rattle.routes.specs.Stages.Led.{Led}

@@ -4,7 +4,7 @@ use mathlib.Core.Bool.{Bool, not, _&&_, _||_}
 use mathlib.Core.List.{List}
 use lib.Dec.{leb, ltb}
 use lib.Ieee.{Float}
-use Rattle.network.specs.Refusal.{refuse}
+use Rattle.refusals.specs.Refusal.{refuse}
 use Rattle.mesh.specs.Mesh.{meshOk}
 use Rattle.crossings.specs.Route.{Scene, routing, roundsTo}
 

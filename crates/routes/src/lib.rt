@@ -6,17 +6,17 @@ ghost use Rattle.mesh.specs.Mesh.{meshOk};
 ghost use Rattle.network.specs.Views.{orderIn};
 ghost use Rattle.crossings.specs.Stages.Store.{Rising};
 ghost use Rattle.crossings.specs.Stages.Views.{grid, sceneIn};
-ghost use Rattle.wishes.specs.Stages.Held.{stationIn};
+ghost use Rattle.wishes.specs.Stages.RoundLists.{stationIn};
 ghost use Rattle.exits.specs.Stages.Exits.{Exited};
 ghost use Rattle.routes.specs.Routes.{meshUsed};
 ghost use Rattle.routes.specs.Stages.Routed.{Routes};
 ghost use Rattle.routes.specs.Stages.Led.{Led};
 use crossings::corners::occupied_corners;
+use measures::Measures;
 use mesh::mesh_ok;
 use rounds::space_all_rounds;
 use routing::routes::clear_paths;
 use routing::routes::trace_all;
-use units::Measures;
 
 // Whether the mesh is looked at.
 fn mesh_used(stations: usize, iterations: u32) -> bool

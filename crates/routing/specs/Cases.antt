@@ -5,7 +5,7 @@ use mathlib.Core.List.{List, [], _∷_, map}
 use mathlib.Core.Option.{Option, none, some}
 use lib.Ieee.{Float, nan, binary64, ofBits, lt, sub, mul}
 use Rattle.geometry.specs.Plane.{point}
-use Rattle.geometry.specs.Cross.{orient, crosses}
+use Rattle.crossing.specs.Cross.{orient, crosses}
 use Rattle.mesh.specs.Mesh.{noTwin, next, endAt, lowAt, highAt}
 use Rattle.walk.specs.Trace.{crossesEdge, leave, outBy, passOn, traced}
 use Rattle.crossings.specs.Route.{Line, Scene, Keyed, Crossing, Path, Routing, vertexOf, numberOf, makeChannel, withChannel, crossingOf, cross, crossAll, addWalk, addBranch, tracedTo, routing}

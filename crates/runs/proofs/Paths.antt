@@ -21,7 +21,7 @@ use Rattle.detour.proofs.Shifting.{point-before, path-zero, path-more, path-con
 use Rattle.detour.proofs.Detours.{length-detour, led-short}
 use Rattle.network.specs.declared.words.Kind.{Kind}
 use Rattle.network.specs.declared.words.Kind.the-variants.{Undrawn, Open, Internal, Line}
-use Rattle.units.specs.declared.Measures.{Measures}
+use Rattle.measures.specs.declared.Measures.{Measures}
 use Rattle.runs.specs.Run.{isLine}
 use Rattle.runs.specs.Stages.Views.{Lead, RunLists, openFrom, internalFrom, ledIn, ledRun, lineFrom, runFrom, wayOf, wayCount, runIn, otherRun, Ran}
 

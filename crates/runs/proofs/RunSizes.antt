@@ -14,11 +14,11 @@ use Rattle.float.proofs.Each.{Each}
 use Rattle.order.specs.Table.{tableFrom}
 use Rattle.geometry.specs.declared.Point.{Point}
 use Rattle.geometry.specs.declared.Box.{Box}
-use Rattle.geometry.proofs.Crossing.{Near}
+use Rattle.geometry.proofs.PointSizes.{Near}
 use Rattle.network.specs.declared.words.Kind.{Kind}
 use Rattle.network.specs.declared.words.Kind.the-variants.{Undrawn, Open, Internal, Line}
 use Rattle.network.specs.Words.{kindAt, stationOf}
-use Rattle.units.proofs.SideSizes.{Narrow}
+use Rattle.sizes.proofs.SideSizes.{Narrow}
 use Rattle.placement.specs.Place.{boxIn}
 use Rattle.placement.proofs.PlaceSizes.{Edges}
 use Rattle.detour.specs.Detour.{detour}

@@ -11,7 +11,7 @@ use Rattle.order.specs.Order.{pick}
 use Rattle.order.specs.Table.{table, joined}
 use Rattle.geometry.specs.declared.Point.{Point}
 use Rattle.geometry.specs.declared.Box.{Box}
-use Rattle.network.specs.declared.options.Gaps.{Gaps}
+use Rattle.options.specs.declared.Gaps.{Gaps}
 use Rattle.network.specs.declared.words.Kind.{Kind}
 use Rattle.network.specs.declared.words.Kind.the-variants.{Undrawn, Open, Internal, Line}
 use Rattle.network.specs.Words.{kindAt, stationOf}

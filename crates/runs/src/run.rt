@@ -18,11 +18,11 @@ use geometry::Box;
 use geometry::Point;
 use geometry::number_at;
 use geometry::point_at;
+use measures::Measures;
 use network::words::Kind;
 use network::words::kind_of;
 use network::words::station_of;
 use order::at;
-use units::Measures;
 
 // The box s of a list of four numbers each.
 pub fn box_at(list: &[f64], s: usize) -> Box

@@ -7,12 +7,13 @@ use native.Mathlib.Omega.{arith}
 use lib.ListN.{take, drop, replicate}
 use lib.Ieee.{Float}
 use Rattle.float.specs.Ops.{f0}
-use Rattle.network.specs.declared.options.Options.{Options}
+use Rattle.options.specs.declared.Options.{Options}
 use Rattle.drawing.specs.declared.answer.Answer.{Answer}
-use Rattle.drawing.specs.Network.{Network, Lists, Work, work, Crossings, crossings}
+use Rattle.drawing.specs.Network.{Network, Lists, Work, Crossings, crossings}
+use Rattle.drawing.proofs.Lent.{work}
 use Rattle.drawing.specs.Answer.{Call, call, layoutOf}
 use Rattle.drawing.specs.Number.{Answered}
-use Rattle.small.specs.Held.{zeroNumbers, zeros, workLists, crossingLists, heldCall, SmallCall}
+use Rattle.small.specs.Small.{zeroNumbers, zeros, workLists, crossingLists, heldCall, SmallCall}
 
 take-replicate : {A : Type 0} (s n : ℕ) (x : A) → s ≤ n → take s (replicate n x) ≡ replicate s x
 take-replicate zero n x h = refl

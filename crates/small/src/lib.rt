@@ -1,2 +1,2 @@
 // Drawings of small networks.
-pub mod held;
+pub mod draw;

@@ -10,9 +10,9 @@ use Rattle.geometry.specs.declared.Box.{Box}
 use Rattle.network.specs.declared.words.Known.{Known}
 use Rattle.network.specs.declared.words.Known.the-variants.{Bus, Unknown}
 use Rattle.network.specs.Words.{stationOf}
-use Rattle.box_tree.specs.declared.first.FirstHit.{FirstHit}
-use Rattle.box_tree.specs.declared.first.FirstHit.the-variants.{Free, At}
-use Rattle.box_tree.specs.First.{firstHit}
+use Rattle.first_box.specs.declared.FirstHit.{FirstHit}
+use Rattle.first_box.specs.declared.FirstHit.the-variants.{Free, At}
+use Rattle.first_box.specs.First.{firstHit}
 use Rattle.fit.specs.Fit.{isLine, endAt}
 use Rattle.stretches.specs.Relative.{pieceStart, pieceEnd}
 

@@ -7,10 +7,10 @@ use Rattle.order.specs.Order.{upFrom, keep}
 use Rattle.order.specs.Table.{tableFrom}
 use Rattle.order.specs.Median.{medianOf, orElse}
 use Rattle.network.specs.declared.words.Kind.{Kind}
-use Rattle.network.specs.Options.{defaults}
+use Rattle.options.specs.Options.{defaults}
 use Rattle.network.specs.Words.{pastTo, stationCount, busCounts, occupied}
 use Rattle.network.specs.Seed.{seeds}
-use Rattle.units.specs.Size.{sizes, sides}
+use Rattle.sizes.specs.Size.{sizes, sides}
 use Rattle.units.specs.Unit.{coordinates, spacingOf, spacing, typical, unitFor}
 
 -- No buses: unit 0.45 with the defaults, 0.45 by its pattern.

@@ -1,25 +1,22 @@
--- Spacing and scales depend only on the points that they are said to be of, the first n of a list. Assumes nothing.
+-- Spacing depends only on the points that it is said to be of, the first n of a list. Assumes nothing.
 use mathlib.Core.Path.{_≡_, refl, sym, ap, _∙_}
-use mathlib.Core.Bool.{Bool, true, false, not, _&&_}
 use mathlib.Core.List.{List, _++_}
 use Prim.Native.Nat.{ℕ, zero, suc, _+_, _*_, _≤_, _<_}
 use native.Mathlib.Omega.{arith}
 use lib.Dec.{eqb}
 use lib.ListN.{length, getD, take, drop}
 use lib.Seq.{getD-take, take-at}
-use lib.Ieee.{Float, nan, lt, le}
-use Rattle.float.specs.Ops.{f0, f1, _⊗_}
+use lib.Ieee.{Float, nan}
+use Rattle.float.specs.Ops.{f1}
 use Rattle.order.specs.Order.{pick}
-use Rattle.order.specs.Table.{table, howMany}
+use Rattle.order.specs.Table.{table}
 use Rattle.order.specs.Median.{medianOf, orElse}
-use Rattle.order.proofs.Tables.{length-table, table-ext, howMany-ext, howMany-yes, howMany-mono, length-which}
+use Rattle.order.proofs.Tables.{length-table, table-ext}
 use Rattle.geometry.specs.declared.Point.{Point}
 use Rattle.geometry.specs.Plane.{point, pointAt}
-use Rattle.proximity.specs.Near.{distance, nearer, nearestTo, nearest, near, within, neighbours}
-use Rattle.network.specs.declared.options.Options.{Options}
-use Rattle.network.specs.Words.{isOccupied, occupied}
+use Rattle.proximity.specs.Near.{distance, nearer, nearestTo, nearest}
+use Rattle.network.specs.Words.{occupied}
 use Rattle.units.specs.Unit.{coordinates, spacingOf, spacing}
-use Rattle.units.specs.Scale.{tier, occupiedBelow, scaleAt, scalesOf, scales}
 
 -- the first n points of a list stand in its first 2 n numbers
 point-take : (n j : ℕ) (ps : List Float) → j < n → pointAt (take (2 * n) ps) j ≡ pointAt ps j
@@ -27,24 +24,11 @@ point-take n j ps h =
     ap (λ (a : Float). point a (getD (take (2 * n) ps) (2 * j + 1) nan)) (getD-take (2 * n) ps (2 * j) nan (omega arith))
     ∙ ap (λ (b : Float). point (getD ps (2 * j) nan) b) (getD-take (2 * n) ps (2 * j + 1) nan (omega arith))
 
--- whether a point is near depends on its distance only
-near-by : (ps qs : List Float) (reach : Float) (i j : ℕ) → distance (pointAt qs i) (pointAt qs j) ≡ distance (pointAt ps i) (pointAt ps j)
-    → near qs reach i j ≡ near ps reach i j
-unfolding near
-near-by ps qs reach i j e = ap (λ (d : Float). not (eqb j i) && le d reach) e
-
--- an occupied station has fewer occupied ones below it than there are
-pub occupied-below : (counts : List ℕ) (s : ℕ) → s < length counts → isOccupied counts s ≡ true → occupiedBelow counts s < length (occupied counts)
-unfolding occupied occupiedBelow
-occupied-below counts s h t =
-    let p : howMany (isOccupied counts) (suc s) ≤ howMany (isOccupied counts) (length counts) = howMany-mono (isOccupied counts) (suc s) (length counts) h in
-    rw length-which (rw (howMany-yes (isOccupied counts) s t) at p)
-
 module _ (ps : List Float) (n : ℕ) where
   abbrev qs : List Float
   qs = take (2 * n) ps
 
-  distance-take : (i j : ℕ) → i < n → j < n → distance (pointAt qs i) (pointAt qs j) ≡ distance (pointAt ps i) (pointAt ps j)
+  pub distance-take : (i j : ℕ) → i < n → j < n → distance (pointAt qs i) (pointAt qs j) ≡ distance (pointAt ps i) (pointAt ps j)
   distance-take i j h k = ap (λ (p : Point). distance p (pointAt qs j)) (point-take n i ps h) ∙ ap (distance (pointAt ps i)) (point-take n j ps k)
 
   nearestTo-take : (i j : ℕ) → i < n → j ≤ n → nearestTo qs i j ≡ nearestTo ps i j
@@ -60,35 +44,10 @@ module _ (ps : List Float) (n : ℕ) where
   unfolding nearest
   nearest-take i h = nearestTo-take i n h (omega arith)
 
-  neighbours-take : (reach : Float) (i : ℕ) → i < n → neighbours qs n reach i ≡ neighbours ps n reach i
-  unfolding neighbours within
-  neighbours-take reach i h = ap (λ (c : ℕ). pick (lt f0 reach) c 0) (howMany-ext (near qs reach i) (near ps reach i) n same)
-    where
-      same : (j : ℕ) → j < n → near qs reach i j ≡ near ps reach i j
-      same j k = near-by ps qs reach i j (distance-take i j h k)
-
   -- the spacing of the first n points
   pub spacing-take : spacingOf qs n ≡ spacingOf ps n
   unfolding spacingOf
   spacing-take = ap (λ (l : List Float). orElse (medianOf l) f1) (table-ext (nearest qs n) (nearest ps n) n nearest-take)
-
-  -- and the scales by them, where they are those of the occupied stations
-  module _ (O : Options) (counts : List ℕ) (e : n ≡ length (occupied counts)) where
-    scale-take : (reach : Float) (s : ℕ) → s < length counts → scaleAt O qs n reach counts s ≡ scaleAt O ps n reach counts s
-    unfolding scaleAt
-    scale-take reach s h = go (isOccupied counts s) refl
-      where
-        go : (b : Bool) → isOccupied counts s ≡ b
-            → pick b (tier O (neighbours qs n reach (occupiedBelow counts s))) f1 ≡ pick b (tier O (neighbours ps n reach (occupiedBelow counts s))) f1
-        go true t = ap (tier O) (neighbours-take reach (occupiedBelow counts s) (rw e (occupied-below counts s h t)))
-        go false t = refl
-
-    pub scales-take : (sp : Float) → scalesOf O qs n sp counts ≡ scalesOf O ps n sp counts
-    unfolding scalesOf
-    scales-take sp = table-ext (scaleAt O qs n reach counts) (scaleAt O ps n reach counts) (length counts) (scale-take reach)
-      where
-        reach : Float
-        reach = O .«tier_radius» ⊗ sp
 
 -- the spacing by a list that has the distances at its front
 pub spacing-of : (ps l out : List Float) (n : ℕ) (r : Float) → out ≡ table (nearest ps n) n ++ drop n l → r ≡ orElse (medianOf (take n out)) f1 → r ≡ spacingOf ps n
@@ -102,9 +61,3 @@ module _ (ps : List Float) (n : ℕ) (seeds : List Point) (counts : List ℕ) (e
   pub spacing-is : spacingOf ps n ≡ spacing seeds counts
   unfolding spacing
   spacing-is = sym (spacing-take ps n) ∙ ap (λ (l : List Float). spacingOf l n) t ∙ ap (spacingOf (coordinates seeds (occupied counts))) e
-
-  pub scales-is : (O : Options) (sp : Float) → scalesOf O ps n sp counts ≡ scales O seeds counts sp
-  unfolding scales
-  scales-is O sp =
-      sym (scales-take ps n O counts e sp) ∙ ap (λ (l : List Float). scalesOf O l n sp counts) t
-      ∙ ap (λ (m : ℕ). scalesOf O (coordinates seeds (occupied counts)) m sp counts) e

@@ -24,11 +24,11 @@ use Rattle.order.specs.Table.{tableFrom, table}
 use Rattle.order.specs.Median.{finiteOf, insertFloat, sortFloats, middle, medianOf, orElse}
 use Rattle.geometry.specs.declared.Point.{Point}
 use Rattle.geometry.specs.Plane.{pointAt}
-use Rattle.geometry.proofs.Crossing.{Near}
+use Rattle.geometry.proofs.PointSizes.{Near}
 use Rattle.proximity.specs.Near.{distance, nearer, nearestTo, nearest}
 use Rattle.network.specs.Seed.{placeAt}
 use Rattle.network.specs.Words.{occupied}
-use Rattle.units.specs.Size.{Size, sides}
+use Rattle.sizes.specs.Size.{Size, sides}
 use Rattle.units.specs.Unit.{coordinates, spacingOf, spacing, typical, unitFor}
 
 -- ---- a median has what every finite number of its list has

@@ -4,7 +4,7 @@ use Prim.Native.Nat.{ℕ}
 use mathlib.Core.List.{List, [], _∷_}
 use Rattle.float.specs.Double.{Doubles}
 use Rattle.geometry.specs.declared.Point.{Point}
-use Rattle.units.specs.Size.{Size}
+use Rattle.sizes.specs.Size.{Size}
 
 pub record DoublesPoint (lo top : ℕ) (p p' : Point) : Type 0 where
   pub x : Doubles lo top (p .x) (p' .x)

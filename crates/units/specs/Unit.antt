@@ -11,7 +11,7 @@ use Rattle.geometry.specs.declared.Point.{Point}
 use Rattle.proximity.specs.Near.{nearest}
 use Rattle.network.specs.Words.{occupied}
 use Rattle.network.specs.Seed.{placeAt}
-use Rattle.units.specs.Size.{Size, sides}
+use Rattle.sizes.specs.Size.{Size, sides}
 
 -- the seeds of these stations, two numbers each
 unfoldable pub coordinates : List Point → List ℕ → List Float

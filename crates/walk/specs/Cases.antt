@@ -5,7 +5,7 @@ use mathlib.Core.Bool.{true, false}
 use mathlib.Core.List.{List, [], _∷_, map}
 use lib.Ieee.{Float, binary64, ofBits, lt, sub, mul}
 use Rattle.geometry.specs.Plane.{pointAt}
-use Rattle.geometry.specs.Cross.{orient, crosses}
+use Rattle.crossing.specs.Cross.{orient, crosses}
 use Rattle.mesh.specs.Mesh.{noTwin, next, endAt}
 use Rattle.walk.specs.Round.{roundOf}
 use Rattle.walk.specs.Trace.{Walk, crossesEdge, leave, outBy, passOn, traced}

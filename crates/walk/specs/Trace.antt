@@ -6,7 +6,7 @@ use mathlib.Core.List.{List, [], _∷_, _++_}
 use lib.Dec.{eqb}
 use lib.ListN.{length, drop}
 use Rattle.geometry.specs.declared.Point.{Point}
-use Rattle.geometry.specs.Cross.{crosses}
+use Rattle.crossing.specs.Cross.{crosses}
 use Rattle.mesh.specs.Mesh.{next, noTwin, at, endAt}
 use Rattle.walk.specs.Round.{around}
 use Rattle.walk.specs.declared.Step.{Step}

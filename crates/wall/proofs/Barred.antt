@@ -11,7 +11,7 @@ use Rattle.order.specs.Order.{pick}
 use Rattle.order.proofs.Tables.{getD-table}
 use Rattle.geometry.specs.declared.Box.{Box}
 use Rattle.geometry.specs.Plane.{point, boxAt}
-use Rattle.network.specs.declared.options.Options.{Options}
+use Rattle.options.specs.declared.Options.{Options}
 use Rattle.network.specs.declared.words.Kind.{Kind}
 use Rattle.network.specs.Words.{stationOf}
 use Rattle.network.proofs.Stations.{station-below}

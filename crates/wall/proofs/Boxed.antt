@@ -20,13 +20,14 @@ use Rattle.network.specs.Words.{isOccupied, occupied}
 use Rattle.network.specs.Seed.{placeAt}
 use Rattle.stations.specs.Column.{falling}
 use Rattle.offsets.specs.declared.offset.Offset.{Offset}
-use Rattle.placement.specs.Place.{Frame, frameAt, boxOn, boxOf, buffered, free, placeFor, placesTo, places, foundFree}
+use Rattle.placement.specs.Place.{boxOf, placesTo, places, foundFree}
+use Rattle.free_places.specs.Search.{Frame, frameAt, boxOn, buffered, free, placeFor}
 use Rattle.turns.specs.Turns.{topTo, placementOrder}
 use Rattle.turns.specs.Stages.Listed.{Turns}
 use Rattle.order.proofs.Sorting.{map-agree}
 use Rattle.placement.proofs.Placing.{all-of}
 use Rattle.placement.proofs.PlaceLaw.{first-free-of}
-use Rattle.placement.specs.Place.{FirstOf, tries}
+use Rattle.free_places.specs.Search.{FirstOf, tries}
 
 -- an occupied station's number is one of a station
 pub below-count : (counts : List ℕ) (s : ℕ) → isOccupied counts s ≡ true → s < length counts

@@ -7,10 +7,10 @@ use lib.Dec.{T}
 use lib.ListN.{length}
 use lib.Ieee.Fits.{and-l, and-r}
 use Rattle.float.specs.Small.{isFinite}
-use Rattle.network.specs.declared.options.Options.{Options}
-use Rattle.network.specs.Options.{inRange}
+use Rattle.options.specs.declared.Options.{Options}
+use Rattle.options.specs.Options.{inRange}
 use Rattle.network.specs.Words.{stationCount}
-use Rattle.network.specs.Refusal.{refuse, shapeRefusal, tooFar}
+use Rattle.refusals.specs.Refusal.{refuse, shapeRefusal, tooFar}
 use Rattle.runs.specs.Finite.{allOf, finitePoint, finiteBox, finiteBar}
 use Rattle.drawing.specs.declared.answer.Plot.{Plot}
 use Rattle.drawing.specs.declared.answer.Answer.the-variants.{Drawn}

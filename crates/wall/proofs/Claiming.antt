@@ -7,12 +7,13 @@ use native.Mathlib.Omega.{arith}
 use lib.IntN.{ℤ}
 use lib.ListN.{length, take, drop}
 use lib.Ieee.{Float}
-use Rattle.network.specs.declared.options.Options.{Options}
+use Rattle.options.specs.declared.Options.{Options}
 use Rattle.network.specs.Words.{stationCount}
 use Rattle.drawing.specs.declared.answer.Plot.{Plot}
 use Rattle.drawing.specs.declared.answer.Answer.{Answer}
 use Rattle.drawing.specs.declared.answer.Answer.the-variants.{Drawn, Refused}
-use Rattle.drawing.specs.Network.{Network, Lists, Work, work, Crossings, crossings}
+use Rattle.drawing.specs.Network.{Network, Lists, Work, Crossings, crossings}
+use Rattle.drawing.proofs.Lent.{work}
 use Rattle.drawing.specs.Drawing.{Drawing, drawing}
 use Rattle.drawing.specs.Answer.{numberOf, roomOf, early, late, listsOf, listsAfter, answerBy, answerFor, Call, call, callLate, callEarly, layoutOf}
 use Rattle.runs.specs.Lists.{after}
@@ -23,6 +24,7 @@ use Rattle.findings.specs.declared.answer.Figures.{Figures}
 use Rattle.findings.specs.declared.answer.Audit.{Audit}
 use Rattle.findings.specs.declared.answer.Audit.the-variants as Audits
 use Rattle.findings.specs.Drawn as Lent
+use Rattle.findings.proofs.Lent as Placed
 use Rattle.findings.specs.Answer as Audited
 use Rattle.wall.specs.Wall.{auditParts, audited, Patterns}
 use Rattle.wall.specs.declared.answer.Checked.{Checked}
@@ -134,7 +136,7 @@ module _ (o : Options) (N : Network) (L : Lists) (W : Work) (X : Crossings) wher
   pub claim-both : Patterns N → (a : Answer) (l : Lists) (w : Work) (x : Crossings) → Answered o N L W X (call a l w x)
       → (A : Check)
       → A ≡ checkBy a (auditParts (N .station) (N .kv) (N .from) (N .to) (N .xy) (l .boxes) (l .roles) (l .pieces) (l .branches))
-      (Lent.lists (w .blocks) (w .frames) (x .ways)) (Lent.work (w .stations) (w .sorted) (w .spare) (w .keys) (w .places) (w .path))
+      (Placed.lists (w .blocks) (w .frames) (x .ways)) (Placed.work (w .stations) (w .sorted) (w .spare) (w .keys) (w .places) (w .path))
       → Claim o N L W X
       (both (A .answer) l
       (work (A .work .stations) (w .buses) (w .ends) (A .work .index) (A .work .spare) (A .work .keys) (A .work .points) (A .lists .displacement) (A .lists .spacing) (A .work .path))

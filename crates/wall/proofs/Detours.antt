@@ -10,11 +10,11 @@ use Rattle.float.specs.Ops.{f½, _⊗_}
 use Rattle.geometry.specs.declared.Point.{Point}
 use Rattle.geometry.specs.declared.Box.{Box}
 use Rattle.placement.specs.Place.{boxIn}
-use Rattle.box_tree.specs.declared.first.FirstHit.{FirstHit}
-use Rattle.box_tree.specs.declared.first.FirstHit.the-variants.{Free, At}
+use Rattle.first_box.specs.declared.FirstHit.{FirstHit}
+use Rattle.first_box.specs.declared.FirstHit.the-variants.{Free, At}
 use Rattle.detour.specs.declared.corner.Choice.{Choice}
 use Rattle.detour.specs.declared.corner.Choice.the-variants.{Nowhere, Over}
-use Rattle.box_tree.specs.First.{firstHit}
+use Rattle.first_box.specs.First.{firstHit}
 use Rattle.detour.specs.Detour.{cornersOf, costKey, clears, clearing, cheaper, cheapest, orElse, corner, detourOn, detourTo, detour}
 use Rattle.wall.proofs.Every.{Every}
 

@@ -19,13 +19,13 @@ use Rattle.order.specs.Median.{finiteOf, insertFloat, sortFloats, middle, media
 use Rattle.geometry.specs.declared.Point.{Point}
 use Rattle.geometry.specs.Plane.{pointAt}
 use Rattle.proximity.specs.Near.{distance, nearer, nearestTo, nearest, neighbours}
-use Rattle.network.specs.declared.options.Options.{Options}
-use Rattle.network.specs.Options.{between, gapFits}
+use Rattle.options.specs.declared.Options.{Options}
+use Rattle.options.specs.Options.{between, gapFits}
 use Rattle.network.specs.Words.{isOccupied, occupied}
-use Rattle.units.specs.Size.{Size, sizeAt}
+use Rattle.sizes.specs.Size.{Size, sizeAt}
 use Rattle.units.specs.Unit.{coordinates, spacingOf, spacing, typical, unitFor}
-use Rattle.units.specs.Scale.{tier, occupiedBelow, scaleAt, scalesOf, scales}
-use Rattle.placement.specs.Place.{Frame, frameAt, frameFor, frames}
+use Rattle.scales.specs.Scale.{tier, occupiedBelow, scaleAt, scalesOf, scales}
+use Rattle.free_places.specs.Search.{Frame, frameAt, frameFor, frames}
 use Rattle.placement.proofs.Clear.{Outward}
 use Rattle.drawing.specs.Drawing.{measuresOf}
 use Rattle.wall.proofs.Every.{Every, every-at, every-table}

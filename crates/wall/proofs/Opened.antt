@@ -15,9 +15,9 @@ use Rattle.order.specs.Order.{pick, upFrom}
 use Rattle.order.proofs.Tables.{length-table, getD-table}
 use Rattle.geometry.specs.declared.Point.{Point}
 use Rattle.geometry.specs.declared.Box.{Box}
-use Rattle.network.specs.declared.options.Gaps.{Gaps}
-use Rattle.network.specs.declared.options.Options.{Options}
-use Rattle.network.specs.Options.{searchOf}
+use Rattle.options.specs.declared.Gaps.{Gaps}
+use Rattle.options.specs.declared.Options.{Options}
+use Rattle.options.specs.Options.{searchOf}
 use Rattle.network.specs.declared.words.Kind.{Kind}
 use Rattle.network.specs.declared.words.Kind.the-variants.{Undrawn, Open, Internal, Line}
 use Rattle.network.specs.Words.{stationOf, busCounts, isOccupied, occupied, kinds, kindAt}
@@ -25,13 +25,14 @@ use Rattle.network.specs.Seed as Seed
 use Rattle.network.specs.Seed.{placeAt}
 use Rattle.stations.specs.Column as Column
 use Rattle.stations.specs.Row.{fromRow, toRow, fromRows, toRows}
-use Rattle.units.specs.Size as Sizes
-use Rattle.units.specs.Size.{Size}
+use Rattle.sizes.specs.Size as Sizes
+use Rattle.sizes.specs.Size.{Size}
 use Rattle.units.specs.Unit.{spacing, typical, unitFor}
-use Rattle.units.specs.Scale as Scale
+use Rattle.scales.specs.Scale as Scale
 use Rattle.offsets.specs.declared.offset.Offset.{Offset}
 use Rattle.offsets.specs.Offset as Offset
-use Rattle.placement.specs.Place.{Frame, frames, places, boxes, boxOf, boxOn, boxIn, noBox}
+use Rattle.placement.specs.Place.{places, boxes, boxOf, boxIn, noBox}
+use Rattle.free_places.specs.Search.{Frame, frames, boxOn}
 use Rattle.bars.specs.declared.Bar.{Bar}
 use Rattle.bars.specs.Bar as Bars
 use Rattle.bars.specs.Bar.{Span, bare, rows, reach, lengthened, barFor, barAt, position, rowEnd, barMiddle}

@@ -17,7 +17,7 @@ use Rattle.order.proofs.Strides.{is-table}
 use Rattle.geometry.specs.declared.Point.{Point}
 use Rattle.geometry.specs.declared.Box.{Box}
 use Rattle.geometry.specs.Plane.{point, origin, pointAt, boxAt}
-use Rattle.network.specs.declared.options.Options.{Options}
+use Rattle.options.specs.declared.Options.{Options}
 use Rattle.network.specs.declared.words.Kind.{Kind}
 use Rattle.network.specs.declared.words.Kind.the-variants.{Undrawn, Open, Internal, Line}
 use Rattle.network.specs.Words.{stationOf, stationCount, kindAt, Safe}
@@ -27,7 +27,8 @@ use Rattle.network.proofs.Branches.{kind-safe}
 use Rattle.stations.specs.Row.{fromRow, toRow, toRows}
 use Rattle.units.specs.Unit.{coordinates}
 use Rattle.offsets.specs.declared.offset.Offset.{Offset}
-use Rattle.placement.specs.Place.{Frame, placesTo, places, noBox}
+use Rattle.placement.specs.Place.{placesTo, places, noBox}
+use Rattle.free_places.specs.Search.{Frame}
 use Rattle.bars.specs.Exit as Exit
 use Rattle.bars.specs.Exit.{exitX}
 use Rattle.detour.specs.Detour.{detour}

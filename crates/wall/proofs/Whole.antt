@@ -23,9 +23,9 @@ use Rattle.geometry.specs.declared.Point.{Point}
 use Rattle.geometry.specs.declared.Box.{Box}
 use Rattle.geometry.specs.Plane.{boxAt, shrunk}
 use Rattle.proximity.specs.Overlap.{overlap}
-use Rattle.network.specs.declared.options.Gaps.{Gaps}
-use Rattle.network.specs.declared.options.Options.{Options}
-use Rattle.network.specs.Options.{inRange, between, searchFits, gapFits, gapsFit, searchOf}
+use Rattle.options.specs.declared.Gaps.{Gaps}
+use Rattle.options.specs.declared.Options.{Options}
+use Rattle.options.specs.Options.{inRange, between, searchFits, gapFits, gapsFit, searchOf}
 use Rattle.network.specs.declared.words.Known.the-variants.{Bus, Unknown}
 use Rattle.network.specs.declared.words.Kind.{Kind}
 use Rattle.network.specs.declared.words.Kind.the-variants.{Undrawn, Open, Internal, Line}
@@ -34,11 +34,12 @@ use Rattle.network.specs.Seed as Seed
 use Rattle.network.specs.Seed.{placeAt}
 use Rattle.network.proofs.Branches.{kind-safe}
 use Rattle.network.proofs.KindLaw.{kind-open, kind-internal, kind-line, kind-other}
-use Rattle.network.proofs.Shapes.{Shape, shape-fits}
+use Rattle.refusals.proofs.Shapes.{Shape, shape-fits}
 use Rattle.stations.specs.Row.{hasRow}
 use Rattle.stations.proofs.RowLaw.{rows-below, rows-differ, rows-fill}
 use Rattle.stations.proofs.RowOrder as Kept
-use Rattle.placement.specs.Place.{Frame, frameAt, boxOn, boxOf, boxIn, noBox, foundFree, free, buffered}
+use Rattle.placement.specs.Place.{boxOf, boxIn, noBox, foundFree}
+use Rattle.free_places.specs.Search.{Frame, frameAt, boxOn, free, buffered}
 use Rattle.turns.specs.Stages.Listed.{Turns}
 use Rattle.turns.proofs.Queue.{order-turns}
 use Rattle.order.proofs.Sorting.{map-agree}

@@ -3,11 +3,11 @@ use Prim.Native.Nat.{ℕ, _*_, _≤_, _<_}
 use mathlib.Core.Path.{_≡_}
 use mathlib.Core.Bool.{true}
 use lib.ListN.{length, getD}
-use Rattle.network.specs.declared.options.Options.{Options}
+use Rattle.options.specs.declared.Options.{Options}
 use Rattle.drawing.specs.declared.answer.Plot.{Plot}
 use Rattle.drawing.specs.declared.answer.Answer.{Answer}
 use Rattle.drawing.specs.declared.answer.Answer.the-variants.{Drawn, Refused}
-use Rattle.drawing.specs.Network.{Network, Lists, Work, work, Crossings, crossings}
+use Rattle.drawing.specs.Network.{Network, Lists, Work, Crossings, crossings}
 use Rattle.drawing.specs.Answer.{roomOf, Call, layoutOf}
 use Rattle.drawing.specs.Number.{layoutNumber}
 use Rattle.findings.specs.declared.answer.Figures.{Figures}
@@ -71,14 +71,36 @@ unfoldable pub checkAfter : Network → Call → Check
 checkAfter N C =
     checkBy (C .answer)
     (audited N (C .lists))
-    (Lent.lists (C .work .blocks) (C .work .frames) (C .crossings .ways))
-    (Lent.work (C .work .stations) (C .work .sorted) (C .work .spare) (C .work .keys) (C .work .places) (C .work .path))
+    (record {
+      displacement = C .work .blocks;
+      spacing = C .work .frames;
+      relative = C .crossings .ways;
+    })
+    (record {
+      stations = C .work .stations;
+      index = C .work .sorted;
+      spare = C .work .spare;
+      keys = C .work .keys;
+      points = C .work .places;
+      path = C .work .path;
+    })
 
 -- the answer, and the lists after both
 unfoldable pub bothAfter : Call → Check → Both
 bothAfter C A =
     both (A .answer) (C .lists)
-    (work (A .work .stations) (C .work .buses) (C .work .ends) (A .work .index) (A .work .spare) (A .work .keys) (A .work .points) (A .lists .displacement) (A .lists .spacing) (A .work .path))
+    (record {
+      stations = A .work .stations;
+      buses = C .work .buses;
+      ends = C .work .ends;
+      sorted = A .work .index;
+      spare = A .work .spare;
+      keys = A .work .keys;
+      places = A .work .points;
+      blocks = A .lists .displacement;
+      frames = A .lists .spacing;
+      path = A .work .path;
+    })
     (crossings (C .crossings .numbers) (C .crossings .places) (A .lists .relative))
 
 unfoldable pub drawAndAudit : Options → Network → Lists → Work → Crossings → Both

@@ -20,20 +20,20 @@ use Rattle.geometry.specs.declared.Box.{Box}
 use Rattle.geometry.specs.Plane.{point, pointAt, boxAt}
 use Rattle.mesh.specs.Mesh.{lowAt, highAt}
 use Rattle.walk.specs.Trace.{Walk, traced}
-use Rattle.network.specs.declared.options.Options.{Options}
-use Rattle.network.specs.Options.{searchOf}
+use Rattle.options.specs.declared.Options.{Options}
+use Rattle.options.specs.Options.{searchOf}
 use Rattle.network.specs.declared.words.Kind.{Kind}
 use Rattle.network.specs.declared.words.Kind.the-variants.{Undrawn, Open, Internal, Line}
 use Rattle.network.specs.Words.{stationOf, stationCount, busesIn, busCounts, occupied, kindOf, kinds}
 use Rattle.network.specs.Seed.{sumTo, mean, seeds, placeAt}
 use Rattle.stations.specs.Row.{rowsIn, row}
-use Rattle.units.specs.Size.{Size, sizes}
+use Rattle.sizes.specs.Size.{Size, sizes}
 use Rattle.units.specs.Unit.{coordinates, spacing, typical, unitFor}
-use Rattle.units.specs.Scale.{scales}
+use Rattle.scales.specs.Scale.{scales}
 use Rattle.offsets.specs.declared.offset.Offset.{Offset}
 use Rattle.offsets.specs.Complete.{Complete}
 use Rattle.offsets.specs.Offset.{offsets}
-use Rattle.placement.specs.Place.{Frame, boxOn, buffered, free, tries, FirstOf}
+use Rattle.free_places.specs.Search.{Frame, boxOn, buffered, free, tries, FirstOf}
 use Rattle.turns.specs.Turns.{placementOrder}
 use Rattle.detour.specs.Detour.{detour}
 use Rattle.runs.specs.Run.{Piece}

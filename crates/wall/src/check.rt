@@ -2,8 +2,7 @@
 ghost use mathlib.Core.Path.{_≡_};
 ghost use Prim.Native.Nat.{_*_, _≤_, min};
 ghost use lib.ListN.{length};
-ghost use Rattle.drawing.specs.Network.{network, lists, work, crossings};
-ghost use Rattle.findings.specs.Drawn as Lent;
+ghost use Rattle.drawing.specs.Network.{crossings};
 ghost use Rattle.findings.specs.Answer as Audited;
 ghost use Rattle.wall.specs.Wall.{auditParts};
 ghost use Rattle.wall.specs.Claim.{Holds, checkedBy, check, checkBy, both, Claim};
@@ -13,8 +12,8 @@ use drawing::answer::Answer;
 use drawing::answer::Plot;
 use findings::answer::Audit;
 use layout::call::tx_schematic_layout;
-use network::options::Options;
 use network::words::station_count;
+use options::Options;
 
 // The lesser of two lengths.
 fn shorter(n: usize, len: usize) -> usize
@@ -46,9 +45,9 @@ fn audit_drawing(
     branches: &[u32],
 ) -> Audit
     requires { ⌜ (4 * count ≤ length (now pieces)) × (count ≤ length (now branches)) ⌝ }
-    ensures { λ r. ⌜ Audited.call r (Lent.lists (now (displacement .exit)) (now (spacing .exit)) (now (relative .exit))) (Lent.work (now (stations .exit)) (now (index .exit)) (now (spare .exit)) (now (keys .exit)) (now (points .exit)) (now (path .exit)))
+    ensures { λ r. ⌜ Audited.call r (record { displacement = now (displacement .exit); spacing = now (spacing .exit); relative = now (relative .exit) }) (record { stations = now (stations .exit); index = now (index .exit); spare = now (spare .exit); keys = now (keys .exit); points = now (points .exit); path = now (path .exit) })
         ≡ Audited.auditOf (auditParts (now (sub .entry)) (now (kv .entry)) (now (from .entry)) (now (to .entry)) (now (xy .entry)) (now (boxes .entry)) (now (roles .entry)) (now (pieces .entry)) (now (branches .entry)) count)
-        (Lent.lists (now (displacement .entry)) (now (spacing .entry)) (now (relative .entry))) (Lent.work (now (stations .entry)) (now (index .entry)) (now (spare .entry)) (now (keys .entry)) (now (points .entry)) (now (path .entry))) ⌝ }
+        (record { displacement = now (displacement .entry); spacing = now (spacing .entry); relative = now (relative .entry) }) (record { stations = now (stations .entry); index = now (index .entry); spare = now (spare .entry); keys = now (keys .entry); points = now (points .entry); path = now (path .entry) }) ⌝ }
 {
     let k = station_count(sub);
     let b = shorter(4 * k, boxes.len());
@@ -108,9 +107,9 @@ fn audit_answer(
     branches: &[u32],
 ) -> Checked
     requires { ⌜ Holds a (length (now pieces)) (length (now branches)) ⌝ }
-    ensures { λ r. ⌜ check r (Lent.lists (now (displacement .exit)) (now (spacing .exit)) (now (relative .exit))) (Lent.work (now (stations .exit)) (now (index .exit)) (now (spare .exit)) (now (keys .exit)) (now (points .exit)) (now (path .exit)))
+    ensures { λ r. ⌜ check r (record { displacement = now (displacement .exit); spacing = now (spacing .exit); relative = now (relative .exit) }) (record { stations = now (stations .exit); index = now (index .exit); spare = now (spare .exit); keys = now (keys .exit); points = now (points .exit); path = now (path .exit) })
         ≡ checkBy a (auditParts (now (sub .entry)) (now (kv .entry)) (now (from .entry)) (now (to .entry)) (now (xy .entry)) (now (boxes .entry)) (now (roles .entry)) (now (pieces .entry)) (now (branches .entry)))
-        (Lent.lists (now (displacement .entry)) (now (spacing .entry)) (now (relative .entry))) (Lent.work (now (stations .entry)) (now (index .entry)) (now (spare .entry)) (now (keys .entry)) (now (points .entry)) (now (path .entry))) ⌝ }
+        (record { displacement = now (displacement .entry); spacing = now (spacing .entry); relative = now (relative .entry) }) (record { stations = now (stations .entry); index = now (index .entry); spare = now (spare .entry); keys = now (keys .entry); points = now (points .entry); path = now (path .entry) }) ⌝ }
 {
     match a {
         Answer::Drawn(p) => {
@@ -175,13 +174,13 @@ pub fn draw_and_audit(
     twins: &[u32],
 ) -> Checked
     ensures { λ r. ⌜ Claim o
-        (network (now (sub .entry)) (now (kv .entry)) (now (from .entry)) (now (to .entry)) (now (service .entry)) (now (xy .entry)) (now (corners .entry)) (now (twins .entry)))
-        (lists (now (positions .entry)) (now (bars .entry)) (now (boxes .entry)) (now (scales .entry)) (now (roles .entry)) (now (pieces .entry)) (now (branches .entry)))
-        (work (now (stations .entry)) (now (buses .entry)) (now (ends .entry)) (now (sorted .entry)) (now (spare .entry)) (now (keys .entry)) (now (places .entry)) (now (blocks .entry)) (now (frames .entry)) (now (path .entry)))
+        (record { station = now (sub .entry); kv = now (kv .entry); from = now (from .entry); to = now (to .entry); service = now (service .entry); xy = now (xy .entry); corners = now (corners .entry); twins = now (twins .entry) })
+        (record { positions = now (positions .entry); bars = now (bars .entry); boxes = now (boxes .entry); scales = now (scales .entry); roles = now (roles .entry); pieces = now (pieces .entry); branches = now (branches .entry) })
+        (record { stations = now (stations .entry); buses = now (buses .entry); ends = now (ends .entry); sorted = now (sorted .entry); spare = now (spare .entry); keys = now (keys .entry); places = now (places .entry); blocks = now (blocks .entry); frames = now (frames .entry); path = now (path .entry) })
         (crossings (now («crossing_numbers» .entry)) (now («crossing_places» .entry)) (now («crossing_ways» .entry)))
         (both r
-        (lists (now (positions .exit)) (now (bars .exit)) (now (boxes .exit)) (now (scales .exit)) (now (roles .exit)) (now (pieces .exit)) (now (branches .exit)))
-        (work (now (stations .exit)) (now (buses .exit)) (now (ends .exit)) (now (sorted .exit)) (now (spare .exit)) (now (keys .exit)) (now (places .exit)) (now (blocks .exit)) (now (frames .exit)) (now (path .exit)))
+        (record { positions = now (positions .exit); bars = now (bars .exit); boxes = now (boxes .exit); scales = now (scales .exit); roles = now (roles .exit); pieces = now (pieces .exit); branches = now (branches .exit) })
+        (record { stations = now (stations .exit); buses = now (buses .exit); ends = now (ends .exit); sorted = now (sorted .exit); spare = now (spare .exit); keys = now (keys .exit); places = now (places .exit); blocks = now (blocks .exit); frames = now (frames .exit); path = now (path .exit) })
         (crossings (now («crossing_numbers» .exit)) (now («crossing_places» .exit)) (now («crossing_ways» .exit)))) ⌝ }
 {
     let a = tx_schematic_layout(

@@ -8,9 +8,9 @@ use lib.ListN.{getD}
 use lib.Ieee.{Float, nan}
 use borrow.Author.Tests.{lt-ltb, le-ltb}
 use Rattle.geometry.specs.declared.Point.{Point}
-use Rattle.geometry.specs.declared.Param.{Param}
-use Rattle.geometry.specs.Cross.{param, placeOr}
-use Rattle.wishes.specs.Stages.Held.{RoundLists, edgeHeld, lowIn, highIn, beforeIn, behindIn, wishIn}
+use Rattle.crossing.specs.declared.Param.{Param}
+use Rattle.crossing.specs.Cross.{param, placeOr}
+use Rattle.wishes.specs.Stages.RoundLists.{RoundLists, edgeHeld, lowIn, highIn, beforeIn, behindIn, wishIn}
 
 module _ (H : RoundLists) (ps : List Float) (x e first count : ℕ) (t : Float) (he : e ≡ getD (H .numbers) (3 * x + 1) 0) (hf : first ≡ getD (H .ends) (4 * e + 2) 0)
     (hc : count ≡ getD (H .ends) (4 * e + 3) 0) (ht : t ≡ getD ps x nan) where

@@ -1,12 +1,12 @@
 // Where crossings are, and what they wish for.
 ghost use mathlib.Core.Path.{_≡_};
 ghost use Prim.Native.Nat.{_+_, _-_, _*_, _^_, _≤_, _<_};
-ghost use Rattle.geometry.specs.Cross.{param, placeOr};
+ghost use Rattle.crossing.specs.Cross.{param, placeOr};
 ghost use Rattle.mesh.specs.Mesh.{lowAt, highAt};
-ghost use Rattle.wishes.specs.Stages.Held.{held, edgeIn, lowIn, highIn, between, pointIn, beforeIn, behindIn, wishIn};
-use geometry::Param;
+ghost use Rattle.wishes.specs.Stages.RoundLists.{held, edgeIn, lowIn, highIn, between, pointIn, beforeIn, behindIn, wishIn};
+use crossing::Param;
+use crossing::line_param;
 use geometry::Point;
-use geometry::line_param;
 use geometry::number_at;
 use geometry::point_at;
 use mesh::end_at;

@@ -5,11 +5,11 @@ use mathlib.Core.List.{List}
 use lib.Dec.{ltb}
 use lib.ListN.{length}
 use lib.Ieee.{Float}
-use Rattle.network.specs.declared.options.Options.{Options}
+use Rattle.options.specs.declared.Options.{Options}
 use Rattle.network.specs.Words.{occupied}
 use Rattle.network.specs.Views.{countsIn, boxesIn}
-use Rattle.units.specs.Stages.Views.{scalesIn}
-use Rattle.placement.specs.Sized.{illSized}
+use Rattle.sizes.specs.Stages.Views.{scalesIn}
+use Rattle.sized.specs.Sized.{illSized}
 use Rattle.runs.specs.Stages.Views.{held, lead, Fits}
 use Rattle.pieces.specs.Stages.Pieces.{runsIn}
 use Rattle.results.specs.Stages.Bars.{barsIn}

@@ -12,7 +12,7 @@ use Rattle.order.specs.Order.{pick, keep}
 use Rattle.order.specs.Table.{strided}
 use Rattle.geometry.specs.declared.Point.{Point}
 use Rattle.geometry.specs.Plane.{pointAt}
-use Rattle.geometry.specs.Cross.{param, placeOr}
+use Rattle.crossing.specs.Cross.{param, placeOr}
 use Rattle.mesh.specs.Mesh.{at, endAt, lowAt, highAt}
 use Rattle.walk.specs.Round.{around}
 use Rattle.walk.specs.Trace.{Walk, traced}

@@ -14,8 +14,8 @@ use Rattle.network.specs.declared.words.Kind.{Kind}
 use Rattle.network.specs.declared.words.Kind.the-variants.{Undrawn, Open, Internal, Line}
 use Rattle.network.specs.Words.{stationOf, kindOf}
 use Rattle.network.specs.Views.{orderIn, boxesIn}
-use Rattle.units.specs.declared.Measures.{Measures}
-use Rattle.units.specs.Stages.Views.{scalesIn}
+use Rattle.measures.specs.declared.Measures.{Measures}
+use Rattle.sizes.specs.Stages.Views.{scalesIn}
 use Rattle.bars.specs.Bar.{rowY}
 use Rattle.runs.specs.Stages.Views.{blockOf, exitOf}
 use Rattle.crossings.specs.Route as Route

@@ -8,7 +8,7 @@ use lib.Ieee.{Float, nan}
 use Rattle.geometry.specs.declared.Point.{Point}
 use Rattle.geometry.specs.Plane.{point, boxAt}
 use Rattle.network.specs.Words.{stationOf}
-use Rattle.units.specs.declared.Measures.{Measures}
+use Rattle.measures.specs.declared.Measures.{Measures}
 use Rattle.bars.specs.Bar.{rowY}
 use Rattle.runs.specs.Stages.Views.{blockOf, exitOf, firstExit, secondExit}
 use Rattle.crossings.specs.Route as Route

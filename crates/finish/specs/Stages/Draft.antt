@@ -4,7 +4,7 @@ use mathlib.Core.Path.{_≡_}
 use lib.ListN.{length}
 use lib.Ieee.{Float}
 use Rattle.geometry.specs.declared.Box.{Box}
-use Rattle.network.specs.declared.options.Options.{Options}
+use Rattle.options.specs.declared.Options.{Options}
 use Rattle.drawing.specs.declared.answer.Answer.{Answer}
 use Rattle.drawing.specs.declared.room.Room.{Room}
 use Rattle.drawing.specs.Network.{Network, Lists}

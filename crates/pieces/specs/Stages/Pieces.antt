@@ -10,7 +10,7 @@ use Rattle.order.specs.Order.{pick}
 use Rattle.order.specs.Table.{table, joined}
 use Rattle.geometry.specs.declared.Point.{Point}
 use Rattle.network.specs.Words.{kindOf}
-use Rattle.units.specs.declared.Measures.{Measures}
+use Rattle.measures.specs.declared.Measures.{Measures}
 use Rattle.runs.specs.Run.{Piece, pieces, isLine}
 use Rattle.runs.specs.Lists.{flat, pieceNumbers}
 use Rattle.runs.specs.Stages.Views.{RunLists, runIn, otherRun, Fits}

@@ -1,28 +1,19 @@
 -- How the lent work lists hold boxes and what the interiors are drawn in. Definitions only.
-use Prim.Native.Nat.{ℕ, suc, _+_, _-_, _*_, _≤_, _<_}
+use Prim.Native.Nat.{ℕ, suc, _+_, _*_}
 use mathlib.Core.Path.{_≡_}
-use mathlib.Core.List.{List, map}
-use lib.IntN.{ℤ}
-use lib.ListN.{length, getD, set, take, drop}
+use mathlib.Core.List.{List}
+use lib.ListN.{getD, set, take}
 use lib.Ieee.{Float, nan}
 use Rattle.geometry.specs.declared.Point.{Point}
 use Rattle.geometry.specs.declared.Box.{Box}
 use Rattle.geometry.specs.Plane.{pointAt, boxAt}
-use Rattle.order.proofs.Laws.{All}
-use Rattle.box_order.specs.Stages.Cells.{shifted, byCell, putIn}
+use Rattle.box_order.specs.Stages.Cells.{byCell, putIn}
 use Rattle.box_order.specs.Stages.Kept.{Kept}
-use Rattle.units.specs.declared.Measures.{Measures}
-use Rattle.units.specs.Size.{Size}
-use Rattle.units.specs.Stages.Views.{sizeIn, sizesIn, scalesIn}
+use Rattle.measures.specs.declared.Measures.{Measures}
+use Rattle.sizes.specs.Stages.Views.{sizeIn, sizesIn, scalesIn}
 use Rattle.offsets.specs.declared.offset.Offset.{Offset}
-use Rattle.placement.specs.Place.{Frame, frameFor, frames, boxOn, placeFor}
-
--- half sides, and with them the block f and the buffer
-abbrev pub half : Float → Float → Size
-half a b = record { w = a; h = b }
-
-abbrev pub frame : Float → Float → Float → Float → Frame
-frame a b c d = record { half = half a b; f = c; buffer = d }
+use Rattle.free_places.specs.Search.{Frame, frameFor, frames, boxOn, placeFor}
+use Rattle.free_places.specs.Stages.Among.{keptBoxes}
 
 -- a list of boxes after one is stored at i
 abbrev pub putBox : List Float → ℕ → Box → List Float
@@ -34,26 +25,6 @@ frameIn M l s = frameFor M (getD l (3 * s + 2) nan) (sizeIn l s)
 
 abbrev pub framesIn : Measures → ℕ → List Float → List Frame
 framesIn M k l = frames M (scalesIn k l) (sizesIn k l)
-
--- the boxes of the first n stations of a list
-abbrev pub keptBoxes : List Float → ℕ → List ℕ → List Box
-keptBoxes boxes n sorted = map (boxAt boxes) (take n sorted)
-
--- the boxes of a stretch of a list's stations
-abbrev pub boxesAmong : List Float → ℕ → ℕ → List ℕ → List Box
-boxesAmong boxes first end sorted = map (boxAt boxes) (take (end - first) (drop first sorted))
-
--- the number of the column of offsets with this first number, from 0 for −20 on
-unfoldable pub columnOf : ℤ → ℕ
-unfolding shifted
-columnOf a = shifted a - 4503599627370476
-
--- The boxes of n stations are kept by their left cells: `box_order` says how. Each of them stands in the list of boxes.
-pub record Holds (unit : Float) (boxes : List Float) (n most : ℕ) (keys sorted : List ℕ) : Type 0 where
-  pub kept : Kept unit boxes n most keys sorted
-  pub keyed : n ≤ length keys
-  pub listed : n ≤ length sorted
-  pub inside : All (λ s. 4 * s + 3 < length boxes) (take n sorted)
 
 -- Station s was placed behind p others, by the boxes kept of them: its place stands in the list of places, its box in that of boxes, and all else is as it was;
 -- and it is kept with them.

@@ -11,7 +11,7 @@ use Rattle.network.proofs.seed.seeds.Reads as seeds-reads
 use Rattle.network.proofs.words.bus_counts.Reads as bus-counts-reads
 use Rattle.stations.proofs.columns.columns.Reads as columns-reads
 use Rattle.stations.proofs.rows.rows.Reads as rows-reads
-use Rattle.units.proofs.units.Reads as units-reads
+use Rattle.measures.proofs.units.Reads as units-reads
 
 bus-counts-requires : tie.Need-bus-counts-requires
 bus-counts-requires c κs = (c .before .before .before .before .before .before .before .before .before .before .before .before .before .before .before .pre .0 .0, c .before .before .before .before .before .before .before .before .before .before .before .before .before .before .before .pre .0 .1, c .before .before .before .before .before .before .before .before .before .before .before .before .before .before .before .pre .1 .0 .0)

@@ -6,17 +6,17 @@ use lib.IntN.{ℤ}
 use lib.ListN.{length}
 use lib.Ieee.{Float}
 use Rattle.geometry.specs.declared.Point.{Point}
-use Rattle.network.specs.declared.options.Options.{Options}
+use Rattle.options.specs.declared.Options.{Options}
 use Rattle.network.specs.Words.{busCounts, kinds}
 use Rattle.network.specs.Seed as Seed
 use Rattle.network.specs.Views.{countsIn, columnsIn, fromRowsIn, toRowsIn, pointsIn, boxesIn}
 use Rattle.stations.specs.Column as Column
 use Rattle.stations.specs.Row as Row
-use Rattle.units.specs.declared.Measures.{Measures}
-use Rattle.units.specs.Size as Size
+use Rattle.measures.specs.declared.Measures.{Measures}
+use Rattle.sizes.specs.Size as Size
 use Rattle.units.specs.Unit as Unit
-use Rattle.units.specs.Scale as Scale
-use Rattle.units.specs.Stages.Views.{sizesIn, scalesIn}
+use Rattle.scales.specs.Scale as Scale
+use Rattle.sizes.specs.Stages.Views.{sizesIn, scalesIn}
 use Rattle.offsets.specs.Offset.{offsets}
 use Rattle.turns.specs.Turns.{placementOrder}
 use Rattle.placement.specs.Place as Place

@@ -9,7 +9,7 @@ use Rattle.geometry.specs.Plane.{origin}
 use Rattle.network.specs.declared.words.Kind.{Kind}
 use Rattle.network.specs.declared.words.Kind.the-variants.{Undrawn, Open, Internal, Line}
 use Rattle.network.specs.Words.{stationOf, kindOf}
-use Rattle.units.specs.declared.Measures.{Measures}
+use Rattle.measures.specs.declared.Measures.{Measures}
 use Rattle.runs.specs.Stages.Views.{slotOf, firstExit, secondExit}
 use Rattle.requests.specs.declared.request.LineRequest.{LineRequest}
 

@@ -5,7 +5,7 @@ use lib.ListN.{length}
 use lib.Ieee.{Float}
 use Rattle.order.specs.Table.{table}
 use Rattle.network.specs.Words.{stationOf}
-use Rattle.units.specs.declared.Measures.{Measures}
+use Rattle.measures.specs.declared.Measures.{Measures}
 use Rattle.bars.specs.declared.Bar.{Bar}
 use Rattle.runs.specs.Stages.Views.{barOf}
 

@@ -1,7 +1,7 @@
 -- `routes::route_lines` meets its contract. Assumes nothing.
 use mathlib.Core.Path.{_∙_}
 use native.Mathlib.Omega.{arith}
-use Rattle.network.proofs.Shapes.{test-on, test-off}
+use Rattle.refusals.proofs.Shapes.{test-on, test-off}
 use Rattle.routes.proofs.Scenes.{order-rises, order-below, routes-used, routes-unused}
 use borrow.Author.Needs.{needs}
 use Rattle.routes.proofs.route_lines.Statement.{statement}

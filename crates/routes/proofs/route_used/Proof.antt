@@ -1,7 +1,7 @@
 -- `routes::route_used` meets its contract. Assumes nothing.
 use mathlib.Core.Path.{refl, sym, _∙_}
 use native.Mathlib.Omega.{arith}
-use Rattle.network.proofs.Shapes.{test-on, test-off}
+use Rattle.refusals.proofs.Shapes.{test-on, test-off}
 use Rattle.routes.proofs.Leading.{same-rows, mesh-room, led-nine, led-full, entered, room-enough, led-all}
 use borrow.Author.Needs.{needs}
 use Rattle.routes.proofs.route_used.Statement.{statement}

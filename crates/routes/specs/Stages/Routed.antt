@@ -8,7 +8,7 @@ use Rattle.order.specs.Order.{pick}
 use Rattle.network.specs.Words.{occupied}
 use Rattle.network.specs.Views.{countsIn, fromRowsIn, toRowsIn, pointsIn, boxesIn}
 use Rattle.units.specs.Unit.{coordinates}
-use Rattle.units.specs.Stages.Views.{scalesIn}
+use Rattle.sizes.specs.Stages.Views.{scalesIn}
 use Rattle.detour.specs.Stages.Paths.{pathIn}
 use Rattle.runs.specs.Stages.Views.{wayOf, wayCount}
 use Rattle.crossings.specs.Route.{Scene, routing, waypoints}

@@ -13,9 +13,9 @@ use Rattle.network.specs.declared.words.Kind.the-variants.{Undrawn, Open, Inter
 use Rattle.network.specs.Words.{stationOf, occupied}
 use Rattle.network.specs.Views.{countsIn, pointsIn, boxesIn}
 use Rattle.detour.specs.Detour.{detour}
-use Rattle.box_tree.specs.Stages.Tree.{Indexed}
+use Rattle.grid.specs.Stages.Cells.{Indexed}
 use Rattle.detour.specs.Stages.Paths.{pathIn}
-use Rattle.units.specs.declared.Measures.{Measures}
+use Rattle.measures.specs.declared.Measures.{Measures}
 use Rattle.bars.specs.declared.Bar.{Bar}
 use Rattle.bars.specs.Bar.{rowY, barFor, spanOf, position}
 use Rattle.bars.specs.Exit.{exitX}

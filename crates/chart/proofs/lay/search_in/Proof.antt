@@ -2,13 +2,13 @@
 use mathlib.Core.Path.{ap, _∙_}
 use mir.Syntax.{w32}
 use mir.Facts.{toZ-ofZ}
-use Rattle.network.specs.Options.{searchOf}
+use Rattle.options.specs.Options.{searchOf}
 use borrow.Author.Needs.{needs}
 use Rattle.chart.proofs.lay.search_in.Statement.{statement}
 use Rattle.chart.proofs.lay.search_in.Tie as tie
 use Rattle.chart.proofs.lay.search_in.Reads as reads
 use Rattle.chart.proofs.lay.search_in.Lts as lts
-use Rattle.network.proofs.options.search_of.Reads as search-of-reads
+use Rattle.options.proofs.search_of.Reads as search-of-reads
 
 search-of-requires : tie.Need-search-of-requires
 search-of-requires c κs = search needs

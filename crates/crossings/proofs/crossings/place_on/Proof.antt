@@ -1,9 +1,9 @@
 -- `crossings::crossings::place_on` meets its contract, by the two cases of the place on a segment. Assumes nothing.
 use mathlib.Core.Path.{_≡_, sym, ap, _∙_}
 use lib.Ieee.{Float}
-use Rattle.geometry.specs.declared.Param.{Param}
-use Rattle.geometry.specs.declared.Param.the-variants.{At, Parallel}
-use Rattle.geometry.specs.Cross.{placeOr}
+use Rattle.crossing.specs.declared.Param.{Param}
+use Rattle.crossing.specs.declared.Param.the-variants.{At, Parallel}
+use Rattle.crossing.specs.Cross.{placeOr}
 use Rattle.crossings.specs.Stages.Store.{placeOn}
 use borrow.Author.Needs.{needs}
 use Rattle.crossings.proofs.crossings.place_on.Statement.{statement}

@@ -1,5 +1,6 @@
 -- `detour::corner::corner` meets its contract. Assumes nothing.
-use Rattle.detour.proofs.Choosing.{corner-made}
+use Rattle.detour.specs.Detour.{cornersOf}
+use Rattle.detour.proofs.Choosing.{corner-any, corner-clear}
 use borrow.Author.Needs.{needs}
 use Rattle.detour.proofs.corner.corner.Statement.{statement}
 use Rattle.detour.proofs.corner.corner.Tie as tie
@@ -16,23 +17,21 @@ cheaper-clear-requires-3 c κs = search needs
 cheaper-clear-requires-4 : tie.Need-cheaper-clear-requires-4
 cheaper-clear-requires-4 c κs = search needs
 
-cheaper-requires : tie.Need-cheaper-requires
-cheaper-requires c κs = search needs
+enum-told : tie.Need-enum-told
+enum-told c = search needs
 
-cheaper-requires-2 : tie.Need-cheaper-requires-2
-cheaper-requires-2 c κs = search needs
+cheapest-of-requires : tie.Need-cheapest-of-requires
+cheapest-of-requires c κs = search needs
 
-cheaper-requires-3 : tie.Need-cheaper-requires-3
-cheaper-requires-3 c κs = search needs
-
-or-else-requires : tie.Need-or-else-requires
-or-else-requires c κs = search needs
-
-or-else-requires-2 : tie.Need-or-else-requires-2
-or-else-requires-2 c κs = search needs
+enum-known-d3 : tie.Need-enum-known-d3
+enum-known-d3 c = search needs
 
 returns : tie.Need-returns
-returns c = corner-made _ _ _ _ _ _ _ _ _ _ _ _ _ (c .before .before .before .before .before .before .before .before .cheaper-clear .ensures) (c .before .before .before .before .before .before .before .cheaper-clear2 .ensures) (c .before .before .before .before .before .before .cheaper-clear3 .ensures) (c .before .before .before .before .before .cheaper-clear4 .ensures) (c .before .before .before .before .cheaper .ensures) (c .before .before .before .cheaper2 .ensures) (c .before .before .cheaper3 .ensures) (c .before .or-else .ensures) (c .or-else2 .ensures)
+unfolding cornersOf
+returns c = corner-any _ _ _ _ _ _ _ _ _ (c .before .before .before .before .before .before .cheaper-clear .ensures) (c .before .before .before .before .before .cheaper-clear2 .ensures) (c .before .before .before .before .cheaper-clear3 .ensures) (c .before .before .before .cheaper-clear4 .ensures) (c .before .enum-told .given .1) (c .cheapest-of .ensures)
+
+returns-2 : tie.Need-returns-2
+returns-2 c = corner-clear _ _ _ _ _ _ _ _ _ (c .before .before .before .before .before .before .cheaper-clear .ensures) (c .before .before .before .before .before .cheaper-clear2 .ensures) (c .before .before .before .before .cheaper-clear3 .ensures) (c .before .before .before .cheaper-clear4 .ensures) (c .before .d3 .given .1)
 
 pub corner-spec : {M : Type 1} → statement M
 corner-spec =
@@ -42,9 +41,8 @@ corner-spec =
     cheaper-clear-requires-2
     cheaper-clear-requires-3
     cheaper-clear-requires-4
-    cheaper-requires
-    cheaper-requires-2
-    cheaper-requires-3
-    or-else-requires
-    or-else-requires-2
-    returns)
+    enum-told
+    cheapest-of-requires
+    enum-known-d3
+    returns
+    returns-2)

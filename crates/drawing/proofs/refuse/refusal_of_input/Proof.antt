@@ -1,5 +1,5 @@
 use native.Mathlib.Omega.{arith}
-use Rattle.network.proofs.Shapes.{shape-fits, test-on, test-off}
+use Rattle.refusals.proofs.Shapes.{shape-fits, test-on, test-off}
 -- `drawing::refuse::refusal_of_input` meets its contract. Assumes nothing.
 use Rattle.drawing.proofs.Early.{by-shape, by-range, by-distance, by-results, by-work, by-none}
 use mathlib.Core.Path.{sym, _∙_}
@@ -11,9 +11,9 @@ use Rattle.drawing.proofs.refuse.refusal_of_input.Lts as lts
 use Rattle.drawing.proofs.refuse.mesh_length.Reads as mesh-length-reads
 use Rattle.drawing.proofs.refuse.short_results.Reads as short-results-reads
 use Rattle.drawing.proofs.refuse.short_work.Reads as short-work-reads
-use Rattle.network.proofs.options.Options.in_range.Reads as in-range-reads
-use Rattle.network.proofs.refuse.shape_refusal.Reads as shape-refusal-reads
-use Rattle.network.proofs.refuse.too_far.Reads as too-far-reads
+use Rattle.options.proofs.Options.in_range.Reads as in-range-reads
+use Rattle.refusals.proofs.shape_refusal.Reads as shape-refusal-reads
+use Rattle.refusals.proofs.too_far.Reads as too-far-reads
 use Rattle.network.proofs.words.station_count.Reads as station-count-reads
 
 shape-refusal-requires : tie.Need-shape-refusal-requires

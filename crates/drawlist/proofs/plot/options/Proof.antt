@@ -5,7 +5,7 @@ use Rattle.drawlist.proofs.plot.options.Statement.{statement}
 use Rattle.drawlist.proofs.plot.options.Tie as tie
 use Rattle.drawlist.proofs.plot.options.Reads as reads
 use Rattle.drawlist.proofs.plot.options.Lts as lts
-use Rattle.network.proofs.options.Options.default.Reads as default-reads
+use Rattle.options.proofs.Options.default.Reads as default-reads
 
 default-requires : tie.Need-default-requires
 default-requires c κs = search needs

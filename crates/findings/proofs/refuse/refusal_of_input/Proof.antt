@@ -1,7 +1,7 @@
 -- `findings::refuse::refusal_of_input` meets its contract. Assumes nothing.
 use mathlib.Core.Path.{sym, _∙_}
 use native.Mathlib.Omega.{arith}
-use Rattle.network.proofs.Shapes.{shape-fits}
+use Rattle.refusals.proofs.Shapes.{shape-fits}
 use Rattle.findings.proofs.Early.{by-shape, by-distance, by-room, by-none}
 use borrow.Author.Needs.{needs}
 use Rattle.findings.proofs.refuse.refusal_of_input.Statement.{statement}

@@ -6,7 +6,7 @@ use Prim.Native.Nat.{_≤_, _-_}
 use lib.ListN.{length, getD}
 use lib.Ieee.{nan}
 use mathlib.Core.Bool.{true}
-use Rattle.placement.specs.Sized.{sized}
+use Rattle.sized.specs.Sized.{sized}
 use Rattle.order.specs.Order.{allTo}
 use Rattle.fit.specs.Scale.{sizedEnds}
 use borrow.Author.Needs.{needs}

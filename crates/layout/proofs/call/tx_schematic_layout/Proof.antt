@@ -1,7 +1,8 @@
 -- `layout::call::tx_schematic_layout` meets its contract. Assumes nothing.
 use native.Mathlib.Omega.{arith}
 use mathlib.Core.Path.{_∙_, sym, refl}
-use Rattle.drawing.specs.Network.{network, lists, work, crossings}
+use Rattle.drawing.specs.Network.{network, crossings}
+use Rattle.drawing.proofs.Lent.{lists, work}
 use Rattle.drawing.proofs.Fitting.{fits-of, room-parts}
 use Rattle.chart.proofs.Charts.{charted-at}
 use Rattle.layout.proofs.Calls.{call-early, call-late}

@@ -14,7 +14,7 @@ use mir.Facts.{toZ-ofZ}
 use Rattle.order.specs.Order.{pick}
 use Rattle.network.specs.declared.words.Known.the-variants.{Bus, Unknown}
 use Rattle.network.specs.Words.{known}
-use Rattle.network.proofs.Signs.{if-below, from-zero}
+use Rattle.float.proofs.BySign.{if-below, from-zero}
 use Rattle.network.proofs.words.known_bus.Statement.{statement}
 use Rattle.network.proofs.words.known_bus.Tie as tie
 

@@ -56,7 +56,7 @@ use Rattle.runs.specs.Stages.Views.{Lead, lead, Stands}
 use Rattle.requests.specs.declared.request.LineRequest.{LineRequest}
 use Rattle.requests.specs.Stages.Requests.{nothingAt}
 use Rattle.pieces.specs.Stages.Passes.{requestPieces, listPieces, Asks, AskAll, RoomFor, Passed}
-use Rattle.pieces.proofs.Again.{LentAgain, lends-again, comes-back}
+use Rattle.detour.proofs.Again.{LentAgain, lends-again, comes-back}
 use Rattle.pieces.proofs.Leading.{Along, along-none, along-asks, along-room, along-more, along-end}
 use Rattle.requests.proofs.request.LineRequest as T
 use Rattle.requests.proofs.request.LineRequest.Laws as T′

@@ -1,7 +1,7 @@
 -- `placement::search::place_station` meets its contract. Assumes nothing.
 use mathlib.Core.Path.{refl, ap, _∙_}
 use native.Mathlib.Omega.{arith}
-use Rattle.placement.specs.Place.{frameFor}
+use Rattle.free_places.specs.Search.{frameFor}
 use Rattle.placement.specs.Stages.Views.{putBox}
 use Rattle.placement.proofs.Placing.{kept-on}
 use borrow.Author.Needs.{needs}

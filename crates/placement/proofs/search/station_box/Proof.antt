@@ -1,5 +1,5 @@
 -- `placement::search::station_box` meets its contract. Assumes nothing.
-use Rattle.placement.specs.Place.{frameFor}
+use Rattle.free_places.specs.Search.{frameFor}
 use borrow.Author.Needs.{needs}
 use Rattle.placement.proofs.search.station_box.Statement.{statement}
 use Rattle.placement.proofs.search.station_box.Tie as tie

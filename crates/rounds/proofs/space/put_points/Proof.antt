@@ -5,7 +5,7 @@ use native.Mathlib.Omega.{arith}
 use lib.ListN.{length}
 use Rattle.order.specs.Table.{table}
 use Rattle.network.specs.Views.{pointsIn}
-use Rattle.wishes.specs.Stages.Held.{pointIn}
+use Rattle.wishes.specs.Stages.RoundLists.{pointIn}
 use Rattle.rounds.proofs.Pointing.{points-start, points-step, points-end}
 use borrow.Author.Needs.{needs}
 use Rattle.rounds.proofs.space.put_points.Statement.{statement}

@@ -1,5 +1,5 @@
 -- `rounds::space::range_at` meets its contract. Assumes nothing.
-use Rattle.wishes.specs.Stages.Held.{rangeAt}
+use Rattle.wishes.specs.Stages.RoundLists.{rangeAt}
 use borrow.Author.Needs.{needs}
 use Rattle.rounds.proofs.space.range_at.Statement.{statement}
 use Rattle.rounds.proofs.space.range_at.Tie as tie

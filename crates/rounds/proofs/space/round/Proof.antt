@@ -2,7 +2,7 @@ use Prim.Native.Nat.{_≤_, _-_}
 use mathlib.Core.Path.{_≡_, refl, _∙_}
 use native.Mathlib.Omega.{arith}
 use lib.ListN.{length}
-use Rattle.wishes.specs.Stages.Held.{held, spacedIn}
+use Rattle.wishes.specs.Stages.RoundLists.{held, spacedIn}
 use Rattle.rounds.proofs.Making.{spaced-none, spaced-more, spaced-done}
 use borrow.Author.Needs.{needs}
 use Rattle.rounds.proofs.space.round.Statement.{statement}

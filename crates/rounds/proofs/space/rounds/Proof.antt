@@ -3,7 +3,7 @@ use Prim.Native.Nat.{_≤_, _-_}
 use mathlib.Core.Path.{_≡_, refl, _∙_}
 use native.Mathlib.Omega.{arith}
 use lib.ListN.{length}
-use Rattle.wishes.specs.Stages.Held.{held, roundsIn}
+use Rattle.wishes.specs.Stages.RoundLists.{held, roundsIn}
 use Rattle.rounds.proofs.Making.{rounds-none, rounds-more, rounds-done}
 use borrow.Author.Needs.{needs}
 use Rattle.rounds.proofs.space.rounds.Statement.{statement}

@@ -1,5 +1,5 @@
 -- `rounds::space::station_at` meets its contract. Assumes nothing.
-use Rattle.wishes.specs.Stages.Held.{stationIn}
+use Rattle.wishes.specs.Stages.RoundLists.{stationIn}
 use native.Mathlib.Omega.{arith}
 use borrow.Author.Needs.{needs}
 use Rattle.rounds.proofs.space.station_at.Statement.{statement}

@@ -2,7 +2,7 @@
 use Prim.Native.Nat.{_≤_, _+_, _-_}
 use mathlib.Core.Path.{ap, _∙_}
 use native.Mathlib.Omega.{arith}
-use Rattle.wishes.specs.Stages.Held.{held, wishIn}
+use Rattle.wishes.specs.Stages.RoundLists.{held, wishIn}
 use Rattle.grouping.specs.Stages.Grouped.{memberIn}
 use Rattle.grouping.proofs.Tabling.{Tabled, table-start, table-step, table-stop}
 use borrow.Author.Needs.{needs}

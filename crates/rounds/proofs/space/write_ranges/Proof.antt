@@ -3,7 +3,7 @@ use Prim.Native.Nat.{_≤_, _-_}
 use mathlib.Core.Path.{_≡_, refl, _∙_}
 use native.Mathlib.Omega.{arith}
 use lib.ListN.{length}
-use Rattle.wishes.specs.Stages.Held.{Ranged}
+use Rattle.wishes.specs.Stages.RoundLists.{Ranged}
 use Rattle.rounds.proofs.Ranges.{ranged-none, ranged-more, ranged-done, boxed-at}
 use borrow.Author.Needs.{needs}
 use Rattle.rounds.proofs.space.write_ranges.Statement.{statement}

@@ -1,6 +1,7 @@
 -- `wall::check::draw_and_audit` meets its contract. Assumes nothing.
 use mathlib.Core.Path.{_∙_}
-use Rattle.drawing.specs.Network.{network, lists, work, crossings}
+use Rattle.drawing.specs.Network.{network, crossings}
+use Rattle.drawing.proofs.Lent.{lists, work}
 use Rattle.wall.proofs.Claiming.{claim-both, pieces-room}
 use borrow.Author.Needs.{needs}
 use Rattle.wall.proofs.check.draw_and_audit.Statement.{statement}

@@ -1,5 +1,5 @@
 -- `wishes::wish::before_of` meets its contract. Assumes nothing.
-use Rattle.wishes.specs.Stages.Held.{beforeIn}
+use Rattle.wishes.specs.Stages.RoundLists.{beforeIn}
 use borrow.Author.Tests.{le-leb, lt-leb}
 use borrow.Author.Needs.{needs}
 use Rattle.wishes.proofs.wish.before_of.Statement.{statement}

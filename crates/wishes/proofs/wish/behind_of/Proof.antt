@@ -1,5 +1,5 @@
 -- `wishes::wish::behind_of` meets its contract. Assumes nothing.
-use Rattle.wishes.specs.Stages.Held.{behindIn}
+use Rattle.wishes.specs.Stages.RoundLists.{behindIn}
 use borrow.Author.Tests.{le-leb, lt-leb}
 use borrow.Author.Needs.{needs}
 use Rattle.wishes.proofs.wish.behind_of.Statement.{statement}

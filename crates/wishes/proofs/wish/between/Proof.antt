@@ -1,5 +1,5 @@
 -- `wishes::wish::between` meets its contract. Assumes nothing.
-use Rattle.wishes.specs.Stages.Held.{between}
+use Rattle.wishes.specs.Stages.RoundLists.{between}
 use Rattle.wishes.proofs.wish.between.Statement.{statement}
 use Rattle.wishes.proofs.wish.between.Tie as tie
 

@@ -1,5 +1,5 @@
 -- `wishes::wish::edge_of` meets its contract. Assumes nothing.
-use Rattle.wishes.specs.Stages.Held.{edgeIn}
+use Rattle.wishes.specs.Stages.RoundLists.{edgeIn}
 use native.Mathlib.Omega.{arith}
 use borrow.Author.Needs.{needs}
 use Rattle.wishes.proofs.wish.edge_of.Statement.{statement}

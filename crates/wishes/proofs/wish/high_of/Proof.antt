@@ -1,5 +1,5 @@
 -- `wishes::wish::high_of` meets its contract. Assumes nothing.
-use Rattle.wishes.specs.Stages.Held.{highIn}
+use Rattle.wishes.specs.Stages.RoundLists.{highIn}
 use borrow.Author.Needs.{needs}
 use Rattle.wishes.proofs.wish.high_of.Statement.{statement}
 use Rattle.wishes.proofs.wish.high_of.Tie as tie

@@ -1,5 +1,5 @@
 -- `wishes::wish::low_of` meets its contract. Assumes nothing.
-use Rattle.wishes.specs.Stages.Held.{lowIn}
+use Rattle.wishes.specs.Stages.RoundLists.{lowIn}
 use borrow.Author.Needs.{needs}
 use Rattle.wishes.proofs.wish.low_of.Statement.{statement}
 use Rattle.wishes.proofs.wish.low_of.Tie as tie

@@ -1,5 +1,5 @@
 -- `wishes::wish::point_of` meets its contract. Assumes nothing.
-use Rattle.wishes.specs.Stages.Held.{pointIn}
+use Rattle.wishes.specs.Stages.RoundLists.{pointIn}
 use borrow.Author.Needs.{needs}
 use Rattle.wishes.proofs.wish.point_of.Statement.{statement}
 use Rattle.wishes.proofs.wish.point_of.Tie as tie

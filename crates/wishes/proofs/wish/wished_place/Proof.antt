@@ -1,7 +1,7 @@
 -- `wishes::wish::wished_place` meets its contract, by the two cases of the place on a segment. Assumes nothing.
 use mathlib.Core.Path.{sym, ap, _∙_}
-use Rattle.geometry.specs.declared.Param.{Param}
-use Rattle.geometry.specs.Cross.{placeOr}
+use Rattle.crossing.specs.declared.Param.{Param}
+use Rattle.crossing.specs.Cross.{placeOr}
 use borrow.Author.Needs.{needs}
 use Rattle.wishes.proofs.wish.wished_place.Statement.{statement}
 use Rattle.wishes.proofs.wish.wished_place.Tie as tie

@@ -1,4 +1,0 @@
-pub mod First
-pub mod Length
-pub mod Stages
-pub mod Cases

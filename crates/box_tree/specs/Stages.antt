@@ -1,2 +1,0 @@
-pub mod Tree
-pub mod Fill

@@ -1,0 +1,3 @@
+-- Laws of refusal 8.
+pub mod Sizing
+pub mod SizedDoubles
