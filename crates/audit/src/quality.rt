@@ -2,8 +2,8 @@
 ghost use Rattle.findings.specs.Answer.{call, Answered};
 use crate::clear::clear_work;
 use crate::inside::audited;
+use audit_limits::refuse::refusal_of_input;
 use findings::answer::Audit;
-use findings::refuse::refusal_of_input;
 use findings::room::Room;
 
 // Audits a drawing: the figures of each station and line in the result lists, the others in the answer.

@@ -12,15 +12,14 @@ use Rattle.float.proofs.SizeLaws.{most-weaken, add-under, sub-under, mul-most, 
 use Rattle.order.specs.Order.{pick}
 use Rattle.geometry.specs.declared.Point.{Point}
 use Rattle.geometry.specs.declared.Box.{Box}
-use Rattle.geometry.proofs.PointSizes.{Near}
+use Rattle.geometry.proofs.PointSizes.{Near, Edges}
 use Rattle.network.specs.declared.words.Kind.{Kind}
 use Rattle.network.specs.declared.words.Kind.the-variants.{Undrawn, Open, Internal, Line}
 use Rattle.network.specs.Words.{kindAt, stationOf}
-use Rattle.network.specs.Seed.{placeAt}
+use Rattle.seeds.specs.Seed.{placeAt}
 use Rattle.options.specs.declared.Gaps.{Gaps}
 use Rattle.sizes.proofs.SideSizes.{table-at, Narrow}
-use Rattle.placement.specs.Place.{boxIn}
-use Rattle.placement.proofs.PlaceSizes.{Edges}
+use Rattle.geometry.specs.Plane.{boxIn}
 use Rattle.bars.specs.declared.Bar.{Bar}
 use Rattle.bars.specs.Bar.{barX, rowY, Span, bare, rows, include, includeEnd, includeBranch, spanTo, reach, barMiddle, lengthened, barFor, spans, blockAt, bars, barAt, position, rowEnd}
 use Rattle.bars.specs.Exit.{exitX, exit}

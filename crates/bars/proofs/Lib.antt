@@ -1,5 +1,4 @@
 -- Laws that the functions' proofs use.
 pub mod Spans
-pub mod Rows
 pub mod SpanLaw
 pub mod BarSizes

@@ -16,7 +16,7 @@ use Rattle.geometry.specs.declared.Point.{Point}
 use Rattle.network.specs.declared.words.Kind.{Kind}
 use Rattle.network.specs.declared.words.Kind.the-variants.{Undrawn, Open, Internal, Line}
 use Rattle.network.specs.Words.{kindAt, stationOf}
-use Rattle.stations.specs.Row.{row, fromRow, toRow, fromRows, toRows}
+use Rattle.rows.specs.Row.{row, fromRow, toRow, fromRows, toRows}
 use Rattle.bars.specs.Bar.{Span, bare, rows, include, includeEnd, includeBranch, spanTo}
 
 -- ---- branches with rows: internal ones and lines

@@ -9,12 +9,11 @@ use Rattle.order.specs.Order.{pick}
 use Rattle.order.specs.Table.{table}
 use Rattle.geometry.specs.declared.Point.{Point}
 use Rattle.geometry.specs.declared.Box.{Box}
-use Rattle.geometry.specs.Plane.{point}
+use Rattle.geometry.specs.Plane.{point, boxIn}
 use Rattle.network.specs.declared.words.Kind.{Kind}
 use Rattle.network.specs.declared.words.Kind.the-variants.{Undrawn, Open, Internal, Line}
 use Rattle.network.specs.Words.{kindAt, stationOf}
 use Rattle.options.specs.declared.Gaps.{Gaps}
-use Rattle.placement.specs.Place.{boxIn}
 use Rattle.bars.specs.declared.Bar.{Bar}
 
 unfoldable pub barX : Gaps → Box → Float → ℕ → Float

@@ -5,9 +5,8 @@ use lib.Ieee.{Float, le}
 use Rattle.order.specs.Order.{pick}
 use Rattle.geometry.specs.declared.Point.{Point}
 use Rattle.geometry.specs.declared.Box.{Box}
-use Rattle.geometry.specs.Plane.{point}
-use Rattle.network.specs.Seed.{placeAt}
-use Rattle.placement.specs.Place.{boxIn}
+use Rattle.geometry.specs.Plane.{point, boxIn}
+use Rattle.seeds.specs.Seed.{placeAt}
 
 -- On the right side of the box if the other place isn't left of its own, else on the left side.
 unfoldable pub exitX : Box → Point → Point → Float

@@ -1,5 +1,4 @@
 // Bars, positions, row ends and exits.
-pub mod span;
 
 ghost use mathlib.Core.Path.{_≡_};
 ghost use Prim.Native.Nat.{_<_};

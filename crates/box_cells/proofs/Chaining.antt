@@ -13,7 +13,7 @@ use borrow.Author.Tests.{eqb-true, eqb-false}
 use Rattle.geometry.specs.declared.Box.{Box}
 use Rattle.network.specs.Words.{occupied}
 use Rattle.network.specs.Views.{countsIn}
-use Rattle.placement.specs.Place.{boxIn}
+use Rattle.geometry.specs.Plane.{boxIn}
 use Rattle.order.proofs.Merging.{le-or-lt}
 use Rattle.grid.specs.declared.Grid.{Grid}
 use Rattle.grid.specs.Stages.Cells.{chainOf, chainAt, nextAt, linked, On, Chained}

@@ -13,7 +13,7 @@ use Rattle.float.specs.Ops.{_⊖_, _⊘_, num}
 use Rattle.geometry.specs.declared.Box.{Box}
 use Rattle.order.proofs.Laws.{All}
 use Rattle.order.proofs.Merging.{le-or-lt}
-use Rattle.placement.specs.Place.{boxIn}
+use Rattle.geometry.specs.Plane.{boxIn}
 use Rattle.windows.specs.Stages.Window.{finiteBox}
 use Rattle.float.proofs.Ordered.{lift}
 use Rattle.grid.specs.declared.Grid.{Grid}

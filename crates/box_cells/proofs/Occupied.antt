@@ -12,9 +12,8 @@ use Rattle.order.proofs.Laws.{All, keep-yes, keep-no}
 use Rattle.order.proofs.Merging.{le-or-lt}
 use Rattle.network.specs.Words.{isOccupied, occupied}
 use Rattle.network.specs.Views.{countsIn}
-use Rattle.sizes.proofs.Blocks.{count-at}
-use Rattle.sizes.proofs.Occupied.{passed-all, is-occupied}
-use Rattle.free_places.proofs.Rest.{onward, onward-start, onward-yes, onward-no, onward-end}
+use Rattle.network.proofs.Occupied.{passed-all, is-occupied, count-at}
+use Rattle.network.proofs.Rest.{onward, onward-start, onward-yes, onward-no, onward-end}
 use Rattle.grid.specs.Stages.Cells.{In}
 use Rattle.grid.specs.Stages.Cells.In.{front, later}
 

@@ -5,7 +5,7 @@ ghost use Prim.Native.Nat.{_*_, _≤_};
 ghost use lib.ListN.{length};
 ghost use Rattle.network.specs.Words.{occupied};
 ghost use Rattle.network.specs.Views.{countsIn, boxesIn};
-ghost use Rattle.placement.specs.Place.{boxIn};
+ghost use Rattle.geometry.specs.Plane.{boxIn};
 ghost use Rattle.order.proofs.Laws.{All};
 ghost use Rattle.windows.specs.Stages.Window.{finiteBox};
 use first_box::box_in;

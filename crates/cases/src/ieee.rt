@@ -68,7 +68,7 @@ fn pair_agrees(name: u64, p: u64, q: u64, r: u64) -> bool {
         return compared(a, b) == r;
     }
     if name == HYP {
-        return same(float::hypot::hypot(a, b), r);
+        return same(hypot::hypot(a, b), r);
     }
     if name == TOT {
         return ordered(float::key::key_of_bits(p), float::key::key_of_bits(q)) == r;

@@ -84,7 +84,7 @@ fn space_agrees(w: &[u64]) -> bool {
     let mut order = [0u32; 12];
     let mut spare = [0u32; 12];
     fill(w, 4, &mut wish);
-    channel::space::space_sorted(c, n, &mut wish, &mut keys, &mut order, &mut spare);
+    spacing::space_sorted(c, n, &mut wish, &mut keys, &mut order, &mut spare);
     places_same(&wish, &order, n, w, 4 + n)
 }
 

@@ -4,12 +4,12 @@ ghost use lib.ListN.{length};
 ghost use Rattle.geometry.specs.Plane.{boxAt};
 ghost use Rattle.channel.specs.Channel.{reachOn, reach, held, channelOf};
 use crate::Channel;
-use float::hypot::hypot;
 use float::small::abs;
 use float::small::clamp;
 use float::small::max;
 use float::small::min;
 use geometry::Point;
+use hypot::hypot;
 
 // How far a half side reaches along a direction whose part on its axis is d.
 fn reach_on(half: f64, d: f64) -> f64

@@ -1,6 +1,5 @@
-// Channels between stations: the stretch where lines may cross, and the spacing of the crossings on it.
+// Channels between stations: the stretch where lines may cross.
 pub mod ends;
-pub mod space;
 
 // The ends of the stretch of a channel where lines may cross it, held to 0..1, and the least space between two of them, as a part of its length.
 pub struct Channel {

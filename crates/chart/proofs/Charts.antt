@@ -18,7 +18,7 @@ use Rattle.sized.specs.Sized.{illSized}
 use Rattle.runs.specs.Run as Run
 use Rattle.runs.specs.Run.{Scene}
 use Rattle.runs.specs.Stages.Views.{held, lead}
-use Rattle.pieces.specs.Stages.Pieces.{runsIn}
+use Rattle.survey.specs.Stages.Runs.{runsIn}
 use Rattle.crossings.specs.Route as Route
 use Rattle.crossings.specs.Stages.Views.{Grid, grid, linesIn}
 use Rattle.crossings.specs.Gap.{gapOf}

@@ -18,7 +18,7 @@ use Rattle.free_places.specs.Search.{Frame}
 use Rattle.placement.specs.Stages.Views.{framesIn}
 use Rattle.plan.specs.Stages.Plan.{Interiors, Settled}
 use Rattle.bars.specs.Bar as Bars
-use Rattle.bars.specs.Stages.Span.{spansIn}
+use Rattle.spans.specs.Stages.Span.{spansIn}
 use Rattle.results.specs.Stages.Bars.{barsIn}
 use Rattle.crossings.specs.Stages.Views.{grid}
 use Rattle.exits.specs.Stages.Exits.{Exited}

@@ -13,19 +13,19 @@ use Rattle.order.proofs.Tables.{length-table, getD-table, table-ext}
 use Rattle.order.proofs.Strides.{getD-first, getD-strided}
 use Rattle.geometry.specs.declared.Point.{Point}
 use Rattle.geometry.specs.declared.Box.{Box}
-use Rattle.geometry.specs.Plane.{origin}
+use Rattle.geometry.specs.Plane.{origin, noBox, boxIn}
 use Rattle.options.specs.declared.Gaps.{Gaps}
 use Rattle.options.specs.declared.Options.{Options}
 use Rattle.options.specs.Options.{searchOf}
 use Rattle.network.specs.declared.words.Kind.{Kind}
 use Rattle.network.specs.declared.words.Kind.the-variants.{Undrawn, Open, Internal, Line}
 use Rattle.network.specs.Words.{stationOf, busCounts, kindOf, kinds, Safe, occupied}
-use Rattle.network.specs.Seed as Seed
+use Rattle.seeds.specs.Seed as Seed
 use Rattle.network.specs.Views.{countsIn, columnsIn, fromRowsIn, toRowsIn, pointsIn, boxesIn}
 use Rattle.network.proofs.Views.{getD-points, getD-boxes}
 use Rattle.network.proofs.Branches.{kind-safe}
-use Rattle.stations.specs.Column as Column
-use Rattle.stations.specs.Row as Row
+use Rattle.columns.specs.Column as Column
+use Rattle.rows.specs.Row as Row
 use Rattle.measures.specs.declared.Measures.{Measures}
 use Rattle.sizes.specs.Size as Sizes
 use Rattle.sizes.specs.Size.{Size, sizeAt}
@@ -36,13 +36,12 @@ use Rattle.offsets.specs.Offset.{offsets}
 use Rattle.turns.specs.Turns.{placementOrder}
 use Rattle.placement.specs.Place as Place
 use Rattle.free_places.specs.Search as PlaceSearch
-use Rattle.placement.specs.Place.{noBox, boxIn}
 use Rattle.free_places.specs.Search.{Frame, frameFor}
 use Rattle.placement.specs.Stages.Views.{framesIn}
 use Rattle.bars.specs.declared.Bar.{Bar}
 use Rattle.bars.specs.Bar as Bars
 use Rattle.bars.specs.Bar.{Span, bare, barFor, blockAt, barAt, rowEnd}
-use Rattle.bars.specs.Stages.Span.{spanAt, spansIn}
+use Rattle.spans.specs.Stages.Span.{spanAt, spansIn}
 use Rattle.bars.specs.Exit.{exit}
 use Rattle.runs.specs.Run as Run
 use Rattle.runs.specs.Run.{Scene, slot, ledPath, linePoints, runFor, runOf}
@@ -51,7 +50,7 @@ use Rattle.runs.specs.Stages.Views.{RunLists, held, lead, blockOf, barOf, slotO
 use Rattle.crossings.specs.Stages.Views as Routing
 use Rattle.crossings.specs.Stages.Views.{grid, exitAt, lineBetween, lineIn, linesIn}
 use Rattle.exits.specs.Stages.Exits.{exitsOf, exitsIn, Exited}
-use Rattle.pieces.specs.Stages.Pieces.{runsIn}
+use Rattle.survey.specs.Stages.Runs.{runsIn}
 use Rattle.results.specs.Stages.Bars.{barsIn}
 use Rattle.plan.specs.Stages.Plan.{Interiors, Settled}
 use Rattle.drawing.specs.Network.{Network}

@@ -13,7 +13,7 @@ use Rattle.network.specs.declared.words.Kind.{Kind}
 use Rattle.network.specs.declared.words.Kind.the-variants.{Undrawn, Open, Internal, Line}
 use Rattle.network.specs.Words.{kinds, kindAt}
 use Rattle.network.specs.Views.{fromRowsIn, toRowsIn}
-use Rattle.stations.specs.Row.{row, fromRow, toRow, fromRows, toRows}
+use Rattle.rows.specs.Row.{row, fromRow, toRow, fromRows, toRows}
 
 module _ (sub : List ℕ) (seeds : List Point) (ks : List Kind) where
   row-le : (s e : ℕ) → row sub seeds ks s e ≤ length ks

@@ -6,13 +6,13 @@ ghost use Rattle.options.specs.Options.{searchOf};
 ghost use Rattle.network.specs.Words.{stationCount};
 ghost use Rattle.drawing.specs.Network.{network};
 ghost use Rattle.chart.specs.Stages.Laid.{Laid};
-use bars::span::spans;
 use exits::write_exits;
 use measures::Measures;
 use options::Options;
 use options::search_of;
 use plan::interiors;
 use plan::settle;
+use spans::spans;
 
 // The search of these options, 0 where it is below 0.
 fn search_in(o: Options) -> usize

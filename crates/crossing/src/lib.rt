@@ -3,11 +3,11 @@ ghost use mathlib.Core.Path.{_≡_};
 ghost use mathlib.Core.Bool.{true, false};
 ghost use Rattle.geometry.specs.Plane.{point};
 ghost use Rattle.crossing.specs.Cross.{orient, crosses, parallel, param};
-use float::hypot::hypot;
 use float::small::abs;
 use float::small::clamp;
 use float::small::max;
 use geometry::Point;
+use hypot::hypot;
 
 // Where the line through two points crosses a segment, between its ends (0 and 1), or that they are parallel.
 pub enum Param {

@@ -12,8 +12,8 @@ use borrow.Author.Tests.{eq-eqb, ne-eqb}
 use Rattle.order.specs.Order.{keep}
 use Rattle.order.proofs.Laws.{keep-yes, keep-no}
 use Rattle.mesh.specs.Mesh.{at, endAt}
-use Rattle.walk.specs.Round.{roundOf, firstAt}
-use Rattle.walk.proofs.Rounds.{own, length-round, around-first, around-over, round-out, round-read}
+use Rattle.half_edges.specs.Round.{roundOf, firstAt}
+use Rattle.half_edges.proofs.Rounds.{own, length-round, around-first, around-over, round-out, round-read}
 use Rattle.crossings.specs.Stages.Store.{edgesFrom, stamp}
 
 keep-nil : (p : ℕ → Bool) → keep p [] ≡ []

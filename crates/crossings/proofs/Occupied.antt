@@ -18,7 +18,7 @@ use Rattle.order.proofs.Tables.{howMany-zero, which-zero}
 use Rattle.order.proofs.Strides.{length-strided, getD-strided, strided-ext, strided-zero, strided-push, read-other}
 use Rattle.network.specs.Words.{isOccupied, occupied}
 use Rattle.network.specs.Views.{countsIn, orderIn}
-use Rattle.sizes.proofs.Occupied.{passed, passedCount, passed-all, count-all, passed-no, passed-yes, count-no, count-yes}
+use Rattle.network.proofs.Occupied.{passed, passedCount, passed-all, count-all, passed-no, passed-yes, count-no, count-yes}
 use Rattle.crossings.specs.Route.{vertexOf}
 use Rattle.crossings.specs.Stages.Store.{Rising}
 

@@ -14,7 +14,7 @@ use Rattle.order.specs.Order.{pick, upFrom, keep, count}
 use Rattle.order.proofs.Laws.{count-nil, count-yes, count-no, count-at, occurs, count-keep, length-up, getD-up}
 use Rattle.order.proofs.Merging.{le-or-lt}
 use Rattle.mesh.specs.Mesh.{at, endAt}
-use Rattle.walk.specs.Round.{around}
+use Rattle.half_edges.specs.Round.{around}
 use Rattle.crossings.specs.Stages.Store.{edgesFrom, stamp}
 
 -- g is one of a list

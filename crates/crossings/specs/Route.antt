@@ -10,14 +10,13 @@ use Rattle.float.specs.Ops.{_⊕_, _⊖_, _⊗_}
 use Rattle.order.specs.Order.{upFrom, keep}
 use Rattle.geometry.specs.declared.Point.{Point}
 use Rattle.geometry.specs.declared.Box.{Box}
-use Rattle.geometry.specs.Plane.{point, pointAt}
+use Rattle.geometry.specs.Plane.{point, pointAt, boxIn}
 use Rattle.crossing.specs.Cross.{param, placeOr}
 use Rattle.channel.specs.declared.Channel.{Channel}
 use Rattle.channel.specs.Channel.{channelOf}
-use Rattle.channel.specs.Space.{wishOrder, inOrder, spaced, putAll}
+use Rattle.spacing.specs.Space.{wishOrder, inOrder, spaced, putAll}
 use Rattle.mesh.specs.Mesh.{lowAt, highAt}
 use Rattle.walk.specs.Trace.{Walk, traced}
-use Rattle.placement.specs.Place.{boxIn}
 
 -- 1/2, the place of a crossing where the line is parallel to its channel
 abbrev pub half : Float

@@ -2,11 +2,11 @@
 ghost use mathlib.Core.Path.{_≡_};
 ghost use Prim.Native.Nat.{_+_, _*_, _≤_, _<_};
 ghost use lib.ListN.{length, getD, take, set};
-ghost use Rattle.walk.specs.Round.{roundOf};
+ghost use Rattle.half_edges.specs.Round.{roundOf};
 ghost use Rattle.crossings.specs.Stages.Store.{edgesFrom, stamp, withMarks, numberFor, marksFor, countWith};
+use half_edges::first_at;
 use mesh::end_at;
 use order::at;
-use walk::round::first_at;
 
 // Stores a number at i, nothing past the end.
 fn put(list: &mut [u32], i: usize, v: u32)

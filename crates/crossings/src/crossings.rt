@@ -3,7 +3,7 @@ ghost use mathlib.Core.Path.{_≡_};
 ghost use Prim.Native.Nat.{ℕ, _+_, _*_, _≤_, _<_};
 ghost use lib.ListN.{length, getD, take, set};
 ghost use Rattle.mesh.specs.Mesh.{lowAt, highAt};
-ghost use Rattle.walk.specs.Round.{roundOf};
+ghost use Rattle.half_edges.specs.Round.{roundOf};
 ghost use Rattle.crossings.specs.Route.{cross, crossAll};
 ghost use Rattle.crossings.specs.Stages.Store.{placeOn, stock, Grown};
 use crate::channels::channel_for;

@@ -10,15 +10,15 @@ use Rattle.float.specs.Size.{AtMost}
 use Rattle.float.proofs.SizeLaws.{add-under, sub-under, mul-most, f½-most}
 use Rattle.geometry.specs.declared.Point.{Point}
 use Rattle.geometry.specs.declared.Box.{Box}
-use Rattle.geometry.proofs.PointSizes.{Near}
-use Rattle.placement.specs.Place.{boxIn}
-use Rattle.placement.proofs.PlaceSizes.{Edges}
+use Rattle.geometry.proofs.PointSizes.{Near, Edges}
+use Rattle.geometry.specs.Plane.{boxIn}
 use Rattle.first_box.specs.declared.FirstHit.{FirstHit}
 use Rattle.first_box.specs.declared.FirstHit.the-variants.{Free, At}
 use Rattle.first_box.specs.First.{firstHit}
-use Rattle.detour.specs.declared.corner.Choice.{Choice}
-use Rattle.detour.specs.declared.corner.Choice.the-variants.{Nowhere, Over}
-use Rattle.detour.specs.Detour.{cornersOf, costKey, clears, clearing, cheaper, cheapest, orElse, corner, detourOn, detourTo, detour}
+use Rattle.corner.specs.declared.Choice.{Choice}
+use Rattle.corner.specs.declared.Choice.the-variants.{Nowhere, Over}
+use Rattle.corner.specs.Corner.{cornersOf, costKey, clears, clearing, cheaper, cheapest, orElse, corner}
+use Rattle.detour.specs.Detour.{detourOn, detourTo, detour}
 
 -- every point of a list lies within 2 ^ (k - 1074)
 abbrev pub Points : ℕ → List Point → Type 0

@@ -7,12 +7,12 @@ use lib.ListN.{length, take}
 use lib.Ieee.{Float}
 use Rattle.geometry.specs.declared.Point.{Point}
 use Rattle.geometry.specs.declared.Box.{Box}
-use Rattle.geometry.specs.Plane.{pointAt}
-use Rattle.placement.specs.Place.{boxIn}
+use Rattle.geometry.specs.Plane.{pointAt, boxIn}
 use Rattle.first_box.specs.declared.FirstHit.{FirstHit}
 use Rattle.first_box.specs.declared.FirstHit.the-variants.{Free, At}
 use Rattle.first_box.specs.First.{firstHit}
-use Rattle.detour.specs.Detour.{corner, detourOn, detourTo, detour}
+use Rattle.corner.specs.Corner.{corner}
+use Rattle.detour.specs.Detour.{detourOn, detourTo, detour}
 use Rattle.detour.specs.Stages.Paths.{pathIn, PutIn, Led}
 use Rattle.detour.proofs.Shifting.{point-before, path-zero, path-more, path-cons, path-join, path-kept, path-moved, length-path}
 

@@ -1,9 +1,7 @@
 -- Laws that the functions' proofs use.
-pub mod Choosing
 pub mod Shifting
 pub mod Detours
 pub mod DetourSizes
-pub mod CostSizes
 pub mod Lending
 pub mod Turning
 pub mod Again

@@ -10,13 +10,13 @@ use lib.ListN.{length, take}
 use lib.Ieee.{Float}
 use Rattle.geometry.specs.declared.Point.{Point}
 use Rattle.geometry.specs.declared.Box.{Box}
-use Rattle.geometry.specs.Plane.{pointAt}
-use Rattle.placement.specs.Place.{boxIn}
+use Rattle.geometry.specs.Plane.{pointAt, boxIn}
 use Rattle.first_box.specs.declared.FirstHit.{FirstHit}
 use Rattle.first_box.specs.declared.FirstHit.the-variants.{Free, At}
 use Rattle.first_box.specs.First.{firstHit}
 use Rattle.detour.specs.declared.path.Turn.{Turn}
-use Rattle.detour.specs.Detour.{corner, detour}
+use Rattle.corner.specs.Corner.{corner}
+use Rattle.detour.specs.Detour.{detour}
 use Rattle.detour.specs.Stages.Paths.{pathIn, PutIn, Led}
 use Rattle.detour.specs.Stages.Turns.{BoxHit, Looking, Turned, Starts}
 use Rattle.detour.proofs.Detours.{Going, led-start, turn-free, turn-put, led-spent, led-end}

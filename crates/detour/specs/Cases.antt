@@ -18,7 +18,8 @@ use Rattle.geometry.specs.Entry.{entryOf, enters}
 use Rattle.network.specs.Views.{boxesIn}
 use Rattle.first_box.specs.declared.FirstHit.the-variants.{Free, At}
 use Rattle.first_box.specs.First.{entryAt, comesFirst, sooner, look, found, firstHit}
-use Rattle.detour.specs.Detour.{cornersOf, cost, costKey, clears, clearing, cheaper, cheapest, orElse, corner, detourOn, detourTo, detour}
+use Rattle.corner.specs.Corner.{cornersOf, cost, costKey, clears, clearing, cheaper, cheapest, orElse, corner}
+use Rattle.detour.specs.Detour.{detourOn, detourTo, detour}
 
 -- point i of a list
 abbrev at : List ℕ → ℕ → Point

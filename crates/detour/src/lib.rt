@@ -1,4 +1,3 @@
 // Leading a path round boxes: the box that a piece enters first, and at most four points put in.
 pub mod boxes;
-pub mod corner;
 pub mod path;

@@ -13,7 +13,7 @@ use crate::boxes::BoxIndex;
 use crate::boxes::box_index;
 use crate::boxes::box_of;
 use crate::boxes::first_hit;
-use crate::corner::corner;
+use corner::corner;
 use first_box::FirstHit;
 use geometry::Box;
 use geometry::Point;

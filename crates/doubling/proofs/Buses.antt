@@ -19,7 +19,7 @@ use Rattle.geometry.specs.declared.Point.{Point}
 use Rattle.geometry.specs.Plane.{point, origin}
 use Rattle.options.specs.declared.Options.{Options}
 use Rattle.network.specs.Words.{stationCount, stationOf, busesIn}
-use Rattle.network.specs.Seed.{pointOf, busPoint, plus, sumTo, mean, seedOf, seeds}
+use Rattle.seeds.specs.Seed.{pointOf, busPoint, plus, sumTo, mean, seedOf, seeds}
 use Rattle.drawing.specs.Network.{Network}
 use Rattle.drawing.specs.Drawing.{planned, routedOf, sceneOf, drawing}
 use Rattle.doubling.specs.Doubling.{HasPoint, Allowed, ScaledBus, withMap}

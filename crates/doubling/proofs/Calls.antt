@@ -10,7 +10,7 @@ use Rattle.float.specs.Double.{scaled}
 use Rattle.order.proofs.Tables.{length-table}
 use Rattle.options.specs.declared.Options.{Options}
 use Rattle.network.specs.Words.{stationCount, busCounts, kindOf, kinds}
-use Rattle.network.specs.Seed.{busPoint}
+use Rattle.seeds.specs.Seed.{busPoint}
 use Rattle.scales.specs.Scale.{scales}
 use Rattle.placement.specs.Place.{boxes}
 use Rattle.bars.specs.Bar.{bars, position}

@@ -21,7 +21,8 @@ use Rattle.options.specs.declared.Options.{Options}
 use Rattle.options.specs.Options.{searchOf}
 use Rattle.network.specs.declared.words.Kind.{Kind}
 use Rattle.network.specs.Words.{busCounts, kinds, occupied}
-use Rattle.placement.specs.Place.{noBox, boxes}
+use Rattle.geometry.specs.Plane.{noBox}
+use Rattle.placement.specs.Place.{boxes}
 use Rattle.sized.specs.Sized.{illSized}
 use Rattle.bars.specs.declared.Bar.{Bar}
 use Rattle.bars.specs.Bar.{bars, position}

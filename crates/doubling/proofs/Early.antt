@@ -29,7 +29,7 @@ use Rattle.options.specs.declared.Gaps.{Gaps}
 use Rattle.options.specs.declared.Options.{Options}
 use Rattle.options.specs.Options.{between, searchFits, gapFits, gapsFit, inRange}
 use Rattle.network.specs.Words.{stationCount, busCounts, isOccupied, occupied, kindOf, kinds}
-use Rattle.network.specs.Seed.{seeds, placeAt}
+use Rattle.seeds.specs.Seed.{seeds, placeAt}
 use Rattle.refusals.specs.Refusal.{tooMany, above, farOut, tooFar, refuse, shapeRefusal}
 use Rattle.units.specs.Unit.{coordinates}
 use Rattle.drawing.specs.declared.room.Room.{Room}

@@ -21,9 +21,9 @@ use Rattle.proximity.specs.Near.{nearest}
 use Rattle.options.specs.declared.Options.{Options}
 use Rattle.options.specs.Options.{defaults}
 use Rattle.network.specs.Words.{pastTo, stationCount, busesIn, busCounts, occupied}
-use Rattle.network.specs.Seed.{busPoint, pointOf, sumTo, mean, seedOf, seeds}
+use Rattle.seeds.specs.Seed.{busPoint, pointOf, sumTo, mean, seedOf, seeds}
 use Rattle.refusals.specs.Refusal.{above}
-use Rattle.stations.specs.Row.{rowsIn}
+use Rattle.rows.specs.Row.{rowsIn}
 use Rattle.sizes.specs.Size.{sizeFor, sizes, sides}
 use Rattle.units.specs.Unit.{coordinates, spacing, spacingOf, typical, unitFor}
 use Rattle.drawing.specs.Network.{Network, network}

@@ -18,7 +18,7 @@ use Rattle.proximity.specs.Near.{neighbours}
 use Rattle.options.specs.declared.Gaps.{Gaps}
 use Rattle.options.specs.declared.Options.{Options}
 use Rattle.network.specs.Words.{isOccupied, occupied}
-use Rattle.network.specs.Seed.{placeAt}
+use Rattle.seeds.specs.Seed.{placeAt}
 use Rattle.sizes.specs.Size.{Size}
 use Rattle.units.specs.Unit.{coordinates}
 use Rattle.scales.specs.Scale.{tier, occupiedBelow, scaleAt, scalesOf, scales}

@@ -27,7 +27,7 @@ use Rattle.proximity.specs.Near.{distance}
 use Rattle.options.specs.declared.Options.{Options}
 use Rattle.network.specs.declared.words.Kind.{Kind}
 use Rattle.network.specs.Words.{busCounts, occupied}
-use Rattle.network.specs.Seed.{seeds}
+use Rattle.seeds.specs.Seed.{seeds}
 use Rattle.units.specs.Unit.{coordinates}
 use Rattle.units.specs.Doubles.{DoublesPoint}
 use Rattle.doubling.specs.Doubling.{sixtyFourth, Allowed, EachGap}

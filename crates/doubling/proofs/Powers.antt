@@ -25,7 +25,7 @@ use Rattle.geometry.specs.Plane.{pointAt}
 use Rattle.options.specs.declared.Options.{Options}
 use Rattle.network.specs.declared.words.Kind.{Kind}
 use Rattle.network.specs.Words.{busCounts, occupied, kinds}
-use Rattle.network.specs.Seed.{seeds}
+use Rattle.seeds.specs.Seed.{seeds}
 use Rattle.refusals.specs.Refusal.{above}
 use Rattle.units.specs.Unit.{coordinates}
 use Rattle.drawing.specs.Network.{Network}

@@ -19,8 +19,8 @@ use Rattle.options.specs.declared.Gaps.{Gaps}
 use Rattle.network.specs.declared.words.Kind.{Kind}
 use Rattle.network.specs.declared.words.Kind.the-variants.{Undrawn, Open, Internal, Line}
 use Rattle.network.specs.Words.{kindAt, stationOf}
-use Rattle.network.specs.Seed.{placeAt}
-use Rattle.placement.specs.Place.{boxIn}
+use Rattle.seeds.specs.Seed.{placeAt}
+use Rattle.geometry.specs.Plane.{boxIn}
 use Rattle.detour.specs.Detour.{detour}
 use Rattle.bars.specs.declared.Bar.{Bar}
 use Rattle.bars.specs.Bar.{blockAt, barAt, position, rowEnd}

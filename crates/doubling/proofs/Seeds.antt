@@ -27,8 +27,8 @@ use Rattle.geometry.specs.Plane.{point, origin}
 use Rattle.network.specs.declared.words.Kind.{Kind}
 use Rattle.network.specs.declared.words.Kind.the-variants.{Undrawn, Open, Internal, Line}
 use Rattle.network.specs.Words.{stationCount, stationOf, busesIn, kindAt}
-use Rattle.network.specs.Seed.{pointOf, busPoint, plus, sumTo, mean, seedOf, seeds, placeAt}
-use Rattle.stations.specs.Row.{hasRow, rowKey, row, fromRow, toRow, fromRows, toRows}
+use Rattle.seeds.specs.Seed.{pointOf, busPoint, plus, sumTo, mean, seedOf, seeds, placeAt}
+use Rattle.rows.specs.Row.{hasRow, rowKey, row, fromRow, toRow, fromRows, toRows}
 use Rattle.units.specs.Doubles.{DoublesPoint}
 use Rattle.doubling.specs.Twice.{DoubledMap}
 

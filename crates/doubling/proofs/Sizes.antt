@@ -31,7 +31,7 @@ use Rattle.options.specs.declared.Gaps.{Gaps}
 use Rattle.options.specs.declared.Options.{Options}
 use Rattle.network.specs.declared.words.Kind.{Kind}
 use Rattle.network.specs.Words.{busesIn, busCounts, isOccupied, occupied}
-use Rattle.stations.specs.Row.{rowsIn}
+use Rattle.rows.specs.Row.{rowsIn}
 use Rattle.sizes.specs.Size.{Size, widthFor, heightFor, sizeFor, sizes, sizeAt, sides}
 use Rattle.units.specs.Unit.{typical}
 use Rattle.scales.specs.Scale.{tier, scaleAt, scalesOf, scales}

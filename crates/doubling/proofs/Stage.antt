@@ -22,13 +22,14 @@ use Rattle.options.specs.declared.Gaps.{Gaps}
 use Rattle.options.specs.declared.Options.{Options}
 use Rattle.network.specs.declared.words.Kind.{Kind}
 use Rattle.network.specs.Words.{stationCount, busesIn, busCounts, occupied}
-use Rattle.network.specs.Seed.{seedOf, seeds, placeAt}
-use Rattle.stations.specs.Row.{fromRows, toRows}
+use Rattle.seeds.specs.Seed.{seedOf, seeds, placeAt}
+use Rattle.rows.specs.Row.{fromRows, toRows}
 use Rattle.sizes.specs.Size.{Size, sizes, sizeAt}
 use Rattle.units.specs.Unit.{coordinates, spacing, typical, unitFor}
 use Rattle.scales.specs.Scale.{scales}
 use Rattle.offsets.specs.Offset.{offsets}
-use Rattle.placement.specs.Place.{places, boxes, boxIn}
+use Rattle.geometry.specs.Plane.{boxIn}
+use Rattle.placement.specs.Place.{places, boxes}
 use Rattle.free_places.specs.Search.{Frame, frameFor, frames, frameAt}
 use Rattle.turns.specs.Turns.{placementOrder}
 use Rattle.sized.specs.Sized.{illSized}

@@ -24,10 +24,11 @@ use Rattle.options.specs.declared.Options.{Options}
 use Rattle.network.specs.declared.words.Kind.{Kind}
 use Rattle.network.specs.declared.words.Kind.the-variants.{Undrawn, Open, Internal, Line}
 use Rattle.network.specs.Words.{kindAt, stationOf, occupied, busCounts}
-use Rattle.network.specs.Seed.{seeds}
-use Rattle.stations.specs.Column.{column, columns}
-use Rattle.stations.specs.Row.{row, fromRow, toRow, fromRows, toRows}
-use Rattle.placement.specs.Place.{boxIn, boxes}
+use Rattle.seeds.specs.Seed.{seeds}
+use Rattle.columns.specs.Column.{column, columns}
+use Rattle.rows.specs.Row.{row, fromRow, toRow, fromRows, toRows}
+use Rattle.geometry.specs.Plane.{boxIn}
+use Rattle.placement.specs.Place.{boxes}
 use Rattle.free_places.specs.Search.{Frame, frameAt}
 use Rattle.bars.specs.declared.Bar.{Bar}
 use Rattle.bars.specs.Bar.{Span, bare, rows, include, includeEnd, includeBranch, spanTo, spans, barFor, bars, barAt, blockAt}

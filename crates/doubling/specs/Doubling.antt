@@ -14,7 +14,7 @@ use Rattle.geometry.specs.declared.Box.{Box}
 use Rattle.options.specs.declared.Gaps.{Gaps}
 use Rattle.options.specs.declared.Options.{Options}
 use Rattle.network.specs.Words.{stationCount, busCounts, isOccupied}
-use Rattle.network.specs.Seed.{seeds, placeAt}
+use Rattle.seeds.specs.Seed.{seeds, placeAt}
 use Rattle.refusals.specs.Refusal.{above}
 use Rattle.drawing.specs.declared.answer.Plot.{Plot}
 use Rattle.drawing.specs.declared.answer.Answer.the-variants.{Drawn}

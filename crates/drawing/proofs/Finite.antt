@@ -26,8 +26,8 @@ use Rattle.order.proofs.Merging.{le-or-lt}
 use Rattle.order.proofs.Tables.{length-table, getD-table, howMany-le, all-which}
 use Rattle.geometry.specs.declared.Point.{Point}
 use Rattle.geometry.specs.declared.Box.{Box}
-use Rattle.geometry.specs.Plane.{origin}
-use Rattle.geometry.proofs.PointSizes.{Near}
+use Rattle.geometry.specs.Plane.{origin, boxIn, noBox}
+use Rattle.geometry.proofs.PointSizes.{Near, Edges}
 use Rattle.mesh.specs.Mesh.{meshOk}
 use Rattle.mesh.proofs.Meshes.{Sound, mesh-sound}
 use Rattle.options.specs.declared.Options.{Options}
@@ -36,16 +36,16 @@ use Rattle.network.specs.declared.words.Kind.the-variants.{Undrawn, Open, Inter
 use Rattle.options.specs.Options.{inRange, between, searchFits, gapsFit, searchOf}
 use Rattle.network.specs.Words.{stationCount, busesIn, busCounts, stationOf, isOccupied, occupied, kindOf, kinds, kindAt, Safe}
 use Rattle.refusals.specs.Refusal.{refuse, tooFar}
-use Rattle.network.specs.Seed as Seed
-use Rattle.network.specs.Seed.{placeAt, seedOf}
+use Rattle.seeds.specs.Seed as Seed
+use Rattle.seeds.specs.Seed.{placeAt, seedOf}
 use Rattle.refusals.proofs.SeedSizes.{Times, seed-times}
 use Rattle.network.proofs.Stations.{station-below}
 use Rattle.network.proofs.Branches.{kind-safe}
-use Rattle.stations.specs.Column as Column
-use Rattle.stations.specs.Column.{falling, voltage}
-use Rattle.stations.specs.Row as Row
-use Rattle.stations.specs.Row.{hasRow, rowKey, row}
-use Rattle.stations.proofs.RowLaw as RowLaw
+use Rattle.columns.specs.Column as Column
+use Rattle.columns.specs.Column.{falling, voltage}
+use Rattle.rows.specs.Row as Row
+use Rattle.rows.specs.Row.{hasRow, rowKey, row}
+use Rattle.rows.proofs.RowLaw as RowLaw
 use Rattle.sizes.specs.Size as Sizes
 use Rattle.units.specs.Unit.{coordinates, spacing, typical, unitFor}
 use Rattle.scales.specs.Scale as Scale
@@ -60,9 +60,8 @@ use Rattle.turns.proofs.OrderLaw.{bus-occupied}
 use Rattle.sized.specs.Sized.{illSized}
 use Rattle.placement.specs.Place as Place
 use Rattle.free_places.specs.Search as PlaceSearch
-use Rattle.placement.specs.Place.{boxIn, noBox}
 use Rattle.free_places.specs.Search.{Frame, frameAt}
-use Rattle.placement.proofs.PlaceSizes.{Edges, frames-most, places-near, offsets-near, boxes-most}
+use Rattle.placement.proofs.PlaceSizes.{frames-most, places-near, offsets-near, boxes-most}
 use Rattle.bars.specs.declared.Bar.{Bar}
 use Rattle.bars.specs.Bar as Bars
 use Rattle.bars.specs.Bar.{blockAt, barAt}

@@ -1,8 +1,7 @@
--- Refusals 8 and 11, the answer and the cleared lists: what their parts give.
+-- Refusals 8 and 11 and the answer: what their parts give.
 -- Assumes nothing.
 use mathlib.Core.Path.{_≡_, refl}
 use mathlib.Core.Bool.{Bool, true, false}
-use mathlib.Core.List.{List}
 use Prim.Native.Nat.{ℕ, zero, suc, _*_, _/_, _≤_, _<_, min}
 use native.Mathlib.Omega.{arith}
 use lib.Dec.{ltb}
@@ -11,8 +10,6 @@ use borrow.Author.Tests.{ltb-false, lt-ltb, le-ltb}
 use Rattle.geometry.specs.declared.Box.{Box}
 use Rattle.refusals.specs.Refusal.{refuse}
 use Rattle.drawing.specs.declared.answer.Answer.the-variants.{Refused}
-use Rattle.drawing.specs.Network.{crossings}
-use Rattle.drawing.proofs.Lent.{work}
 use Rattle.drawing.specs.Answer.{orLater, pieceRoom, lateBy, answerBy}
 
 enough : (r : ℕ) (b : Bool) → orLater r (refuse b 11 0) ≡ 0 → b ≡ false
@@ -53,13 +50,3 @@ pub answer-refused : (r : ℕ) (u : Float) (b : Box) (p : ℕ) → (r ≡ 0 → 
 unfolding answerBy
 answer-refused zero u b p h = absurd (h refl)
 answer-refused (suc r) u b p h = refl
-
--- ---- records of equal lists
-
-pub work-eq : {a a' b b' c c' d d' e e' f f' : List ℕ} {g g' h h' i i' j j' : List Float}
-    → a ≡ a' → b ≡ b' → c ≡ c' → d ≡ d' → e ≡ e' → f ≡ f' → g ≡ g' → h ≡ h' → i ≡ i' → j ≡ j'
-    → work a b c d e f g h i j ≡ work a' b' c' d' e' f' g' h' i' j'
-work-eq p q r s t u v w x y = rw (p, q, r, s, t, u, v, w, x, y)
-
-pub crossings-eq : {a a' : List ℕ} {b b' c c' : List Float} → a ≡ a' → b ≡ b' → c ≡ c' → crossings a b c ≡ crossings a' b' c'
-crossings-eq p q r = rw (p, q, r)

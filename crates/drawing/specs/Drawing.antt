@@ -17,9 +17,9 @@ use Rattle.options.specs.Options.{searchOf}
 use Rattle.network.specs.declared.words.Kind.{Kind}
 use Rattle.network.specs.declared.words.Kind.the-variants.{Undrawn, Open, Internal, Line}
 use Rattle.network.specs.Words.{busCounts, kinds, kindAt, stationOf, occupied}
-use Rattle.network.specs.Seed as Seed
-use Rattle.stations.specs.Column as Column
-use Rattle.stations.specs.Row as Row
+use Rattle.seeds.specs.Seed as Seed
+use Rattle.columns.specs.Column as Column
+use Rattle.rows.specs.Row as Row
 use Rattle.measures.specs.declared.Measures.{Measures}
 use Rattle.sizes.specs.Size as Sizes
 use Rattle.units.specs.Unit.{coordinates, spacing, typical, unitFor}

@@ -1,7 +1,5 @@
-// What a drawing is and what refuses it: refusals, the answer, cleared lists.
+// What a drawing is and what a call answers; refusal 11.
 pub mod answer;
 pub mod answers;
-pub mod clear;
 pub mod late;
-pub mod refuse;
 pub mod room;

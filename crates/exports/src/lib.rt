@@ -15,7 +15,7 @@ ghost use Rattle.proximity.specs.Near.{nearest};
 pub extern "C" fn tansygate_hypot(x: f64, y: f64) -> f64
     ensures { λ r. ⌜ r ≡ hypotOf x y ⌝ }
 {
-    float::hypot::hypot(x, y)
+    hypot::hypot(x, y)
 }
 
 // How many points of two numbers each a list of this length holds, and no more than another holds numbers.

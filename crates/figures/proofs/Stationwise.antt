@@ -14,17 +14,16 @@ use Rattle.order.proofs.Tables.{length-table, getD-table, howMany-le, length-wh
 use Rattle.order.proofs.Strides.{length-strided}
 use Rattle.geometry.specs.declared.Point.{Point}
 use Rattle.geometry.specs.declared.Box.{Box}
-use Rattle.geometry.specs.Plane.{pointAt, boxAt, origin}
+use Rattle.geometry.specs.Plane.{pointAt, boxAt, origin, noBox, boxIn}
 use Rattle.proximity.specs.Near.{distance, nearest}
 use Rattle.network.specs.Words.{isOccupied, occupied}
-use Rattle.network.specs.Seed.{placeAt}
+use Rattle.seeds.specs.Seed.{placeAt}
 use Rattle.network.specs.Views.{countsIn, pointsIn, boxesIn}
 use Rattle.network.proofs.Views.{putPoint, points-zero, points-push, getD-points, getD-boxes, boxes-suc, boxes-zero}
 use Rattle.units.specs.Unit.{coordinates}
 use Rattle.units.proofs.Near.{nearest-take}
 use Rattle.order.specs.Over.{over}
-use Rattle.placement.specs.Place.{noBox, boxIn}
-use Rattle.free_places.proofs.Rest.{onward, onward-yes, onward-end}
+use Rattle.network.proofs.Rest.{onward, onward-yes, onward-end}
 use Rattle.figures.specs.Figure.{middle, middles, displacements, shorter, bySides, spacingsFrom, spacings}
 
 -- ---- what is left of a list over the occupied stations

@@ -7,11 +7,10 @@ use Rattle.float.specs.Small.{maxOf, minOf}
 use Rattle.float.specs.Ops.{f2, leastNormal, _⊕_, _⊖_, _⊘_}
 use Rattle.geometry.specs.declared.Point.{Point}
 use Rattle.geometry.specs.declared.Box.{Box}
-use Rattle.geometry.specs.Plane.{point}
+use Rattle.geometry.specs.Plane.{point, boxIn}
 use Rattle.proximity.specs.Near.{distance, nearest}
-use Rattle.network.specs.Seed.{placeAt}
+use Rattle.seeds.specs.Seed.{placeAt}
 use Rattle.units.specs.Unit.{coordinates}
-use Rattle.placement.specs.Place.{boxIn}
 
 -- the middle of a box, and of each of a list
 unfoldable pub middle : Box → Point

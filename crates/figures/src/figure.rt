@@ -7,15 +7,15 @@ ghost use Rattle.network.specs.Views.{countsIn, pointsIn, boxesIn};
 ghost use Rattle.proximity.specs.Near.{distance};
 ghost use Rattle.order.specs.Over.{over};
 ghost use Rattle.figures.specs.Figure.{middle, middles, displacements, shorter, bySides, spacingsFrom};
-use float::hypot::hypot;
 use float::small::max;
 use float::small::min;
 use geometry::Box;
 use geometry::Point;
 use geometry::box_at;
 use geometry::point_at;
+use hypot::hypot;
 use neighbours::nearest_neighbour_distances;
-use network::seed::put_point;
+use seeds::put_point;
 
 // The middle of a box.
 fn middle(b: Box) -> Point

@@ -4,10 +4,9 @@ use mathlib.Core.Logic.{_≢_}
 use mathlib.Core.Bool.{true, false}
 use Prim.Native.Nat.{ℕ, zero, suc}
 use native.Mathlib.Omega.{arith}
-use Rattle.geometry.specs.Plane.{shrunk}
+use Rattle.geometry.specs.Plane.{shrunk, boxIn}
 use Rattle.proximity.specs.Overlap.{overlap}
 use Rattle.network.specs.Words.{busCounts, isOccupied}
-use Rattle.placement.specs.Place.{boxIn}
 use Rattle.overlaps.specs.Overlaps.{overlaps}
 use Rattle.overlaps.proofs.NoOverlapping.{no-overlapping}
 use Rattle.findings.specs.declared.answer.Figures.{Figures}

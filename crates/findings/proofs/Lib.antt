@@ -1,7 +1,6 @@
--- Laws that the functions' proofs and the crates above use.
+-- Laws of refusals and answers, for the crates above.
 pub mod Early
 pub mod Lates
-pub mod Figuring
 pub mod Accepted
 pub mod Number
 pub mod Lent

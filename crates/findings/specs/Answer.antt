@@ -8,7 +8,7 @@ use lib.ListN.{length, replicate}
 use Rattle.float.specs.Ops.{f0}
 use Rattle.geometry.specs.declared.Box.{Box}
 use Rattle.network.specs.Words.{stationCount, busCounts, occupied}
-use Rattle.network.specs.Seed.{seeds}
+use Rattle.seeds.specs.Seed.{seeds}
 use Rattle.network.specs.Views.{boxesIn}
 use Rattle.refusals.specs.Refusal.{refuse, tooMany, kvUnlike, toUnlike, numberTooHigh, strayVoltage, shapeRefusal, tooFar}
 use Rattle.box_cells.specs.Length.{indexLength}

@@ -1,5 +1,3 @@
-// What an audit is lent and what it answers: refusals 1 to 7, and the figures.
+// What an audit is lent and what it answers.
 pub mod answer;
-pub mod refuse;
 pub mod room;
-pub mod stages;

@@ -16,7 +16,8 @@ use Rattle.bars.specs.Bar.{position}
 use Rattle.runs.specs.Run.{Piece, allPieces, role}
 use Rattle.runs.specs.Lists.{flat, pointNumbers, boxNumbers, barNumbers, pieceNumbers, after}
 use Rattle.runs.specs.Stages.Views.{RunLists, held, lead}
-use Rattle.pieces.specs.Stages.Pieces.{runsIn, branchOf}
+use Rattle.pieces.specs.Stages.Pieces.{branchOf}
+use Rattle.survey.specs.Stages.Runs.{runsIn}
 use Rattle.results.specs.Stages.Bars.{barsIn}
 use Rattle.results.specs.Bounds.{boundsOf}
 use Rattle.crossings.specs.Gap.{gapOf}

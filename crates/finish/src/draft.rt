@@ -17,8 +17,8 @@ use drawing::room::Room;
 use geometry::Box;
 use measures::Measures;
 use options::Options;
-use pieces::survey;
 use results::bounds::bounds_of;
+use survey::survey;
 
 // What a drawing answers beside its lists, and its late refusal, 0 for none.
 pub struct Draft {

@@ -21,10 +21,10 @@ use drawing::answers::answer_of;
 use drawing::room::Room;
 use measures::Measures;
 use options::Options;
-use pieces::write_pieces;
 use results::buses::write_buses;
 use results::lists::write_roles;
 use results::lists::write_stations;
+use survey::write_pieces;
 
 // Judges a drawing that nothing refuses so far, and writes it where nothing does.
 fn write(

@@ -18,7 +18,7 @@ use Rattle.geometry.specs.declared.entry.Entry.the-variants.{Missed, Place}
 use Rattle.geometry.specs.Clip.{hits}
 use Rattle.geometry.specs.Entry.{enters, placeOf}
 use Rattle.geometry.proofs.Entries.{enters-place, place-plus}
-use Rattle.placement.specs.Place.{boxIn}
+use Rattle.geometry.specs.Plane.{boxIn}
 use Rattle.first_box.specs.declared.Best.{Best}
 use Rattle.first_box.specs.declared.Best.the-variants.{Nothing, First}
 use Rattle.first_box.specs.First.{entryAt, comesFirst, sooner, look}

@@ -10,8 +10,8 @@ use Rattle.geometry.specs.declared.Box.{Box}
 use Rattle.network.specs.Words.{occupied}
 use Rattle.network.specs.Views.{countsIn, boxesIn}
 use Rattle.network.proofs.Views.{length-boxes}
-use Rattle.placement.specs.Place.{noBox, boxIn}
-use Rattle.free_places.proofs.Rest.{onward, onward-start, onward-yes, onward-no, onward-end}
+use Rattle.geometry.specs.Plane.{noBox, boxIn}
+use Rattle.network.proofs.Rest.{onward, onward-start, onward-yes, onward-no, onward-end}
 use Rattle.first_box.specs.declared.Best.{Best}
 use Rattle.first_box.specs.declared.Best.the-variants.{Nothing}
 use Rattle.first_box.specs.First.{entryAt, sooner, look}

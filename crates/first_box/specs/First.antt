@@ -9,7 +9,7 @@ use Rattle.geometry.specs.declared.Box.{Box}
 use Rattle.geometry.specs.declared.entry.Entry.{Entry}
 use Rattle.geometry.specs.declared.entry.Entry.the-variants.{Missed, Place}
 use Rattle.geometry.specs.Entry.{enters}
-use Rattle.placement.specs.Place.{boxIn}
+use Rattle.geometry.specs.Plane.{boxIn}
 use Rattle.first_box.specs.declared.Best.{Best}
 use Rattle.first_box.specs.declared.Best.the-variants.{Nothing, First}
 use Rattle.first_box.specs.declared.FirstHit.{FirstHit}

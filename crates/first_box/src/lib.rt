@@ -4,7 +4,7 @@ ghost use Prim.Native.Nat.{_+_, _*_, _≤_, _<_};
 ghost use lib.ListN.{length};
 ghost use Rattle.network.specs.Words.{occupied};
 ghost use Rattle.network.specs.Views.{countsIn, boxesIn};
-ghost use Rattle.placement.specs.Place.{boxIn};
+ghost use Rattle.geometry.specs.Plane.{boxIn};
 ghost use Rattle.first_box.specs.First.{entryAt, comesFirst, sooner, look, found};
 use geometry::Box;
 use geometry::Point;

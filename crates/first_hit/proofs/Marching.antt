@@ -15,7 +15,7 @@ use Rattle.geometry.specs.declared.Box.{Box}
 use Rattle.geometry.specs.declared.entry.Entry.{Entry}
 use Rattle.geometry.specs.declared.entry.Entry.the-variants.{Missed, Place}
 use Rattle.geometry.specs.Entry.{enters}
-use Rattle.placement.specs.Place.{boxIn}
+use Rattle.geometry.specs.Plane.{boxIn}
 use Rattle.windows.specs.Stages.Window.{plainPiece, windowHolds, isApart, Reaches}
 use Rattle.windows.proofs.WindowLaws.{place-low, place-high, window-law, reaches-not-apart}
 use Rattle.float.proofs.Ordered.{lift, fall, le-left, float-trans, below-through}

@@ -8,7 +8,7 @@ use native.Mathlib.Omega.{arith}
 use Rattle.geometry.specs.declared.Point.{Point}
 use Rattle.geometry.specs.declared.Box.{Box}
 use Rattle.geometry.specs.declared.entry.Entry.{Entry}
-use Rattle.placement.specs.Place.{boxIn}
+use Rattle.geometry.specs.Plane.{boxIn}
 use Rattle.windows.specs.Stages.Window.{isApart}
 use Rattle.first_box.specs.First.{entryAt}
 use Rattle.grid.specs.declared.Grid.{Grid}

@@ -6,8 +6,6 @@ pub mod Rounding
 pub mod RoundLaws
 pub mod OperationLaws
 pub mod FloorLaws
-pub mod Extend
-pub mod Guess
 pub mod Hypots
 pub mod Sums
 pub mod Floors
@@ -19,10 +17,6 @@ pub mod SizeLaws
 pub mod Quotients
 pub mod Each
 pub mod Whole
-pub mod Lengths
-pub mod Digit
-pub mod Words
-pub mod Packing
 pub mod Patterns
 pub mod DoubleLaws
 pub mod DoubleRound

@@ -1,6 +1,5 @@
 // Functions on f64 that std has not, each equal to a definition in specs/.
 pub mod bits;
 pub mod floor;
-pub mod hypot;
 pub mod key;
 pub mod small;

@@ -13,10 +13,10 @@ use borrow.Author.Tests.{leb-true, eqb-true, eqb-false}
 use Rattle.geometry.specs.declared.Point.{Point}
 use Rattle.geometry.specs.declared.Box.{Box}
 use Rattle.box_order.specs.declared.kept.Stretch.{Stretch}
-use Rattle.box_order.specs.Stages.Cells.{shifted, cellKey, from}
+use Rattle.cells.specs.Stages.Cells.{shifted, cellKey, from}
 use Rattle.box_order.specs.Stages.Kept.{Bounds}
 use Rattle.offsets.specs.declared.offset.Offset.{Offset}
-use Rattle.offset_table.specs.Table.{inside}
+use Rattle.offset_rule.specs.Table.{inside}
 use Rattle.free_places.specs.Search.{Frame, place, buffered}
 use Rattle.free_places.specs.Stages.Among.{columnOf}
 

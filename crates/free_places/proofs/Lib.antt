@@ -1,5 +1,4 @@
 -- Laws of the search, and of two searches side by side.
-pub mod Rest
 pub mod Searching
 pub mod Columns
 pub mod SearchDoubles

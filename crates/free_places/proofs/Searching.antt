@@ -19,18 +19,18 @@ use Rattle.geometry.specs.declared.Box.{Box}
 use Rattle.geometry.specs.Plane.{boxAt}
 use Rattle.proximity.specs.Overlap.{overlap}
 use Rattle.box_order.specs.declared.kept.Stretch.{Stretch}
-use Rattle.box_order.specs.Stages.Cells.{cellKey}
+use Rattle.cells.specs.Stages.Cells.{cellKey}
 use Rattle.box_order.specs.Stages.Kept.{Bounds}
-use Rattle.box_order.proofs.CellOrder.{stretch-count}
-use Rattle.box_order.proofs.CellHalving.{below-most}
+use Rattle.cells.proofs.CellOrder.{stretch-count}
+use Rattle.cells.proofs.CellHalving.{below-most}
 use Rattle.box_order.proofs.Keeping.{stretch-part}
 use Rattle.offsets.specs.declared.offset.Offset.{Offset}
 use Rattle.free_places.specs.declared.Found.{Found}
 use Rattle.free_places.specs.declared.Found.the-variants.{At, Nowhere}
 use Rattle.free_places.specs.Search.{Frame, free, place, buffered, firstFree, orNext, placeFor}
-use Rattle.offset_table.specs.Table.{inside, skipped, pairAt, pairsIn}
+use Rattle.offset_rule.specs.Table.{inside, skipped, pairAt, pairsIn}
 use Rattle.free_places.specs.Stages.Among.{keptBoxes, boxesAmong, Holds}
-use Rattle.free_places.proofs.Rest.{rest, rest-start, rest-more, rest-end}
+use Rattle.network.proofs.Rest.{rest, rest-start, rest-more, rest-end}
 
 -- ---- free, by counting
 pub free-count : (box : ℕ → Box) (p : Box) (l : List ℕ) → free p (map box l) ≡ eqb (count (λ s. overlap p (box s)) l) 0

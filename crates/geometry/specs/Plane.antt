@@ -22,6 +22,13 @@ abbrev pub boxAt : List Float → ℕ → Box
 boxAt bs s =
     record { left = getD bs (4 * s) nan; top = getD bs (4 * s + 1) nan; right = getD bs (4 * s + 2) nan; bottom = getD bs (4 * s + 3) nan }
 
+-- the box of a station in a list of boxes, and what stands there for a station without buses
+abbrev pub noBox : Box
+noBox = record { left = f0; top = f0; right = f0; bottom = f0 }
+
+abbrev pub boxIn : List Box → ℕ → Box
+boxIn bs s = getD bs s noBox
+
 -- 1e-9
 abbrev pub edge : Float
 edge = ofBits binary64 0x3E11_2E0B_E826_D695

@@ -9,8 +9,8 @@ use borrow.Author.Tests.{ltb-false}
 use Rattle.float.specs.Small.{isFinite}
 use Rattle.float.specs.Ops.{_⊖_}
 use Rattle.geometry.specs.declared.Box.{Box}
-use Rattle.box_order.specs.Stages.Cells.{cellKey}
-use Rattle.box_order.proofs.CellLaws.{cell-mono}
+use Rattle.cells.specs.Stages.Cells.{cellKey}
+use Rattle.cells.proofs.CellLaws.{cell-mono}
 use Rattle.windows.specs.Stages.Window.{Reaches}
 use Rattle.windows.proofs.Monotone.{sub-rises}
 use Rattle.grid.specs.declared.Grid.{Grid}

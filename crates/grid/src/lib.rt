@@ -4,7 +4,7 @@ ghost use Prim.Native.Nat.{_*_, _≤_, _<_};
 ghost use lib.ListN.{length};
 ghost use Rattle.network.specs.Views.{boxesIn};
 ghost use Rattle.grid.specs.Stages.Cells.{cellAt, columnOf, rowOf, chainOf, gridIn};
-use box_order::cells::cell_key;
+use cells::cell_key;
 use first_box::box_in;
 use geometry::Box;
 use order::at;

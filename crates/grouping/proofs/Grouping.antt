@@ -16,8 +16,8 @@ use Rattle.order.proofs.Laws.{keep-yes, keep-no}
 use Rattle.order.proofs.Merging.{le-or-lt}
 use Rattle.order.proofs.Tables.{howMany-le, table-ext}
 use Rattle.order.proofs.Strides.{is-table, strided-zero, strided-push, strided-other, strided-past, getD-strided, length-strided}
-use Rattle.walk.specs.Round.{roundOf, firstAt, around}
-use Rattle.walk.proofs.Rounds.{length-round, cornerAt, round-rises, first-is, before-first, from-first, around-first}
+use Rattle.half_edges.specs.Round.{roundOf, firstAt, around}
+use Rattle.half_edges.proofs.Rounds.{length-round, cornerAt, round-rises, first-is, before-first, from-first, around-first}
 use Rattle.grouping.specs.Stages.Grouped.{startIn, memberIn, Copied, Started, Grouped}
 
 -- ---- the order copied beside the crossings

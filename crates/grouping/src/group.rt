@@ -3,7 +3,7 @@ ghost use mathlib.Core.Path.{_≡_};
 ghost use Prim.Native.Nat.{_+_, _*_, _^_, _≤_, _<_};
 ghost use lib.ListN.{length};
 ghost use Rattle.order.specs.Table.{strided};
-ghost use Rattle.walk.specs.Round.{roundOf};
+ghost use Rattle.half_edges.specs.Round.{roundOf};
 ghost use Rattle.grouping.specs.Stages.Grouped.{Started, Copied, Grouped};
 use order::at;
 use order::key_at;

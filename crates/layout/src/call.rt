@@ -5,12 +5,12 @@ ghost use Rattle.drawing.specs.Network.{crossings};
 ghost use Rattle.drawing.specs.Answer.{call, crossingRoom};
 ghost use Rattle.drawing.specs.Number.{Answered};
 use chart::chart;
+use clear::clear_crossings;
+use clear::clear_work;
 use drawing::answer::Answer;
-use drawing::clear::clear_crossings;
-use drawing::clear::clear_work;
-use drawing::refuse::refusal_of_input;
 use drawing::room::Room;
 use finish::finish;
+use layout_limits::refuse::refusal_of_input;
 use network::words::station_count;
 use options::Options;
 

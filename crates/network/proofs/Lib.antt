@@ -4,4 +4,5 @@ pub mod Stations
 pub mod Branches
 pub mod KindLaw
 pub mod Counts
-pub mod Seeds
+pub mod Occupied
+pub mod Rest

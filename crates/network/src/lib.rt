@@ -1,3 +1,2 @@
-// The network as it is lent: its words (known buses, live branches, occupied stations) and seeds.
-pub mod seed;
+// The network as it is lent: its words (known buses, live branches, occupied stations).
 pub mod words;

@@ -6,8 +6,8 @@ use lib.IntN.{pos}
 use lib.ListN.{getD}
 use Rattle.offsets.specs.declared.offset.Offset.{Offset}
 use Rattle.offsets.specs.Offset.{offsets}
-use Rattle.offset_table.specs.Table.{tablePairs, tablePair}
-use Rattle.offset_table.proofs.Rule.{table-whole}
+use Rattle.offset_rule.specs.Table.{tablePairs, tablePair}
+use Rattle.offset_rule.proofs.Rule.{table-whole}
 use Rattle.offset_lines.specs.Stages.Text.{offsetText}
 
 -- as lists

@@ -3,7 +3,7 @@ ghost use mathlib.Core.Path.{_≡_};
 ghost use Prim.Native.Nat.{_≤_};
 ghost use lib.ListN.{length};
 ghost use Rattle.order.specs.Over.{over};
-ghost use Rattle.offset_table.specs.Table.{tablePairs};
+ghost use Rattle.offset_rule.specs.Table.{tablePairs};
 ghost use Rattle.offset_lines.specs.Stages.Text.{offsetText};
 use offset_lines::print;
 

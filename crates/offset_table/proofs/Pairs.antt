@@ -9,8 +9,8 @@ use Rattle.order.specs.Table.{table}
 use Rattle.order.proofs.Tables.{length-table, getD-table, table-ext}
 use Rattle.offsets.specs.declared.offset.Offset.{Offset}
 use Rattle.offsets.specs.Offset.{offsets}
-use Rattle.offset_table.specs.Table.{tablePairs, tablePair, pairAt, pairsIn, skipped}
-use Rattle.offset_table.proofs.Rule.{table-offsets}
+use Rattle.offset_rule.specs.Table.{tablePairs, tablePair, pairAt, pairsIn, skipped}
+use Rattle.offset_rule.proofs.Rule.{table-offsets}
 
 abbrev offset : ℤ → ℤ → Offset
 offset x y = record { a = x; b = y }

@@ -11,7 +11,7 @@ use mir.Syntax.{w32, w64}
 use mir.Val.{Fits, SFits, toZ, ofZ}
 use mir.Facts.{toZ-ofZ}
 use Rattle.offsets.specs.declared.offset.Offset.{Offset}
-use Rattle.offset_table.specs.Table.{inside}
+use Rattle.offset_rule.specs.Table.{inside}
 
 module _ (z : ℤ) (F : SFits w32 z) where
   pub widened : SFits w64 (toZ w32 (ofZ w32 z))

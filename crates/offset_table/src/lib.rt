@@ -2,7 +2,7 @@
 ghost use mathlib.Core.Path.{_≡_};
 ghost use lib.IntN.{pos, natAbs};
 ghost use lib.ListN.{getD};
-ghost use Rattle.offset_table.specs.Table.{inside, pairAt, tablePair};
+ghost use Rattle.offset_rule.specs.Table.{inside, pairAt, tablePair};
 use offsets::offset::Offset;
 
 // The first numbers of the pairs.

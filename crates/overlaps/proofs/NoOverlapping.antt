@@ -13,10 +13,9 @@ use Rattle.order.proofs.Merging.{le-or-lt}
 use Rattle.order.proofs.Laws.{All, count-none}
 use Rattle.order.proofs.Tables.{all-which}
 use Rattle.geometry.specs.declared.Box.{Box}
-use Rattle.geometry.specs.Plane.{shrunk}
+use Rattle.geometry.specs.Plane.{shrunk, boxIn}
 use Rattle.proximity.specs.Overlap.{overlap}
 use Rattle.network.specs.Words.{isOccupied, occupied}
-use Rattle.placement.specs.Place.{boxIn}
 use Rattle.overlaps.specs.Overlaps.{overlapping, overlappingPairs, overlaps}
 
 none-overlapping : (bs : List Box) (ss higher : List ℕ) → All (λ s. All (λ t. overlapping bs s t ≡ false) ss) higher → overlappingPairs bs ss higher ≡ 0

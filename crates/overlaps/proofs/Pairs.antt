@@ -10,9 +10,8 @@ use Rattle.order.specs.Order.{pick, count, insertBy, sortBy}
 use Rattle.order.proofs.Merging.{le-or-lt, insert-here, insert-past}
 use Rattle.order.proofs.Laws.{count-sort}
 use Rattle.geometry.specs.declared.Box.{Box}
-use Rattle.geometry.specs.Plane.{shrunk}
+use Rattle.geometry.specs.Plane.{shrunk, boxIn}
 use Rattle.proximity.specs.Overlap.{overlap}
-use Rattle.placement.specs.Place.{boxIn}
 use Rattle.overlaps.specs.Overlaps.{overlapping, overlappingPairs, overlaps}
 use Rattle.overlaps.specs.Stages.Sweep.{either, pairs}
 

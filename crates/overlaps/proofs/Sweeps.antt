@@ -20,12 +20,11 @@ use Rattle.order.proofs.Laws.{All, all-at, all-sort, sorted, count-yes, count-n
 use Rattle.order.proofs.Tables.{length-table, getD-table, all-which}
 use Rattle.order.proofs.Strides.{length-strided}
 use Rattle.geometry.specs.declared.Box.{Box}
-use Rattle.geometry.specs.Plane.{boxAt, shrunk}
+use Rattle.geometry.specs.Plane.{boxAt, shrunk, noBox, boxIn}
 use Rattle.proximity.specs.Overlap.{overlap}
 use Rattle.network.specs.Words.{isOccupied, occupied}
 use Rattle.network.specs.Views.{countsIn, boxesIn}
 use Rattle.network.proofs.Views.{getD-boxes}
-use Rattle.placement.specs.Place.{noBox, boxIn}
 use Rattle.placement.proofs.Clear.{Good}
 use Rattle.overlaps.specs.Overlaps.{overlapping, overlaps}
 use Rattle.overlaps.specs.Stages.Sweep.{leftAt, Finite, Sorted, Lefts, paired, either, pairs}

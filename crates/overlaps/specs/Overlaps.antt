@@ -5,9 +5,8 @@ use mathlib.Core.List.{List, [], _∷_}
 use lib.Dec.{ltb}
 use Rattle.order.specs.Order.{count}
 use Rattle.geometry.specs.declared.Box.{Box}
-use Rattle.geometry.specs.Plane.{shrunk}
+use Rattle.geometry.specs.Plane.{shrunk, boxIn}
 use Rattle.proximity.specs.Overlap.{overlap}
-use Rattle.placement.specs.Place.{boxIn}
 
 -- stations t and s, of which s is the higher number, overlap
 unfoldable pub overlapping : List Box → ℕ → ℕ → Bool

@@ -1,9 +1,9 @@
--- Laws of the pieces through points: one point more, how many, and all of them in two passes.
+-- Laws of the pieces through points: one point more, and how many.
 -- Assumes nothing.
 use mathlib.Core.Path.{_≡_, refl, sym, ap, _∙_}
 use mathlib.Core.Bool.{Bool, true, false}
 use mathlib.Core.List.{List, [], _∷_, _++_, append-nil, append-assoc}
-use Prim.Native.Nat.{ℕ, zero, suc, _+_, _*_, _-_, _≤_, _<_}
+use Prim.Native.Nat.{ℕ, zero, suc, _+_, _-_, _≤_, _<_}
 use native.Mathlib.Omega.{arith}
 use native.Mathlib.Numerals.{add-one}
 use lib.ListN.{length, length-append}
@@ -137,11 +137,4 @@ module _ {A : Type 0} (f : ℕ → List A) where
       let e : suc n + (m - suc n) ≡ m = omega arith in
       let g : length (joined f (suc n)) ≤ length (joined f (suc n + (m - suc n))) = joined-mono (suc n) (m - suc n) in
       let k : length (joined f (suc n)) ≤ length (joined f m) = rw e at g in
-      omega (arith, joined-length-suc n)
-
-  pub joined-at-most : (c n : ℕ) → ((i : ℕ) → i < n → length (f i) ≤ c) → length (joined f n) ≤ c * n
-  joined-at-most c zero h = rw joined-zero (omega arith)
-  joined-at-most c (suc n) h =
-      let g : length (joined f n) ≤ c * n = joined-at-most c n (λ i k. h i (omega arith)) in
-      let k : length (f n) ≤ c = h n (omega arith) in
       omega (arith, joined-length-suc n)

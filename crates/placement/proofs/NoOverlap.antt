@@ -19,14 +19,14 @@ use Rattle.order.proofs.Laws.{count-at, count-sort, count-keep, occurs, length-
 use Rattle.order.proofs.Tables.{getD-table}
 use Rattle.geometry.specs.declared.Point.{Point}
 use Rattle.geometry.specs.declared.Box.{Box}
-use Rattle.geometry.specs.Plane.{shrunk}
+use Rattle.geometry.specs.Plane.{shrunk, noBox, boxIn}
 use Rattle.proximity.specs.Overlap.{overlap}
 use Rattle.network.specs.Words.{isOccupied, occupied}
-use Rattle.network.specs.Seed.{placeAt}
-use Rattle.stations.specs.Column.{falling}
+use Rattle.seeds.specs.Seed.{placeAt}
+use Rattle.columns.specs.Column.{falling}
 use Rattle.sizes.specs.Size.{Size}
 use Rattle.offsets.specs.declared.offset.Offset.{Offset}
-use Rattle.placement.specs.Place.{boxOf, places, foundFree, noBox, boxes, boxIn}
+use Rattle.placement.specs.Place.{boxOf, places, foundFree, boxes}
 use Rattle.free_places.specs.Search.{Frame, frameAt, boxOn, buffered}
 use Rattle.turns.specs.Turns.{topTo, placementOrder}
 use Rattle.turns.specs.Stages.Listed.{Turns}

@@ -19,13 +19,13 @@ use Rattle.order.specs.Table.{table}
 use Rattle.order.proofs.Tables.{getD-table, length-table}
 use Rattle.geometry.specs.declared.Point.{Point}
 use Rattle.geometry.specs.declared.Box.{Box}
-use Rattle.geometry.specs.Plane.{origin}
+use Rattle.geometry.specs.Plane.{origin, boxIn, noBox}
 use Rattle.network.specs.Words.{isOccupied}
-use Rattle.network.specs.Seed.{placeAt}
+use Rattle.seeds.specs.Seed.{placeAt}
 use Rattle.units.specs.Doubles.{DoublesPoint, Paired}
 use Rattle.offsets.specs.declared.offset.Offset.{Offset}
 use Rattle.offsets.specs.Offset.{offsetOf, offsetGrid, offsets}
-use Rattle.placement.specs.Place.{boxOf, nextPlace, placesTo, places, boxes, boxIn, noBox}
+use Rattle.placement.specs.Place.{boxOf, nextPlace, placesTo, places, boxes}
 use Rattle.free_places.specs.Search.{Frame, frameAt, placeFor, boxOn}
 use Rattle.turns.specs.Stages.Listed.{Turns}
 use Rattle.free_places.specs.Doubles.{DoublesBox, DoublesFrame, Small, Reach}

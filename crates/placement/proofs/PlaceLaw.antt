@@ -19,7 +19,7 @@ use Rattle.geometry.specs.declared.Point.{Point}
 use Rattle.geometry.specs.declared.Box.{Box}
 use Rattle.geometry.specs.Plane.{origin}
 use Rattle.proximity.specs.Overlap.{overlap}
-use Rattle.network.specs.Seed.{placeAt}
+use Rattle.seeds.specs.Seed.{placeAt}
 use Rattle.offsets.specs.declared.offset.Offset.{Offset}
 use Rattle.free_places.specs.declared.Found.the-variants.{At}
 use Rattle.placement.specs.Place.{boxOf, nextPlace, placesTo, places, foundFree}

@@ -15,10 +15,10 @@ use Rattle.float.proofs.SizeLaws.{most-weaken, add-under, sub-under, mul-most, 
 use Rattle.order.specs.Order.{pick}
 use Rattle.geometry.specs.declared.Point.{Point}
 use Rattle.geometry.specs.declared.Box.{Box}
-use Rattle.geometry.specs.Plane.{origin}
-use Rattle.geometry.proofs.PointSizes.{Near}
+use Rattle.geometry.specs.Plane.{origin, noBox, boxIn}
+use Rattle.geometry.proofs.PointSizes.{Near, Edges}
 use Rattle.network.specs.Words.{isOccupied}
-use Rattle.network.specs.Seed.{placeAt}
+use Rattle.seeds.specs.Seed.{placeAt}
 use Rattle.measures.specs.declared.Measures.{Measures}
 use Rattle.sizes.specs.Size.{Size, sizeAt, larger}
 use Rattle.sizes.proofs.SideSizes.{Sides, table-at}
@@ -26,7 +26,7 @@ use Rattle.offsets.specs.declared.offset.Offset.{Offset}
 use Rattle.offsets.specs.Offset.{offsets}
 use Rattle.turns.specs.Stages.Listed.{Turns}
 use Rattle.free_places.specs.declared.Found.the-variants.{At}
-use Rattle.placement.specs.Place.{boxOf, nextPlace, placesTo, places, noBox, boxes, boxIn}
+use Rattle.placement.specs.Place.{boxOf, nextPlace, placesTo, places, boxes}
 use Rattle.free_places.specs.Search.{Frame, frameFor, frames, frameAt, boxOn, buffered, free, place, firstFree, orNext, placeFor}
 use Rattle.placement.proofs.PlaceLaw.{waits}
 use Rattle.offsets.specs.Complete.{Within}
@@ -120,10 +120,6 @@ pub offsets-near : (search : ℕ) → search ≤ 20 → Offsets (offsets search)
 offsets-near search l =
     offsets-each (offsets search) (record { a = pos 0; b = pos 0 })
     (λ j k. let w = offsets-within search l j (record { a = pos 0; b = pos 0 }) k in (le-trans (w .0) l, le-trans (w .1) l))
-
--- ---- the box at a place
-abbrev pub Edges : ℕ → Box → Type 0
-Edges k b = AtMost k (b .left) × AtMost k (b .top) × AtMost k (b .right) × AtMost k (b .bottom)
 
 pub box-most : (k g : ℕ) (c : Point) (z : Size) → k + 1 ≤ 2097 → g ≤ k → Near k c → Sides g z → Edges (k + 1) (boxOn c z)
 unfolding boxOn

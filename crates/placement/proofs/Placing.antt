@@ -19,22 +19,22 @@ use Rattle.order.proofs.Tables.{length-table, getD-table, table-zero, table-suc
 use Rattle.order.proofs.Strides.{getD-strided, length-strided}
 use Rattle.geometry.specs.declared.Point.{Point}
 use Rattle.geometry.specs.declared.Box.{Box}
-use Rattle.geometry.specs.Plane.{origin, pointAt, boxAt}
+use Rattle.geometry.specs.Plane.{origin, pointAt, boxAt, noBox}
 use Rattle.proximity.specs.Overlap.{overlap}
-use Rattle.box_order.specs.Stages.Cells.{byCell}
+use Rattle.cells.specs.Stages.Cells.{byCell}
 use Rattle.box_order.specs.Stages.Kept.{Kept}
-use Rattle.box_order.proofs.CellOrder.{count-put}
+use Rattle.cells.proofs.CellOrder.{count-put}
 use Rattle.box_order.proofs.Keeping.{kept-none, kept-ext, count-zero, count-end, count-cons}
 use Rattle.network.specs.Words.{isOccupied}
-use Rattle.network.specs.Seed.{placeAt}
+use Rattle.seeds.specs.Seed.{placeAt}
 use Rattle.network.specs.Views.{countsIn, orderIn, pointsIn, boxesIn}
 use Rattle.network.proofs.Views.{length-points, getD-points, points-set, box-same, box-other, boxes-zero, boxes-push}
 use Rattle.measures.specs.declared.Measures.{Measures}
 use Rattle.sizes.specs.Size.{Size, sizeAt}
 use Rattle.sizes.specs.Stages.Views.{sizeIn, sizesIn, scalesIn}
-use Rattle.sizes.proofs.Occupied.{is-occupied, not-occupied}
+use Rattle.network.proofs.Occupied.{is-occupied, not-occupied}
 use Rattle.offsets.specs.declared.offset.Offset.{Offset}
-use Rattle.placement.specs.Place.{boxOf, nextPlace, placesTo, places, noBox, boxes}
+use Rattle.placement.specs.Place.{boxOf, nextPlace, placesTo, places, boxes}
 use Rattle.free_places.specs.Search.{Frame, frameFor, frames, frameAt, boxOn, free, placeFor}
 use Rattle.placement.specs.Stages.Views.{frameIn, framesIn, putBox, PlacedAs}
 use Rattle.free_places.specs.Stages.Among.{keptBoxes, Holds}

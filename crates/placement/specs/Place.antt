@@ -9,9 +9,10 @@ use Rattle.order.specs.Table.{table}
 use Rattle.geometry.specs.declared.Point.{Point}
 use Rattle.geometry.specs.declared.Box.{Box}
 use Rattle.network.specs.Words.{isOccupied}
-use Rattle.network.specs.Seed.{placeAt}
+use Rattle.seeds.specs.Seed.{placeAt}
 use Rattle.offsets.specs.declared.offset.Offset.{Offset}
 use Rattle.free_places.specs.Search.{Frame, boxOn, buffered, frameAt, free, placeFor}
+use Rattle.geometry.specs.Plane.{noBox}
 
 -- station s's box, at these places
 unfoldable pub boxOf : List Frame → List Point → ℕ → Box
@@ -39,12 +40,6 @@ foundFree fs os seeds order i =
     (buffered (placeAt (places fs os seeds order) (getD order i 0)) (frameAt fs (getD order i 0)))
     (map (boxOf fs (placesTo fs os seeds order i)) (take i order))
 
-abbrev pub noBox : Box
-noBox = record { left = f0; top = f0; right = f0; bottom = f0 }
-
 -- the box list: zeros where a station isn't occupied
 unfoldable pub boxes : List Frame → List ℕ → List Point → List Box
 boxes fs counts ps = table (λ s. let b = boxOf fs ps s in pick (isOccupied counts s) b noBox) (length counts)
-
-abbrev pub boxIn : List Box → ℕ → Box
-boxIn bs s = getD bs s noBox

@@ -10,7 +10,7 @@ ghost use Rattle.free_places.specs.Search.{boxOn};
 ghost use Rattle.placement.specs.Stages.Views.{frameIn, framesIn, putBox, PlacedAs};
 ghost use Rattle.free_places.specs.Stages.Among.{Holds};
 ghost use Rattle.offsets.specs.Offset.{offsets};
-ghost use Rattle.offset_table.specs.Table.{skipped, pairsIn};
+ghost use Rattle.offset_rule.specs.Table.{skipped, pairsIn};
 ghost use Rattle.turns.specs.Stages.Listed.{Turns};
 use box_order::kept::keep_box;
 use free_places::box_on;

@@ -5,15 +5,15 @@ ghost use lib.ListN.{length};
 ghost use Rattle.network.specs.Words.{stationCount, busCounts};
 ghost use Rattle.network.specs.Views.{countsIn, pointsIn};
 ghost use Rattle.plan.specs.Stages.Plan.{Interiors, Settled};
+use columns::columns;
 use measures::Measures;
 use measures::units;
-use network::seed::seeds;
 use network::words::bus_counts;
 use options::Options;
 use placement::search::place_by_table;
 use placement::search::station_boxes;
-use stations::columns::columns;
-use stations::rows::rows;
+use rows::rows;
+use seeds::seeds;
 use turns::turns::placement_order;
 
 // Bus counts, seeds, columns, rows, sizes and scales of k stations; answers the unit.

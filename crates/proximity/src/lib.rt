@@ -4,11 +4,11 @@ ghost use lib.Ieee.{le};
 ghost use Rattle.float.specs.Hypot.{hypotOf};
 ghost use Rattle.proximity.specs.Overlap.{meet, overlap};
 ghost use Rattle.proximity.specs.Near.{NotPast, nearer};
-use float::hypot::hypot;
 use float::small::abs;
 use float::small::max;
 use float::small::min;
 use geometry::Box;
+use hypot::hypot;
 
 // Whether each of l0 to r0 and l1 to r1 begins before the other ends.
 fn meet(l0: f64, r0: f64, l1: f64, r1: f64) -> bool

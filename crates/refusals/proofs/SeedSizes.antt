@@ -21,7 +21,7 @@ use Rattle.geometry.specs.Plane.{point, origin}
 use Rattle.geometry.proofs.PointSizes.{Near}
 use Rattle.network.specs.Words.{stationOf, busesIn}
 use Rattle.refusals.specs.Refusal.{above, farOut, tooFar}
-use Rattle.network.specs.Seed.{pointOf, busPoint, plus, sumTo, mean, seedOf}
+use Rattle.seeds.specs.Seed.{pointOf, busPoint, plus, sumTo, mean, seedOf}
 
 -- both coordinates are at most c times 10 ^ 12 in size
 pub record Times (c : ℕ) (p : Point) : Type 0 where

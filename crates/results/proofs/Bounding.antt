@@ -9,12 +9,11 @@ use Rattle.order.specs.Order.{pick}
 use Rattle.float.specs.Ops.{f0, f1}
 use Rattle.float.specs.Small.{isFinite}
 use Rattle.geometry.specs.declared.Box.{Box}
-use Rattle.geometry.specs.Plane.{boxAt}
+use Rattle.geometry.specs.Plane.{boxAt, noBox}
 use Rattle.network.specs.Words.{occupied}
 use Rattle.network.specs.Views.{countsIn, boxesIn}
 use Rattle.network.proofs.Views.{getD-boxes}
-use Rattle.placement.specs.Place.{noBox}
-use Rattle.free_places.proofs.Rest.{onward, onward-start, onward-yes, onward-no, onward-end}
+use Rattle.network.proofs.Rest.{onward, onward-start, onward-yes, onward-no, onward-end}
 use Rattle.results.specs.Bounds.{around, aroundAll, nowhere, boundsOf}
 
 -- ---- the box around the occupied stations' boxes

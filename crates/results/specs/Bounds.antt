@@ -7,7 +7,7 @@ use Rattle.float.specs.Small.{minOf, maxOf, isFinite}
 use Rattle.float.specs.Ops.{f0, f1}
 use Rattle.order.specs.Order.{pick}
 use Rattle.geometry.specs.declared.Box.{Box}
-use Rattle.placement.specs.Place.{boxIn}
+use Rattle.geometry.specs.Plane.{boxIn}
 
 -- the least box around b and another
 unfoldable pub around : Box → Box → Box

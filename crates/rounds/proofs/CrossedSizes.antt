@@ -18,12 +18,12 @@ use Rattle.order.proofs.Laws.{All}
 use Rattle.order.proofs.Merging.{le-or-lt}
 use Rattle.crossing.proofs.Crossing.{place-most}
 use Rattle.geometry.proofs.PointSizes.{Near}
-use Rattle.channel.proofs.SpaceSizes.{Ready}
-use Rattle.channel.proofs.Crossed.{Stands, crossed-ready, crossed-ready-back}
+use Rattle.spacing.proofs.SpaceSizes.{Ready}
+use Rattle.spacing.proofs.Crossed.{Stands, crossed-ready, crossed-ready-back}
 use Rattle.mesh.specs.Mesh.{next, at, endAt, lowAt, highAt}
 use Rattle.walk.specs.Trace.{crossesEdge, traced}
 use Rattle.walk.proofs.Crossed.{traced-over}
-use Rattle.placement.specs.Place.{boxIn}
+use Rattle.geometry.specs.Plane.{boxIn}
 use Rattle.crossings.specs.Route.{Scene, Line, Routing, Keyed, Crossing, half, noChannel, noCrossing, vertexOf, numberOf, stationAt, centreAt, makeChannel, withChannel, crossingOf, cross, crossAll, addWalk, addBranch, tracedTo, routing}
 use Rattle.rounds.proofs.Routed.{by-more}
 

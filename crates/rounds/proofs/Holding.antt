@@ -13,12 +13,11 @@ use lib.Ieee.{Float, nan}
 use Rattle.order.specs.Table.{table, strided}
 use Rattle.order.proofs.Tables.{getD-table, length-table, which-ext}
 use Rattle.order.proofs.Strides.{getD-strided, getD-first}
-use Rattle.geometry.specs.Plane.{pointAt, boxAt}
+use Rattle.geometry.specs.Plane.{pointAt, boxAt, boxIn, noBox}
 use Rattle.mesh.specs.Mesh.{next, endAt, lowAt, highAt, meshOk}
 use Rattle.mesh.proofs.Meshes.{mesh-sound, next-in}
 use Rattle.network.proofs.Views.{getD-boxes}
 use Rattle.measures.specs.declared.Measures.{Measures}
-use Rattle.placement.specs.Place.{boxIn, noBox}
 use Rattle.crossings.specs.Route as Route
 use Rattle.crossings.specs.Route.{Scene, Routing, Keyed, Crossing, Path, noCrossing, noPath, routing, makeChannel, crossingAt, channelAt, pathAt, centreAt, stationAt, members}
 use Rattle.runs.specs.Stages.Views.{firstExit, secondExit}

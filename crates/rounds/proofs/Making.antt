@@ -9,8 +9,8 @@ use lib.Ieee.{Float}
 use Rattle.order.specs.Table.{table}
 use Rattle.order.proofs.Tables.{length-table}
 use Rattle.channel.specs.declared.Channel.{Channel}
-use Rattle.channel.specs.Space.{wishOrder, inOrder, spaced, putAll}
-use Rattle.channel.proofs.Spacing.{length-spaced, length-order, length-inOrder}
+use Rattle.spacing.specs.Space.{wishOrder, inOrder, spaced, putAll}
+use Rattle.spacing.proofs.Spacing.{length-spaced, length-order, length-inOrder}
 use Rattle.wishes.specs.Stages.RoundLists.{RoundLists, startHeld, wishIn, rangeAt, spaceBy, spaceIn, spacedIn, roundsIn}
 use Rattle.grouping.specs.Stages.Grouped.{memberIn}
 

@@ -21,8 +21,8 @@ use Rattle.order.proofs.Strides.{is-table}
 use Rattle.geometry.specs.declared.Point.{Point}
 use Rattle.crossing.specs.Cross.{param, placeOr}
 use Rattle.channel.specs.declared.Channel.{Channel}
-use Rattle.channel.specs.Space.{wishOrder, inOrder, spaced, putAll}
-use Rattle.channel.proofs.Spacing.{length-order, wish-below}
+use Rattle.spacing.specs.Space.{wishOrder, inOrder, spaced, putAll}
+use Rattle.spacing.proofs.Spacing.{length-order, wish-below}
 use Rattle.runs.specs.Stages.Views.{firstExit, secondExit}
 use Rattle.crossings.specs.Route.{Scene, Line, Routing, Crossing, crossingAt, channelAt, pathAt, centreAt, pointOn, pointOf, members, exitOf, wish, spaceOne, spacedTo, roundsTo}
 use Rattle.wishes.specs.Stages.RoundLists.{RoundLists, edgeHeld, startHeld, pointHeld, lowIn, highIn, between, rangeAt, pointIn, beforeIn, behindIn, wishIn, spaceBy, spaceIn, spacedIn, roundsIn}

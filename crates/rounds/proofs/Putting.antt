@@ -7,7 +7,7 @@ use native.Mathlib.Numerals.{add-one}
 use lib.ListN.{length, getD, drop, take, set, length-set, drop-of-length-le}
 use lib.Seq.{set-out, drop-cons, getD-take, length-take-le}
 use lib.Ieee.{Float, nan}
-use Rattle.channel.specs.Space.{putAll}
+use Rattle.spacing.specs.Space.{putAll}
 
 -- what is left to put makes the whole
 pub record Putting (f : ℕ → ℕ) (n : ℕ) (order : List ℕ) (ts before now : List Float) (i : ℕ) : Type 0 where

@@ -10,7 +10,7 @@ use lib.ListN.{length, getD, length-append, length-map, List·getD-append}
 use lib.Seq.{getD-append-seam}
 use lib.Ieee.{Float}
 use Rattle.order.proofs.Merging.{le-or-lt}
-use Rattle.channel.proofs.Spacing.{length-put}
+use Rattle.spacing.proofs.Spacing.{length-put}
 use Rattle.walk.specs.Trace.{Walk, traced}
 use Rattle.walk.proofs.Walks.{traced-short}
 use Rattle.crossings.specs.Route.{Scene, Routing, Crossing, Path, Line, noPath, vertexOf, centreAt, addWalk, addBranch, tracedTo, routing, spaceOne, spacedTo, roundsTo}

@@ -23,8 +23,8 @@ use Rattle.crossing.specs.declared.Param.the-variants.{At, Parallel}
 use Rattle.crossing.specs.Cross.{param, placeOr}
 use Rattle.crossing.proofs.Crossing.{place-most}
 use Rattle.geometry.proofs.PointSizes.{Near}
-use Rattle.channel.specs.Space.{wishOrder, inOrder, spaced}
-use Rattle.channel.proofs.SpaceSizes.{put-most, ordered-most}
+use Rattle.spacing.specs.Space.{wishOrder, inOrder, spaced}
+use Rattle.spacing.proofs.SpaceSizes.{put-most, ordered-most}
 use Rattle.detour.proofs.DetourSizes.{Points}
 use Rattle.crossings.specs.Route.{Scene, Line, Routing, Crossing, noCrossing, centreAt, crossingAt, channelAt, pathAt, pointOn, pointOf, members, exitOf, wish, spaceOne, spacedTo, roundsTo, routing, waypoints}
 use Rattle.rounds.proofs.Routed.{Traced, routed}

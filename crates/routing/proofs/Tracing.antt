@@ -15,9 +15,9 @@ use Rattle.order.specs.Table.{table, strided}
 use Rattle.order.proofs.Tables.{length-table, getD-table, table-suc, table-zero}
 use Rattle.order.proofs.Strides.{strided-zero, strided-suc, strided-ext}
 use Rattle.geometry.specs.Plane.{pointAt}
-use Rattle.walk.specs.Round.{roundOf}
+use Rattle.half_edges.specs.Round.{roundOf}
 use Rattle.walk.specs.Trace.{traced}
-use Rattle.walk.proofs.Rounds.{round-first}
+use Rattle.half_edges.proofs.Rounds.{round-first}
 use Rattle.network.specs.declared.words.Kind.{Kind}
 use Rattle.network.specs.declared.words.Kind.the-variants.{Undrawn, Open, Internal, Line}
 use Rattle.network.specs.Words.{kindOf}

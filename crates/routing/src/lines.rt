@@ -6,7 +6,7 @@ ghost use lib.ListN.{length, getD, take, set};
 ghost use Rattle.order.specs.Order.{pick};
 ghost use Rattle.geometry.specs.Plane.{pointAt};
 ghost use Rattle.mesh.specs.Mesh.{meshOk};
-ghost use Rattle.walk.specs.Round.{roundOf};
+ghost use Rattle.half_edges.specs.Round.{roundOf};
 ghost use Rattle.crossings.specs.Stages.Store.{walkOf, walkAt, crossingsTo, stock, Branched, Filled, Unmarked};
 use crossings::crossings::store_trail;
 use order::at;

@@ -4,7 +4,7 @@ ghost use mathlib.Core.Bool.{true};
 ghost use Prim.Native.Nat.{ℕ, _+_, _*_, _≤_, _<_};
 ghost use lib.ListN.{length, take};
 ghost use Rattle.mesh.specs.Mesh.{meshOk};
-ghost use Rattle.walk.specs.Round.{roundOf};
+ghost use Rattle.half_edges.specs.Round.{roundOf};
 ghost use Rattle.network.specs.Views.{orderIn};
 ghost use Rattle.crossings.specs.Stages.Views.{sceneIn};
 ghost use Rattle.crossings.specs.Stages.Store.{Rising, Unmarked};
@@ -13,7 +13,7 @@ use crate::lines::clear_marks;
 use crate::lines::count_all;
 use crate::lines::store_all;
 use crossings::ways::write_ways;
-use walk::round::go_round;
+use half_edges::go_round;
 
 // The crossings of all lines, whether they outnumber the room for them, and, where not, the channels.
 pub struct Routed {

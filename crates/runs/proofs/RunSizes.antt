@@ -14,13 +14,12 @@ use Rattle.float.proofs.Each.{Each}
 use Rattle.order.specs.Table.{tableFrom}
 use Rattle.geometry.specs.declared.Point.{Point}
 use Rattle.geometry.specs.declared.Box.{Box}
-use Rattle.geometry.proofs.PointSizes.{Near}
+use Rattle.geometry.proofs.PointSizes.{Near, Edges}
 use Rattle.network.specs.declared.words.Kind.{Kind}
 use Rattle.network.specs.declared.words.Kind.the-variants.{Undrawn, Open, Internal, Line}
 use Rattle.network.specs.Words.{kindAt, stationOf}
 use Rattle.sizes.proofs.SideSizes.{Narrow}
-use Rattle.placement.specs.Place.{boxIn}
-use Rattle.placement.proofs.PlaceSizes.{Edges}
+use Rattle.geometry.specs.Plane.{boxIn}
 use Rattle.detour.specs.Detour.{detour}
 use Rattle.detour.proofs.DetourSizes.{Points, points-append, detour-near}
 use Rattle.bars.specs.declared.Bar.{Bar}

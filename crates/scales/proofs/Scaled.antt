@@ -20,7 +20,7 @@ use Rattle.network.specs.Views.{countsIn}
 use Rattle.scales.specs.Scale.{tier, occupiedBelow, scaleAt, scalesOf}
 use Rattle.sizes.specs.Stages.Views.{scalesIn}
 use Rattle.scales.proofs.NearScales.{occupied-below}
-use Rattle.sizes.proofs.Occupied.{passedCount, is-occupied, not-occupied}
+use Rattle.network.proofs.Occupied.{passedCount, is-occupied, not-occupied}
 
 -- an occupied station that the loop comes to: fewer were passed than there are
 pub passed-below : (k : ℕ) (st : List ℕ) (s j n : ℕ) → s < k → 0 < getD st (2 * s) 0 → j ≡ passedCount k st s → n ≡ length (occupied (countsIn k st)) → j < n

@@ -9,7 +9,7 @@ use Rattle.float.specs.Ops.{f0}
 use Rattle.float.specs.Double.{Limit, Doubles}
 use Rattle.float.proofs.DoublePairs.{eq-of-doubles, div-of-doubles, max-doubles, sub-doubles, zero-doubles}
 use Rattle.geometry.specs.declared.Box.{Box}
-use Rattle.placement.specs.Place.{boxIn}
+use Rattle.geometry.specs.Plane.{boxIn}
 use Rattle.sized.specs.Sized.{largerSide, largest, sized, sizedBox, allSized, illSized}
 use Rattle.free_places.specs.Doubles.{DoublesBox}
 

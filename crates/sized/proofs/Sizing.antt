@@ -10,13 +10,12 @@ use lib.Ieee.{Float, eq}
 use borrow.Author.Tests.{ltb-true, ltb-false, lt-ltb}
 use Rattle.float.specs.Ops.{f0}
 use Rattle.geometry.specs.declared.Box.{Box}
-use Rattle.geometry.specs.Plane.{boxAt}
+use Rattle.geometry.specs.Plane.{boxAt, noBox, boxIn}
 use Rattle.network.specs.Words.{occupied}
 use Rattle.network.specs.Views.{countsIn, boxesIn}
 use Rattle.network.proofs.Views.{getD-boxes}
-use Rattle.placement.specs.Place.{noBox, boxIn}
 use Rattle.sized.specs.Sized.{largerSide, largest, sizedBox, allSized, illSized}
-use Rattle.free_places.proofs.Rest.{onward, onward-start, onward-yes, onward-no, onward-end}
+use Rattle.network.proofs.Rest.{onward, onward-start, onward-yes, onward-no, onward-end}
 
 module _ (k : ℕ) (st : List ℕ) (fs : List Float) where
   abbrev bs : List Box

@@ -7,7 +7,7 @@ use lib.Ieee.{Float, binary64, le, eq, ofBits}
 use Rattle.float.specs.Small.{maxOf, absOf}
 use Rattle.float.specs.Ops.{f0, _⊖_, _⊘_}
 use Rattle.geometry.specs.declared.Box.{Box}
-use Rattle.placement.specs.Place.{boxIn}
+use Rattle.geometry.specs.Plane.{boxIn}
 
 -- the largest of a number, right − left and bottom − top of a box; over these stations' boxes
 abbrev pub largerSide : Float → Box → Float

@@ -6,7 +6,6 @@ use mathlib.Core.List.{List, [], _∷_, _++_}
 use Prim.Native.Nat.{ℕ, suc, _+_, _*_, _≤_, _<_}
 use native.Mathlib.Omega.{arith}
 use native.Mathlib.Numerals.{add-one}
-use native.Mathlib.Nat.{add-zero}
 use lib.ListN.{length, getD, set, length-set}
 use lib.Seq.{getD-set-same, getD-set-other}
 use lib.Ieee.{Float, nan}
@@ -16,9 +15,10 @@ use Rattle.order.proofs.Strides.{table-push, length-strided, getD-strided}
 use Rattle.network.specs.Views.{countsIn}
 use Rattle.options.specs.declared.Gaps.{Gaps}
 use Rattle.network.specs.declared.words.Kind.{Kind}
-use Rattle.stations.specs.Row.{rowsIn}
+use Rattle.rows.specs.Row.{rowsIn}
 use Rattle.sizes.specs.Size.{Size, widthFor, heightFor, sizeFor, sizesFor, sizes}
 use Rattle.sizes.specs.Stages.Views.{sizeIn, sizesIn, rowCountsIn}
+use Rattle.network.proofs.Occupied.{count-at}
 
 abbrev pub size : Float → Float → Size
 size a b = record { w = a; h = b }
@@ -71,9 +71,6 @@ unfolding sizesIn
 getD-sizes k i l d h = getD-table (sizeIn l) k i d h
 
 -- ---- the bus count and the row count of a station
-pub count-at : (k s : ℕ) (st : List ℕ) → s < k → getD (countsIn k st) s 0 ≡ getD st (2 * s) 0
-count-at k s st h = getD-strided 2 0 0 k s st 0 h ∙ ap (λ (j : ℕ). getD st j 0) (add-zero (2 * s))
-
 rows-at : (k s : ℕ) (st : List ℕ) → s < k → getD (rowCountsIn k st) s 0 ≡ getD st (2 * s + 1) 0
 rows-at k s st h = getD-strided 2 1 0 k s st 0 h
 

@@ -20,7 +20,7 @@ use Rattle.network.specs.declared.words.Kind.{Kind}
 use Rattle.options.specs.declared.Gaps.{Gaps}
 use Rattle.options.specs.Options.{between, gapFits, gapsFit}
 use Rattle.network.specs.Words.{kindAt}
-use Rattle.stations.specs.Row.{hasRow, rowsIn}
+use Rattle.rows.specs.Row.{hasRow, rowsIn}
 use Rattle.sizes.specs.Size.{Size, widthFor, heightFor, sizeFor, sizes, sizeAt}
 
 -- what every element of a table has, and what stands past its end

@@ -8,7 +8,7 @@ use Rattle.float.specs.Ops.{num, f0, f2, _⊕_, _⊗_}
 use Rattle.order.specs.Table.{table}
 use Rattle.network.specs.declared.words.Kind.{Kind}
 use Rattle.options.specs.declared.Gaps.{Gaps}
-use Rattle.stations.specs.Row.{rowsIn}
+use Rattle.rows.specs.Row.{rowsIn}
 
 -- a width and a height
 pub record Size : Type 0 where

@@ -21,9 +21,9 @@ use Rattle.order.proofs.Laws.{count-at, occurs, length-up, getD-up}
 use Rattle.order.proofs.Tables.{getD-table, howMany-le}
 use Rattle.network.specs.Words.{stationOf, stationCount, busesIn, busCounts, isOccupied}
 use Rattle.network.proofs.Stations.{station-below}
-use Rattle.stations.specs.Column.{voltage, falling}
-use Rattle.stations.proofs.Orders.{chain-order, before-told, before-tells}
-use Rattle.stations.proofs.Falls.{falls, falls-same, voltage-falls, voltage-same}
+use Rattle.columns.specs.Column.{voltage, falling}
+use Rattle.rows.proofs.Orders.{chain-order, before-told, before-tells}
+use Rattle.columns.proofs.Falls.{falls, falls-same, voltage-falls, voltage-same}
 use Rattle.turns.specs.Turns.{topTo, placementOrder}
 use Rattle.turns.proofs.Queue.{order-chain}
 

@@ -21,9 +21,8 @@ use Rattle.order.proofs.Strides.{length-strided, strided-zero, strided-push, st
 use Rattle.network.specs.Words.{stationCount, busCounts, isOccupied, occupied}
 use Rattle.network.specs.Views.{countsIn, orderIn}
 use Rattle.network.proofs.Stations.{station-below}
-use Rattle.stations.specs.Column.{voltage, falling}
-use Rattle.sizes.proofs.Blocks.{count-at}
-use Rattle.sizes.proofs.Occupied.{is-occupied, not-occupied}
+use Rattle.columns.specs.Column.{voltage, falling}
+use Rattle.network.proofs.Occupied.{is-occupied, not-occupied, count-at}
 use Rattle.turns.specs.Turns.{topTo, placementOrder}
 use Rattle.turns.specs.Stages.Listed.{Listed, Turns}
 use Rattle.order.proofs.Sorting.{sort-agree, sort-front}

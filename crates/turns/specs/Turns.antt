@@ -5,7 +5,7 @@ use lib.Dec.{eqb}
 use lib.ListN.{length, getD}
 use Rattle.order.specs.Order.{pick, sortBy}
 use Rattle.network.specs.Words.{stationOf, occupied}
-use Rattle.stations.specs.Column.{voltage, falling}
+use Rattle.columns.specs.Column.{voltage, falling}
 
 -- the highest voltage of station s's buses among the first i
 unfoldable pub topTo : List ℕ → List ℕ → ℕ → ℕ → ℕ

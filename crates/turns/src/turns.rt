@@ -4,7 +4,7 @@ ghost use Prim.Native.Nat.{ℕ, _*_, _^_, _≤_, _<_};
 ghost use lib.ListN.{length, take, getD};
 ghost use Rattle.network.specs.Words.{busCounts, occupied};
 ghost use Rattle.network.specs.Views.{countsIn, orderIn};
-ghost use Rattle.stations.specs.Column.{falling};
+ghost use Rattle.columns.specs.Column.{falling};
 ghost use Rattle.turns.specs.Turns.{topTo, placementOrder};
 ghost use Rattle.turns.specs.Stages.Listed.{Listed, Turns};
 use float::key::key_of_bits;

@@ -9,7 +9,7 @@ use Rattle.order.specs.Median.{medianOf, orElse}
 use Rattle.network.specs.declared.words.Kind.{Kind}
 use Rattle.options.specs.Options.{defaults}
 use Rattle.network.specs.Words.{pastTo, stationCount, busCounts, occupied}
-use Rattle.network.specs.Seed.{seeds}
+use Rattle.seeds.specs.Seed.{seeds}
 use Rattle.sizes.specs.Size.{sizes, sides}
 use Rattle.units.specs.Unit.{coordinates, spacingOf, spacing, typical, unitFor}
 

@@ -9,11 +9,11 @@ use lib.Ieee.{Float, nan}
 use Rattle.order.proofs.Tables.{which-zero}
 use Rattle.geometry.specs.declared.Point.{Point}
 use Rattle.network.specs.Words.{isOccupied}
-use Rattle.network.specs.Seed.{placeAt}
+use Rattle.seeds.specs.Seed.{placeAt}
 use Rattle.network.specs.Views.{countsIn, pointsIn}
 use Rattle.network.proofs.Views.{putPoint, getD-points}
 use Rattle.units.specs.Unit.{coordinates}
-use Rattle.sizes.proofs.Occupied.{passed, passed-yes}
+use Rattle.network.proofs.Occupied.{passed, passed-yes}
 
 coordinates-append : (ps : List Point) (l m : List ℕ) → coordinates ps (l ++ m) ≡ coordinates ps l ++ coordinates ps m
 unfolding coordinates

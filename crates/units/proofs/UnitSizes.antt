@@ -26,7 +26,7 @@ use Rattle.geometry.specs.declared.Point.{Point}
 use Rattle.geometry.specs.Plane.{pointAt}
 use Rattle.geometry.proofs.PointSizes.{Near}
 use Rattle.proximity.specs.Near.{distance, nearer, nearestTo, nearest}
-use Rattle.network.specs.Seed.{placeAt}
+use Rattle.seeds.specs.Seed.{placeAt}
 use Rattle.network.specs.Words.{occupied}
 use Rattle.sizes.specs.Size.{Size, sides}
 use Rattle.units.specs.Unit.{coordinates, spacingOf, spacing, typical, unitFor}

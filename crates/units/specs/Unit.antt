@@ -10,7 +10,7 @@ use Rattle.order.specs.Median.{medianOf, orElse}
 use Rattle.geometry.specs.declared.Point.{Point}
 use Rattle.proximity.specs.Near.{nearest}
 use Rattle.network.specs.Words.{occupied}
-use Rattle.network.specs.Seed.{placeAt}
+use Rattle.seeds.specs.Seed.{placeAt}
 use Rattle.sizes.specs.Size.{Size, sides}
 
 -- the seeds of these stations, two numbers each

@@ -10,7 +10,7 @@ use Rattle.geometry.specs.declared.Point.{Point}
 use Rattle.mesh.specs.Mesh.{next, noTwin, at}
 use Rattle.walk.specs.declared.Step.{Step}
 use Rattle.walk.specs.declared.Step.the-variants.{Out, Home, Lost}
-use Rattle.walk.specs.Round.{around}
+use Rattle.half_edges.specs.Round.{around}
 use Rattle.walk.specs.Trace.{crossesEdge, leave, sought, started, outBy, passOn, after, walk, traced}
 
 module _ (corners twins : List ℕ) (centre : ℕ → Point) (va vb : ℕ) where

@@ -13,9 +13,9 @@ use Rattle.geometry.specs.declared.Point.{Point}
 use Rattle.mesh.specs.Mesh.{at}
 use Rattle.walk.specs.declared.Step.{Step}
 use Rattle.walk.specs.declared.Step.the-variants.{Out, Home, Lost}
-use Rattle.walk.specs.Round.{roundOf, firstAt}
+use Rattle.half_edges.specs.Round.{roundOf, firstAt}
 use Rattle.walk.specs.Trace.{leave, sought, started}
-use Rattle.walk.proofs.Rounds.{own, length-round, around-first, around-over, round-out, round-read, round-below}
+use Rattle.half_edges.proofs.Rounds.{own, length-round, around-first, around-over, round-out, round-read, round-below}
 
 -- what is read there is a half-edge of the mesh
 pub place-fits : (corners l : List ℕ) → take (length corners) l ≡ roundOf corners → length corners ≤ 24576 → (p h : ℕ) → p < length corners → h ≡ getD l p 0 → h < 24576

@@ -14,7 +14,7 @@ use Rattle.mesh.specs.Mesh.{next, noTwin, at}
 use Rattle.mesh.proofs.Meshes.{Sound, next-in}
 use Rattle.walk.specs.declared.Step.{Step}
 use Rattle.walk.specs.declared.Step.the-variants.{Out, Home, Lost}
-use Rattle.walk.specs.Round.{around}
+use Rattle.half_edges.specs.Round.{around}
 use Rattle.walk.specs.Trace.{Walk, crossesEdge, leave, sought, started, outBy, passOn, after, walk, traced, Trailed}
 
 module _ (corners twins : List ℕ) (centre : ℕ → Point) (va vb : ℕ) where

@@ -7,7 +7,7 @@ use lib.Ieee.{Float, binary64, ofBits, lt, sub, mul}
 use Rattle.geometry.specs.Plane.{pointAt}
 use Rattle.crossing.specs.Cross.{orient, crosses}
 use Rattle.mesh.specs.Mesh.{noTwin, next, endAt}
-use Rattle.walk.specs.Round.{roundOf}
+use Rattle.half_edges.specs.Round.{roundOf}
 use Rattle.walk.specs.Trace.{Walk, crossesEdge, leave, outBy, passOn, traced}
 
 -- (0, 0), (1, 1), (1, -1), (2, 0) and (4, 0)

@@ -8,7 +8,7 @@ use lib.ListN.{length, drop}
 use Rattle.geometry.specs.declared.Point.{Point}
 use Rattle.crossing.specs.Cross.{crosses}
 use Rattle.mesh.specs.Mesh.{next, noTwin, at, endAt}
-use Rattle.walk.specs.Round.{around}
+use Rattle.half_edges.specs.Round.{around}
 use Rattle.walk.specs.declared.Step.{Step}
 use Rattle.walk.specs.declared.Step.the-variants.{Out, Home, Lost}
 

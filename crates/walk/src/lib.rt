@@ -1,5 +1,4 @@
-// 01, 7: lines cross mesh edges as `route_lines` walks them. The half-edges around each corner, and the walk of one line.
-pub mod round;
+// 01, 7: lines cross mesh edges as `route_lines` walks them. The walk of one line.
 pub mod trace;
 
 // What the walk of a line does next.

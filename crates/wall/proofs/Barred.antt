@@ -10,15 +10,14 @@ use Rattle.float.specs.Ops.{f2, _⊕_, _⊖_, _⊗_, _⊘_}
 use Rattle.order.specs.Order.{pick}
 use Rattle.order.proofs.Tables.{getD-table}
 use Rattle.geometry.specs.declared.Box.{Box}
-use Rattle.geometry.specs.Plane.{point, boxAt}
+use Rattle.geometry.specs.Plane.{point, boxAt, boxIn}
 use Rattle.options.specs.declared.Options.{Options}
 use Rattle.network.specs.declared.words.Kind.{Kind}
 use Rattle.network.specs.Words.{stationOf}
 use Rattle.network.proofs.Stations.{station-below}
-use Rattle.stations.specs.Column.{column, columns}
-use Rattle.stations.specs.Row.{fromRows, toRows}
-use Rattle.stations.proofs.Falls.{column-count}
-use Rattle.placement.specs.Place.{boxIn}
+use Rattle.columns.specs.Column.{column, columns}
+use Rattle.rows.specs.Row.{fromRows, toRows}
+use Rattle.columns.proofs.Falls.{column-count}
 use Rattle.bars.specs.declared.Bar.{Bar}
 use Rattle.bars.specs.Bar as BarSpec
 use Rattle.bars.specs.Bar.{Span, bare, rows, barX, rowY, reach, lengthened, barFor, barAt, blockAt, position, spanTo, spans}

@@ -17,8 +17,8 @@ use Rattle.geometry.specs.declared.Point.{Point}
 use Rattle.geometry.specs.declared.Box.{Box}
 use Rattle.geometry.specs.Plane.{origin}
 use Rattle.network.specs.Words.{isOccupied, occupied}
-use Rattle.network.specs.Seed.{placeAt}
-use Rattle.stations.specs.Column.{falling}
+use Rattle.seeds.specs.Seed.{placeAt}
+use Rattle.columns.specs.Column.{falling}
 use Rattle.offsets.specs.declared.offset.Offset.{Offset}
 use Rattle.placement.specs.Place.{boxOf, placesTo, places, foundFree}
 use Rattle.free_places.specs.Search.{Frame, frameAt, boxOn, buffered, free, placeFor}

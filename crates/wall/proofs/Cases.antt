@@ -34,18 +34,18 @@ use Rattle.geometry.specs.Clip as GeometryClip
 use Rattle.crossing.specs.Cross as GeometryCross
 use Rattle.proximity.specs.Near as NeighboursNear
 use Rattle.proximity.specs.Overlap as NeighboursOverlap
-use Rattle.channel.specs.Space as ChannelSpace
+use Rattle.spacing.specs.Space as ChannelSpace
 use Rattle.channel.specs.Channel as ChannelChannel
 use Rattle.mesh.specs.Mesh as MeshMesh
-use Rattle.walk.specs.Round as WalkRound
+use Rattle.half_edges.specs.Round as WalkRound
 use Rattle.walk.specs.Trace as WalkTrace
 use Rattle.network.specs.Words as NetworkWords
-use Rattle.network.specs.Seed as NetworkSeed
+use Rattle.seeds.specs.Seed as NetworkSeed
 use Rattle.options.specs.Options as NetworkOptions
 use Rattle.refusals.specs.Refusal as NetworkRefusal
 use Rattle.network.specs.Views as NetworkViews
-use Rattle.stations.specs.Column as StationsColumn
-use Rattle.stations.specs.Row as StationsRow
+use Rattle.columns.specs.Column as StationsColumn
+use Rattle.rows.specs.Row as StationsRow
 use Rattle.sizes.specs.Size as UnitsSize
 use Rattle.units.specs.Unit as UnitsUnit
 use Rattle.scales.specs.Scale as UnitsScale
@@ -57,6 +57,7 @@ use Rattle.sized.specs.Sized as PlacementSized
 use Rattle.geometry.specs.Entry as GeometryEntry
 use Rattle.first_box.specs.First as BoxTreeFirst
 use Rattle.box_cells.specs.Length as BoxTreeLength
+use Rattle.corner.specs.Corner as CornerCorner
 use Rattle.detour.specs.Detour as DetourDetour
 use Rattle.bars.specs.Bar as BarsBar
 use Rattle.bars.specs.Exit as BarsExit
@@ -245,7 +246,7 @@ pub record Row : Type 0 where
   pub says : List ℕ
 
 unfoldable pub table : List Row
-unfolding add sub mul div neg sum round units odd size span climb lt le eq ofInt ofBits ofFields toBits isNan trailingZeros audited auditParts WallClaim.checkedBy WallClaim.checkBy WallClaim.checkAfter WallClaim.bothAfter WallClaim.drawAndAudit FloatSmall.maxOf FloatSmall.minOf FloatSmall.absOf FloatSmall.isFinite FloatSmall.clampOf FloatHypot.grains FloatHypot.rootIn FloatHypot.nearestRoot FloatHypot.hypotOf FloatFloor.sizeDown FloatFloor.sizeUp FloatFloor.floorInt FloatKey.keyOf OrderOrder.insertBy OrderOrder.sortBy OrderOrder.upFrom OrderOrder.count OrderOrder.keep OrderTable.tableFrom OrderTable.joined OrderTable.strided OrderMedian.finiteOf OrderMedian.insertFloat OrderMedian.sortFloats OrderMedian.middle OrderMedian.medianOf OrderMedian.orElse GeometryClip.part GeometryClip.cut GeometryClip.clipBy GeometryClip.met GeometryClip.clipped GeometryClip.hits GeometryCross.orient GeometryCross.crosses GeometryCross.parallel GeometryCross.param GeometryCross.placeOr NeighboursNear.distance NeighboursNear.nearer NeighboursNear.nearestTo NeighboursNear.nearest NeighboursNear.near NeighboursNear.within NeighboursNear.neighbours NeighboursOverlap.meet NeighboursOverlap.overlap ChannelSpace.wishKey ChannelSpace.wishOf ChannelSpace.readBack ChannelSpace.wishOrder ChannelSpace.inOrder ChannelSpace.evenAt ChannelSpace.forward ChannelSpace.forwardAll ChannelSpace.backward ChannelSpace.crowded ChannelSpace.spaced ChannelSpace.putAll ChannelChannel.reachOn ChannelChannel.reach ChannelChannel.held ChannelChannel.channelOf MeshMesh.next MeshMesh.endAt MeshMesh.lowAt MeshMesh.highAt OrderOrder.allTo MeshMesh.cornerOk MeshMesh.reversed MeshMesh.pairs MeshMesh.twinOk MeshMesh.edgesOk MeshMesh.meshOk WalkRound.roundOf WalkRound.firstAt WalkRound.around WalkTrace.homeOf WalkTrace.crossesEdge WalkTrace.leave WalkTrace.sought WalkTrace.started WalkTrace.outBy WalkTrace.passOn WalkTrace.after WalkTrace.walk WalkTrace.traced NetworkWords.pastTo NetworkWords.stationCount NetworkWords.busesIn NetworkWords.busCounts NetworkWords.occupied NetworkWords.known NetworkWords.live NetworkWords.kindBy NetworkWords.kindFor NetworkWords.kindOf NetworkWords.kinds NetworkSeed.pointOf NetworkSeed.busPoint NetworkSeed.sumTo NetworkSeed.mean NetworkSeed.seedOf NetworkSeed.seeds NetworkOptions.defaults NetworkOptions.between NetworkOptions.searchFits NetworkOptions.gapFits NetworkOptions.gapsFit NetworkOptions.inRange NetworkOptions.searchOf NetworkRefusal.above NetworkRefusal.farOut NetworkRefusal.tooFar NetworkRefusal.shapeRefusal NetworkRefusal.isVoltage NetworkRefusal.strayVoltage NetworkViews.pointsIn NetworkViews.boxesIn StationsColumn.falling StationsColumn.column StationsColumn.columns StationsRow.hasRow StationsRow.rowKey StationsRow.rowsIn StationsRow.row StationsRow.fromRow StationsRow.toRow StationsRow.fromRows StationsRow.toRows UnitsSize.widthFor UnitsSize.heightFor UnitsSize.sizeFor UnitsSize.sizesFor UnitsSize.sizes UnitsSize.sides UnitsUnit.coordinates UnitsUnit.spacingOf UnitsUnit.spacing UnitsUnit.typical UnitsUnit.unitFor UnitsScale.tier UnitsScale.occupiedBelow UnitsScale.scaleAt UnitsScale.scalesOf UnitsScale.scales PlacementOffset.offsetNumber PlacementOffset.offsetOf PlacementOffset.gridNumber PlacementOffset.offsetGrid PlacementOffset.offsets TurnsTurns.topTo TurnsTurns.placementOrder PlacementPlaceSearch.frameFor PlacementPlaceSearch.frames PlacementPlaceSearch.boxOn PlacementPlaceSearch.buffered PlacementPlaceSearch.free PlacementPlaceSearch.place PlacementPlaceSearch.firstFree PlacementPlaceSearch.placeFor PlacementPlace.boxOf PlacementPlace.nextPlace PlacementPlace.placesTo PlacementPlace.places PlacementPlace.foundFree PlacementPlace.boxes PlacementSized.largest PlacementSized.sized PlacementSized.sizedBox PlacementSized.allSized PlacementSized.illSized GeometryEntry.entryOf GeometryEntry.enters BoxTreeFirst.entryAt BoxTreeFirst.comesFirst BoxTreeFirst.sooner BoxTreeFirst.look BoxTreeFirst.found BoxTreeFirst.firstHit BoxTreeLength.indexLength DetourDetour.cornersOf DetourDetour.cost DetourDetour.costKey DetourDetour.clears DetourDetour.clearing DetourDetour.cheaper DetourDetour.cheapest DetourDetour.orElse DetourDetour.corner DetourDetour.detourOn DetourDetour.detourTo DetourDetour.detour BarsBar.barX BarsBar.rowY BarsBar.spanOf BarsBar.include BarsBar.includeEnd BarsBar.includeBranch BarsBar.spanTo BarsBar.reach BarsBar.lengthened BarsBar.barFor BarsBar.spans BarsBar.bars BarsBar.position BarsBar.rowEnd BarsExit.exitX BarsExit.exit RunsRun.slot RunsRun.ledPath RunsRun.linePoints RunsRun.runFor RunsRun.runOf RunsRun.runs RunsRun.apart RunsRun.pieces RunsRun.isLine RunsRun.allPieces RunsRun.role RunsFinite.allOf RunsFinite.finitePoint RunsFinite.finiteBox RunsFinite.finiteBar RunsLists.flat OrderOver.over RunsLists.after RoutingRoute.vertexOf RoutingRoute.numberOf RoutingRoute.makeChannel RoutingRoute.withChannel RoutingRoute.crossingOf RoutingRoute.cross RoutingRoute.crossAll RoutingRoute.addWalk RoutingRoute.addBranch RoutingRoute.tracedTo RoutingRoute.routing RoutingRoute.pointOn RoutingRoute.pointOf RoutingRoute.members RoutingRoute.exitOf RoutingRoute.wish RoutingRoute.spaceOne RoutingRoute.spacedTo RoutingRoute.roundsTo RoutingRoute.waypoints CrossingsGap.gapOf RoutingViews.exitAt RoutingViews.lineBetween RoutingViews.lineFor RoutingViews.lineIn RoutingViews.linesIn RoutingViews.sceneIn RoutesRoutes.meshUsed RoutesRoutes.meshFits RoutesRouted.routedIn RoutesRoutes.crossingsOf RoutesRoutes.routeRefusal ResultsBounds.around ResultsBounds.aroundAll ResultsBounds.boundsOf LayoutDrawing.straightScene LayoutDrawing.planned LayoutDrawing.ledScene LayoutDrawing.lineFor LayoutDrawing.lineOf LayoutDrawing.routedScene LayoutDrawing.routedOf LayoutDrawing.waysOf LayoutDrawing.sceneOf LayoutDrawing.drawing LayoutAnswer.numberOf LayoutAnswer.shortResults LayoutAnswer.shortWork LayoutAnswer.early LayoutAnswer.pieceRoom LayoutAnswer.crossingRoom LayoutAnswer.allFinite LayoutAnswer.routedBy LayoutAnswer.lateBy LayoutAnswer.late LayoutAnswer.listsOf LayoutAnswer.listsAfter LayoutAnswer.clearedWork LayoutAnswer.clearedCrossings LayoutAnswer.answerBy LayoutAnswer.answerFor LayoutAnswer.callLate LayoutAnswer.callEarly LayoutAnswer.layoutOf FiguresFit.allNamed FiguresFit.isLine FiguresFit.endAt FiguresFit.isKnown FiguresFit.joins FiguresFit.allJoin FiguresFit.moderate FiguresFit.allModerate FiguresFit.ordered FiguresFit.allOrdered FiguresFit.fits FiguresScale.sizedEnds FiguresScale.illDrawn FiguresOverlaps.overlapping FiguresOverlaps.overlappingPairs FiguresOverlaps.overlaps FiguresFigure.middle FiguresFigure.middles FiguresFigure.displacements FiguresFigure.shorter FiguresFigure.spacingsFrom FiguresFigure.spacings FiguresRelative.pieceStart FiguresRelative.pieceEnd FiguresRelative.longer FiguresRelative.begun FiguresRelative.ratio FiguresRelative.ended FiguresRelative.relativeOn FiguresRelative.relatives AuditThrough.stationAt AuditThrough.isHit AuditThrough.crosses AuditThrough.runsThrough AuditThrough.through AuditAnswer.numberOf AuditAnswer.tooShort AuditAnswer.early AuditAnswer.boxesOf AuditAnswer.stationsOf AuditAnswer.lateBy AuditAnswer.late AuditAnswer.listsOf AuditAnswer.figuresOf AuditAnswer.listsAfter AuditAnswer.cleared AuditAnswer.answerBy AuditAnswer.callLate AuditAnswer.callEarly AuditAnswer.auditOf ListingField.digit ListingField.closed ListingField.digitsTo ListingField.limited ListingField.positive ListingField.whole ListingField.hexadecimal ListingField.pattern ListingField.minus ListingField.plus ListingField.busNumber ListingLine.begins ListingLine.busNames ListingLine.branchNames ListingLine.andThen ListingLine.busLine ListingLine.branchLine ListingInput.noBuses ListingInput.noBranches ListingInput.addBus ListingInput.addBranch ListingInput.linesTo ListingInput.busLines ListingInput.atEnd ListingInput.branchLines ListingInput.withBranches ListingInput.withBuses ListingInput.parsed ListingInput.read ListingInput.counted FieldsSpell.glyph FieldsSpell.digits FieldsSpell.placesIn FieldsSpell.numberField FieldsSpell.shown FieldsSpell.floatField ListingOutput.pieceNames ListingOutput.pointFields ListingOutput.pieceLine ListingOutput.listing ListingOutput.refusal FieldsSpell.putAt Listed.listOptions Listed.plotted Listed.textBy Listed.textOf Listed.networkOf Listed.outputOf SmallHeld.heldCall ListingLinePlaces.answer ListingLinePlaces.numberOf
+unfolding add sub mul div neg sum round units odd size span climb lt le eq ofInt ofBits ofFields toBits isNan trailingZeros audited auditParts WallClaim.checkedBy WallClaim.checkBy WallClaim.checkAfter WallClaim.bothAfter WallClaim.drawAndAudit FloatSmall.maxOf FloatSmall.minOf FloatSmall.absOf FloatSmall.isFinite FloatSmall.clampOf FloatHypot.grains FloatHypot.rootIn FloatHypot.nearestRoot FloatHypot.hypotOf FloatFloor.sizeDown FloatFloor.sizeUp FloatFloor.floorInt FloatKey.keyOf OrderOrder.insertBy OrderOrder.sortBy OrderOrder.upFrom OrderOrder.count OrderOrder.keep OrderTable.tableFrom OrderTable.joined OrderTable.strided OrderMedian.finiteOf OrderMedian.insertFloat OrderMedian.sortFloats OrderMedian.middle OrderMedian.medianOf OrderMedian.orElse GeometryClip.part GeometryClip.cut GeometryClip.clipBy GeometryClip.met GeometryClip.clipped GeometryClip.hits GeometryCross.orient GeometryCross.crosses GeometryCross.parallel GeometryCross.param GeometryCross.placeOr NeighboursNear.distance NeighboursNear.nearer NeighboursNear.nearestTo NeighboursNear.nearest NeighboursNear.near NeighboursNear.within NeighboursNear.neighbours NeighboursOverlap.meet NeighboursOverlap.overlap ChannelSpace.wishKey ChannelSpace.wishOf ChannelSpace.readBack ChannelSpace.wishOrder ChannelSpace.inOrder ChannelSpace.evenAt ChannelSpace.forward ChannelSpace.forwardAll ChannelSpace.backward ChannelSpace.crowded ChannelSpace.spaced ChannelSpace.putAll ChannelChannel.reachOn ChannelChannel.reach ChannelChannel.held ChannelChannel.channelOf MeshMesh.next MeshMesh.endAt MeshMesh.lowAt MeshMesh.highAt OrderOrder.allTo MeshMesh.cornerOk MeshMesh.reversed MeshMesh.pairs MeshMesh.twinOk MeshMesh.edgesOk MeshMesh.meshOk WalkRound.roundOf WalkRound.firstAt WalkRound.around WalkTrace.homeOf WalkTrace.crossesEdge WalkTrace.leave WalkTrace.sought WalkTrace.started WalkTrace.outBy WalkTrace.passOn WalkTrace.after WalkTrace.walk WalkTrace.traced NetworkWords.pastTo NetworkWords.stationCount NetworkWords.busesIn NetworkWords.busCounts NetworkWords.occupied NetworkWords.known NetworkWords.live NetworkWords.kindBy NetworkWords.kindFor NetworkWords.kindOf NetworkWords.kinds NetworkSeed.pointOf NetworkSeed.busPoint NetworkSeed.sumTo NetworkSeed.mean NetworkSeed.seedOf NetworkSeed.seeds NetworkOptions.defaults NetworkOptions.between NetworkOptions.searchFits NetworkOptions.gapFits NetworkOptions.gapsFit NetworkOptions.inRange NetworkOptions.searchOf NetworkRefusal.above NetworkRefusal.farOut NetworkRefusal.tooFar NetworkRefusal.shapeRefusal NetworkRefusal.isVoltage NetworkRefusal.strayVoltage NetworkViews.pointsIn NetworkViews.boxesIn StationsColumn.falling StationsColumn.column StationsColumn.columns StationsRow.hasRow StationsRow.rowKey StationsRow.rowsIn StationsRow.row StationsRow.fromRow StationsRow.toRow StationsRow.fromRows StationsRow.toRows UnitsSize.widthFor UnitsSize.heightFor UnitsSize.sizeFor UnitsSize.sizesFor UnitsSize.sizes UnitsSize.sides UnitsUnit.coordinates UnitsUnit.spacingOf UnitsUnit.spacing UnitsUnit.typical UnitsUnit.unitFor UnitsScale.tier UnitsScale.occupiedBelow UnitsScale.scaleAt UnitsScale.scalesOf UnitsScale.scales PlacementOffset.offsetNumber PlacementOffset.offsetOf PlacementOffset.gridNumber PlacementOffset.offsetGrid PlacementOffset.offsets TurnsTurns.topTo TurnsTurns.placementOrder PlacementPlaceSearch.frameFor PlacementPlaceSearch.frames PlacementPlaceSearch.boxOn PlacementPlaceSearch.buffered PlacementPlaceSearch.free PlacementPlaceSearch.place PlacementPlaceSearch.firstFree PlacementPlaceSearch.placeFor PlacementPlace.boxOf PlacementPlace.nextPlace PlacementPlace.placesTo PlacementPlace.places PlacementPlace.foundFree PlacementPlace.boxes PlacementSized.largest PlacementSized.sized PlacementSized.sizedBox PlacementSized.allSized PlacementSized.illSized GeometryEntry.entryOf GeometryEntry.enters BoxTreeFirst.entryAt BoxTreeFirst.comesFirst BoxTreeFirst.sooner BoxTreeFirst.look BoxTreeFirst.found BoxTreeFirst.firstHit BoxTreeLength.indexLength CornerCorner.cornersOf CornerCorner.cost CornerCorner.costKey CornerCorner.clears CornerCorner.clearing CornerCorner.cheaper CornerCorner.cheapest CornerCorner.orElse CornerCorner.corner DetourDetour.detourOn DetourDetour.detourTo DetourDetour.detour BarsBar.barX BarsBar.rowY BarsBar.spanOf BarsBar.include BarsBar.includeEnd BarsBar.includeBranch BarsBar.spanTo BarsBar.reach BarsBar.lengthened BarsBar.barFor BarsBar.spans BarsBar.bars BarsBar.position BarsBar.rowEnd BarsExit.exitX BarsExit.exit RunsRun.slot RunsRun.ledPath RunsRun.linePoints RunsRun.runFor RunsRun.runOf RunsRun.runs RunsRun.apart RunsRun.pieces RunsRun.isLine RunsRun.allPieces RunsRun.role RunsFinite.allOf RunsFinite.finitePoint RunsFinite.finiteBox RunsFinite.finiteBar RunsLists.flat OrderOver.over RunsLists.after RoutingRoute.vertexOf RoutingRoute.numberOf RoutingRoute.makeChannel RoutingRoute.withChannel RoutingRoute.crossingOf RoutingRoute.cross RoutingRoute.crossAll RoutingRoute.addWalk RoutingRoute.addBranch RoutingRoute.tracedTo RoutingRoute.routing RoutingRoute.pointOn RoutingRoute.pointOf RoutingRoute.members RoutingRoute.exitOf RoutingRoute.wish RoutingRoute.spaceOne RoutingRoute.spacedTo RoutingRoute.roundsTo RoutingRoute.waypoints CrossingsGap.gapOf RoutingViews.exitAt RoutingViews.lineBetween RoutingViews.lineFor RoutingViews.lineIn RoutingViews.linesIn RoutingViews.sceneIn RoutesRoutes.meshUsed RoutesRoutes.meshFits RoutesRouted.routedIn RoutesRoutes.crossingsOf RoutesRoutes.routeRefusal ResultsBounds.around ResultsBounds.aroundAll ResultsBounds.boundsOf LayoutDrawing.straightScene LayoutDrawing.planned LayoutDrawing.ledScene LayoutDrawing.lineFor LayoutDrawing.lineOf LayoutDrawing.routedScene LayoutDrawing.routedOf LayoutDrawing.waysOf LayoutDrawing.sceneOf LayoutDrawing.drawing LayoutAnswer.numberOf LayoutAnswer.shortResults LayoutAnswer.shortWork LayoutAnswer.early LayoutAnswer.pieceRoom LayoutAnswer.crossingRoom LayoutAnswer.allFinite LayoutAnswer.routedBy LayoutAnswer.lateBy LayoutAnswer.late LayoutAnswer.listsOf LayoutAnswer.listsAfter LayoutAnswer.clearedWork LayoutAnswer.clearedCrossings LayoutAnswer.answerBy LayoutAnswer.answerFor LayoutAnswer.callLate LayoutAnswer.callEarly LayoutAnswer.layoutOf FiguresFit.allNamed FiguresFit.isLine FiguresFit.endAt FiguresFit.isKnown FiguresFit.joins FiguresFit.allJoin FiguresFit.moderate FiguresFit.allModerate FiguresFit.ordered FiguresFit.allOrdered FiguresFit.fits FiguresScale.sizedEnds FiguresScale.illDrawn FiguresOverlaps.overlapping FiguresOverlaps.overlappingPairs FiguresOverlaps.overlaps FiguresFigure.middle FiguresFigure.middles FiguresFigure.displacements FiguresFigure.shorter FiguresFigure.spacingsFrom FiguresFigure.spacings FiguresRelative.pieceStart FiguresRelative.pieceEnd FiguresRelative.longer FiguresRelative.begun FiguresRelative.ratio FiguresRelative.ended FiguresRelative.relativeOn FiguresRelative.relatives AuditThrough.stationAt AuditThrough.isHit AuditThrough.crosses AuditThrough.runsThrough AuditThrough.through AuditAnswer.numberOf AuditAnswer.tooShort AuditAnswer.early AuditAnswer.boxesOf AuditAnswer.stationsOf AuditAnswer.lateBy AuditAnswer.late AuditAnswer.listsOf AuditAnswer.figuresOf AuditAnswer.listsAfter AuditAnswer.cleared AuditAnswer.answerBy AuditAnswer.callLate AuditAnswer.callEarly AuditAnswer.auditOf ListingField.digit ListingField.closed ListingField.digitsTo ListingField.limited ListingField.positive ListingField.whole ListingField.hexadecimal ListingField.pattern ListingField.minus ListingField.plus ListingField.busNumber ListingLine.begins ListingLine.busNames ListingLine.branchNames ListingLine.andThen ListingLine.busLine ListingLine.branchLine ListingInput.noBuses ListingInput.noBranches ListingInput.addBus ListingInput.addBranch ListingInput.linesTo ListingInput.busLines ListingInput.atEnd ListingInput.branchLines ListingInput.withBranches ListingInput.withBuses ListingInput.parsed ListingInput.read ListingInput.counted FieldsSpell.glyph FieldsSpell.digits FieldsSpell.placesIn FieldsSpell.numberField FieldsSpell.shown FieldsSpell.floatField ListingOutput.pieceNames ListingOutput.pointFields ListingOutput.pieceLine ListingOutput.listing ListingOutput.refusal FieldsSpell.putAt Listed.listOptions Listed.plotted Listed.textBy Listed.textOf Listed.networkOf Listed.outputOf SmallHeld.heldCall ListingLinePlaces.answer ListingLinePlaces.numberOf
 table =
     -- the worked output of `drawlist`, its bytes
     record {

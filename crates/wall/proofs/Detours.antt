@@ -9,13 +9,14 @@ use lib.Ieee.Fits.{add-fits, sub-fits}
 use Rattle.float.specs.Ops.{f½, _⊗_}
 use Rattle.geometry.specs.declared.Point.{Point}
 use Rattle.geometry.specs.declared.Box.{Box}
-use Rattle.placement.specs.Place.{boxIn}
+use Rattle.geometry.specs.Plane.{boxIn}
 use Rattle.first_box.specs.declared.FirstHit.{FirstHit}
 use Rattle.first_box.specs.declared.FirstHit.the-variants.{Free, At}
-use Rattle.detour.specs.declared.corner.Choice.{Choice}
-use Rattle.detour.specs.declared.corner.Choice.the-variants.{Nowhere, Over}
+use Rattle.corner.specs.declared.Choice.{Choice}
+use Rattle.corner.specs.declared.Choice.the-variants.{Nowhere, Over}
 use Rattle.first_box.specs.First.{firstHit}
-use Rattle.detour.specs.Detour.{cornersOf, costKey, clears, clearing, cheaper, cheapest, orElse, corner, detourOn, detourTo, detour}
+use Rattle.corner.specs.Corner.{cornersOf, costKey, clears, clearing, cheaper, cheapest, orElse, corner}
+use Rattle.detour.specs.Detour.{detourOn, detourTo, detour}
 use Rattle.wall.proofs.Every.{Every}
 
 -- a point of two floats of the format

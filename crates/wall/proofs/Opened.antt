@@ -21,17 +21,18 @@ use Rattle.options.specs.Options.{searchOf}
 use Rattle.network.specs.declared.words.Kind.{Kind}
 use Rattle.network.specs.declared.words.Kind.the-variants.{Undrawn, Open, Internal, Line}
 use Rattle.network.specs.Words.{stationOf, busCounts, isOccupied, occupied, kinds, kindAt}
-use Rattle.network.specs.Seed as Seed
-use Rattle.network.specs.Seed.{placeAt}
-use Rattle.stations.specs.Column as Column
-use Rattle.stations.specs.Row.{fromRow, toRow, fromRows, toRows}
+use Rattle.seeds.specs.Seed as Seed
+use Rattle.seeds.specs.Seed.{placeAt}
+use Rattle.columns.specs.Column as Column
+use Rattle.rows.specs.Row.{fromRow, toRow, fromRows, toRows}
 use Rattle.sizes.specs.Size as Sizes
 use Rattle.sizes.specs.Size.{Size}
 use Rattle.units.specs.Unit.{spacing, typical, unitFor}
 use Rattle.scales.specs.Scale as Scale
 use Rattle.offsets.specs.declared.offset.Offset.{Offset}
 use Rattle.offsets.specs.Offset as Offset
-use Rattle.placement.specs.Place.{places, boxes, boxOf, boxIn, noBox}
+use Rattle.geometry.specs.Plane.{boxIn, noBox}
+use Rattle.placement.specs.Place.{places, boxes, boxOf}
 use Rattle.free_places.specs.Search.{Frame, frames, boxOn}
 use Rattle.bars.specs.declared.Bar.{Bar}
 use Rattle.bars.specs.Bar as Bars

@@ -9,16 +9,16 @@ use lib.Ieee.{Float, nan}
 use Rattle.float.specs.Ops.{f1, _⊗_}
 use Rattle.order.proofs.Tables.{length-table, getD-table}
 use Rattle.geometry.specs.declared.Box.{Box}
-use Rattle.geometry.specs.Plane.{point, boxAt}
+use Rattle.geometry.specs.Plane.{point, boxAt, boxIn}
 use Rattle.options.specs.declared.Options.{Options}
 use Rattle.network.specs.Words.{stationOf, stationCount, busesIn, busCounts}
-use Rattle.network.specs.Seed as Seed
+use Rattle.seeds.specs.Seed as Seed
 use Rattle.network.specs.Views.{boxesIn}
 use Rattle.network.proofs.Stations.{station-below}
 use Rattle.sizes.specs.Size as Sizes
 use Rattle.sizes.specs.Size.{sizeAt, sizeFor, widthFor, heightFor}
 use Rattle.scales.specs.Scale as Scale
-use Rattle.placement.specs.Place.{boxes, boxIn}
+use Rattle.placement.specs.Place.{boxes}
 use Rattle.free_places.specs.Search.{Frame, frames, frameFor, frameAt}
 use Rattle.bars.specs.Bar.{position, barAt, blockAt, rowEnd, rowY}
 use Rattle.network.specs.declared.words.Kind.the-variants.{Undrawn}

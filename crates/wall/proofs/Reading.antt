@@ -10,8 +10,7 @@ use lib.Ieee.{Float, nan}
 use Rattle.order.proofs.Tables.{getD-any}
 use Rattle.order.proofs.Strides.{is-table}
 use Rattle.geometry.specs.declared.Box.{Box}
-use Rattle.geometry.specs.Plane.{point, pointAt, boxAt, origin}
-use Rattle.placement.specs.Place.{boxIn, noBox}
+use Rattle.geometry.specs.Plane.{point, pointAt, boxAt, origin, boxIn, noBox}
 use Rattle.bars.specs.declared.Bar.{Bar}
 use Rattle.bars.specs.Bar.{position, barAt}
 use Rattle.runs.specs.Run.{Piece}

@@ -16,18 +16,18 @@ use Rattle.order.proofs.Tables.{length-table, getD-table, table-ext}
 use Rattle.order.proofs.Strides.{is-table}
 use Rattle.geometry.specs.declared.Point.{Point}
 use Rattle.geometry.specs.declared.Box.{Box}
-use Rattle.geometry.specs.Plane.{point, origin, pointAt, boxAt}
+use Rattle.geometry.specs.Plane.{point, origin, pointAt, boxAt, noBox}
 use Rattle.options.specs.declared.Options.{Options}
 use Rattle.network.specs.declared.words.Kind.{Kind}
 use Rattle.network.specs.declared.words.Kind.the-variants.{Undrawn, Open, Internal, Line}
 use Rattle.network.specs.Words.{stationOf, stationCount, kindAt, Safe}
-use Rattle.network.specs.Seed.{placeAt}
+use Rattle.seeds.specs.Seed.{placeAt}
 use Rattle.network.proofs.Stations.{station-below}
 use Rattle.network.proofs.Branches.{kind-safe}
-use Rattle.stations.specs.Row.{fromRow, toRow, toRows}
+use Rattle.rows.specs.Row.{fromRow, toRow, toRows}
 use Rattle.units.specs.Unit.{coordinates}
 use Rattle.offsets.specs.declared.offset.Offset.{Offset}
-use Rattle.placement.specs.Place.{placesTo, places, noBox}
+use Rattle.placement.specs.Place.{placesTo, places}
 use Rattle.free_places.specs.Search.{Frame}
 use Rattle.bars.specs.Exit as Exit
 use Rattle.bars.specs.Exit.{exitX}

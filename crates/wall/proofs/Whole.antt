@@ -21,7 +21,7 @@ use Rattle.order.specs.Table.{table, joined}
 use Rattle.order.proofs.Tables.{length-table, getD-table, joined-ext}
 use Rattle.geometry.specs.declared.Point.{Point}
 use Rattle.geometry.specs.declared.Box.{Box}
-use Rattle.geometry.specs.Plane.{boxAt, shrunk}
+use Rattle.geometry.specs.Plane.{boxAt, shrunk, boxIn, noBox}
 use Rattle.proximity.specs.Overlap.{overlap}
 use Rattle.options.specs.declared.Gaps.{Gaps}
 use Rattle.options.specs.declared.Options.{Options}
@@ -30,15 +30,15 @@ use Rattle.network.specs.declared.words.Known.the-variants.{Bus, Unknown}
 use Rattle.network.specs.declared.words.Kind.{Kind}
 use Rattle.network.specs.declared.words.Kind.the-variants.{Undrawn, Open, Internal, Line}
 use Rattle.network.specs.Words.{stationOf, stationCount, busesIn, isOccupied, known, live, kindBy, kindFor, kindOf, kindAt, Safe}
-use Rattle.network.specs.Seed as Seed
-use Rattle.network.specs.Seed.{placeAt}
+use Rattle.seeds.specs.Seed as Seed
+use Rattle.seeds.specs.Seed.{placeAt}
 use Rattle.network.proofs.Branches.{kind-safe}
 use Rattle.network.proofs.KindLaw.{kind-open, kind-internal, kind-line, kind-other}
 use Rattle.refusals.proofs.Shapes.{Shape, shape-fits}
-use Rattle.stations.specs.Row.{hasRow}
-use Rattle.stations.proofs.RowLaw.{rows-below, rows-differ, rows-fill}
-use Rattle.stations.proofs.RowOrder as Kept
-use Rattle.placement.specs.Place.{boxOf, boxIn, noBox, foundFree}
+use Rattle.rows.specs.Row.{hasRow}
+use Rattle.rows.proofs.RowLaw.{rows-below, rows-differ, rows-fill}
+use Rattle.rows.proofs.RowOrder as Kept
+use Rattle.placement.specs.Place.{boxOf, foundFree}
 use Rattle.free_places.specs.Search.{Frame, frameAt, boxOn, free, buffered}
 use Rattle.turns.specs.Stages.Listed.{Turns}
 use Rattle.turns.proofs.Queue.{order-turns}

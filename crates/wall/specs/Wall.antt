@@ -25,8 +25,8 @@ use Rattle.options.specs.Options.{searchOf}
 use Rattle.network.specs.declared.words.Kind.{Kind}
 use Rattle.network.specs.declared.words.Kind.the-variants.{Undrawn, Open, Internal, Line}
 use Rattle.network.specs.Words.{stationOf, stationCount, busesIn, busCounts, occupied, kindOf, kinds}
-use Rattle.network.specs.Seed.{sumTo, mean, seeds, placeAt}
-use Rattle.stations.specs.Row.{rowsIn, row}
+use Rattle.seeds.specs.Seed.{sumTo, mean, seeds, placeAt}
+use Rattle.rows.specs.Row.{rowsIn, row}
 use Rattle.sizes.specs.Size.{Size, sizes}
 use Rattle.units.specs.Unit.{coordinates, spacing, typical, unitFor}
 use Rattle.scales.specs.Scale.{scales}

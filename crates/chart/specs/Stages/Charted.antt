@@ -11,7 +11,7 @@ use Rattle.network.specs.Views.{countsIn, boxesIn}
 use Rattle.sizes.specs.Stages.Views.{scalesIn}
 use Rattle.sized.specs.Sized.{illSized}
 use Rattle.runs.specs.Stages.Views.{held, lead, Fits}
-use Rattle.pieces.specs.Stages.Pieces.{runsIn}
+use Rattle.survey.specs.Stages.Runs.{runsIn}
 use Rattle.results.specs.Stages.Bars.{barsIn}
 use Rattle.crossings.specs.Gap.{gapOf}
 use Rattle.drawing.specs.Network.{Network}

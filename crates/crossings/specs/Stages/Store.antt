@@ -14,7 +14,7 @@ use Rattle.geometry.specs.declared.Point.{Point}
 use Rattle.geometry.specs.Plane.{pointAt}
 use Rattle.crossing.specs.Cross.{param, placeOr}
 use Rattle.mesh.specs.Mesh.{at, endAt, lowAt, highAt}
-use Rattle.walk.specs.Round.{around}
+use Rattle.half_edges.specs.Round.{around}
 use Rattle.walk.specs.Trace.{Walk, traced}
 use Rattle.network.specs.declared.words.Kind.{Kind}
 use Rattle.network.specs.declared.words.Kind.the-variants.{Undrawn, Open, Internal, Line}

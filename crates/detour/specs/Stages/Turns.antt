@@ -7,12 +7,11 @@ use mathlib.Core.List.{List}
 use lib.ListN.{length}
 use lib.Ieee.{Float}
 use Rattle.geometry.specs.declared.Box.{Box}
-use Rattle.geometry.specs.Plane.{pointAt}
-use Rattle.placement.specs.Place.{boxIn}
+use Rattle.geometry.specs.Plane.{pointAt, boxIn}
 use Rattle.first_box.specs.declared.FirstHit.{FirstHit}
 use Rattle.first_box.specs.declared.FirstHit.the-variants.{Free, At}
 use Rattle.detour.specs.declared.path.Turn.{Turn}
-use Rattle.detour.specs.Detour.{corner}
+use Rattle.corner.specs.Corner.{corner}
 use Rattle.detour.specs.Stages.Paths.{PutIn}
 
 -- b is the box hit, whatever it is where none is

@@ -11,7 +11,7 @@ use Rattle.drawing.proofs.answers.answer_of.Reads as answer-of-reads
 use Rattle.crossings.proofs.gap.gap_of.Reads as gap-of-reads
 use Rattle.finish.proofs.draft.is_led.Reads as is-led-reads
 use Rattle.finish.proofs.draft.judge.Reads as judge-reads
-use Rattle.pieces.proofs.write_pieces.Reads as write-pieces-reads
+use Rattle.survey.proofs.write_pieces.Reads as write-pieces-reads
 use Rattle.results.proofs.buses.write_buses.Reads as write-buses-reads
 use Rattle.results.proofs.lists.write_roles.Reads as write-roles-reads
 use Rattle.results.proofs.lists.write_stations.Reads as write-stations-reads

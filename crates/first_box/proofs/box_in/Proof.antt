@@ -1,7 +1,7 @@
 -- `first_box::box_in` meets its contract. Assumes nothing.
 use mathlib.Core.Path.{sym, _∙_}
 use Rattle.network.proofs.Views.{getD-boxes}
-use Rattle.placement.specs.Place.{noBox}
+use Rattle.geometry.specs.Plane.{noBox}
 use Rattle.first_box.proofs.Looking.{box-past}
 use borrow.Author.Needs.{needs}
 use Rattle.first_box.proofs.box_in.Statement.{statement}

@@ -7,7 +7,7 @@ use lib.Ieee.{Float}
 use Rattle.geometry.specs.declared.Box.{Box}
 use Rattle.geometry.specs.Plane.{boxAt}
 use Rattle.order.proofs.Laws.{All}
-use Rattle.box_order.specs.Stages.Cells.{shifted}
+use Rattle.cells.specs.Stages.Cells.{shifted}
 use Rattle.box_order.specs.Stages.Kept.{Kept}
 use Rattle.sizes.specs.Size.{Size}
 use Rattle.free_places.specs.Search.{Frame}

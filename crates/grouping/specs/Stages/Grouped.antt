@@ -5,7 +5,7 @@ use mathlib.Core.List.{List}
 use lib.Dec.{eqb}
 use lib.ListN.{length, getD}
 use Rattle.order.specs.Table.{table, which, strided}
-use Rattle.walk.specs.Round.{firstAt}
+use Rattle.half_edges.specs.Round.{firstAt}
 
 -- where channel c's crossings begin among those grouped by channel
 unfoldable pub startIn : ℕ → List ℕ → ℕ → ℕ

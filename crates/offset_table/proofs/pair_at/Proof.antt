@@ -2,7 +2,7 @@
 use mathlib.Core.Path.{_∙_}
 use mir.Syntax.{w32}
 use mir.Facts.{toZ-ofZ}
-use Rattle.offset_table.specs.Table.{pairAt}
+use Rattle.offset_rule.specs.Table.{pairAt}
 use borrow.Author.Needs.{needs}
 use Rattle.offset_table.proofs.pair_at.Statement.{statement}
 use Rattle.offset_table.proofs.pair_at.Tie as tie

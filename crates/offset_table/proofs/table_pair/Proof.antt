@@ -2,7 +2,7 @@
 use mathlib.Core.Path.{refl, _∙_}
 use borrow.Author.Needs.{needs}
 use Rattle.offsets.specs.Offset.{offsetOf}
-use Rattle.offset_table.specs.Table.{codes, tablePairs}
+use Rattle.offset_rule.specs.Table.{codes, tablePairs}
 use Rattle.offset_table.proofs.Pairs.{pair-held}
 use Rattle.offset_table.proofs.table_pair.Statement.{statement}
 use Rattle.offset_table.proofs.table_pair.Tie as tie

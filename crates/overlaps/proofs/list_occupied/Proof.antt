@@ -6,7 +6,7 @@ use native.Mathlib.Omega.{arith}
 use native.Mathlib.Numerals.{add-one}
 use lib.ListN.{length, length-set, getD, set, take}
 use lib.Seq.{take-suc-set}
-use Rattle.sizes.proofs.Occupied.{passed, passedCount, passed-all, count-all, count-no, count-yes, passed-no, passed-yes}
+use Rattle.network.proofs.Occupied.{passed, passedCount, passed-all, count-all, count-no, count-yes, passed-no, passed-yes}
 use Rattle.order.proofs.Tables.{howMany-zero, which-zero}
 use borrow.Author.Needs.{needs}
 use Rattle.overlaps.proofs.list_occupied.Statement.{statement}

@@ -1,6 +1,6 @@
 -- `pieces::tally` meets its contract. Assumes nothing.
 use native.Mathlib.Omega.{arith}
-use Rattle.pieces.proofs.Adding.{tally-written, tally-counted}
+use Rattle.pieces.proofs.Tallies.{tally-written, tally-counted}
 use borrow.Author.Needs.{needs}
 use Rattle.pieces.proofs.tally.Statement.{statement}
 use Rattle.pieces.proofs.tally.Tie as tie

@@ -7,7 +7,7 @@ use lib.Ieee.{Float, nan}
 use Rattle.geometry.specs.declared.Point.{Point}
 use Rattle.geometry.specs.declared.Box.{Box}
 use Rattle.geometry.specs.Plane.{pointAt, boxAt}
-use Rattle.box_order.specs.Stages.Cells.{byCell, putIn}
+use Rattle.cells.specs.Stages.Cells.{byCell, putIn}
 use Rattle.box_order.specs.Stages.Kept.{Kept}
 use Rattle.measures.specs.declared.Measures.{Measures}
 use Rattle.sizes.specs.Stages.Views.{sizeIn, sizesIn, scalesIn}

@@ -7,10 +7,10 @@ use Rattle.plan.proofs.interiors.Statement.{statement}
 use Rattle.plan.proofs.interiors.Tie as tie
 use Rattle.plan.proofs.interiors.Reads as reads
 use Rattle.plan.proofs.interiors.Lts as lts
-use Rattle.network.proofs.seed.seeds.Reads as seeds-reads
+use Rattle.seeds.proofs.seeds.Reads as seeds-reads
 use Rattle.network.proofs.words.bus_counts.Reads as bus-counts-reads
-use Rattle.stations.proofs.columns.columns.Reads as columns-reads
-use Rattle.stations.proofs.rows.rows.Reads as rows-reads
+use Rattle.columns.proofs.columns.Reads as columns-reads
+use Rattle.rows.proofs.rows.Reads as rows-reads
 use Rattle.measures.proofs.units.Reads as units-reads
 
 bus-counts-requires : tie.Need-bus-counts-requires

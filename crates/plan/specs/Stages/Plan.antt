@@ -8,10 +8,10 @@ use lib.Ieee.{Float}
 use Rattle.geometry.specs.declared.Point.{Point}
 use Rattle.options.specs.declared.Options.{Options}
 use Rattle.network.specs.Words.{busCounts, kinds}
-use Rattle.network.specs.Seed as Seed
+use Rattle.seeds.specs.Seed as Seed
 use Rattle.network.specs.Views.{countsIn, columnsIn, fromRowsIn, toRowsIn, pointsIn, boxesIn}
-use Rattle.stations.specs.Column as Column
-use Rattle.stations.specs.Row as Row
+use Rattle.columns.specs.Column as Column
+use Rattle.rows.specs.Row as Row
 use Rattle.measures.specs.declared.Measures.{Measures}
 use Rattle.sizes.specs.Size as Size
 use Rattle.units.specs.Unit as Unit

@@ -9,7 +9,7 @@ use Rattle.order.proofs.Tables.{howMany-zero}
 use Rattle.proximity.specs.Near.{neighbours}
 use Rattle.sizes.specs.Stages.Views.{sizesIn, scalesIn}
 use Rattle.sizes.proofs.Blocks.{sizes-beside}
-use Rattle.sizes.proofs.Occupied.{passedCount, count-yes, count-no}
+use Rattle.network.proofs.Occupied.{passedCount, count-yes, count-no}
 use Rattle.scales.proofs.Scaled.{passed-below, counts-front, count-at, scaled, scales-start, scale-yes, scale-no, scales-step, scales-end}
 use borrow.Author.Needs.{needs}
 use Rattle.scales.proofs.scales.Statement.{statement}

@@ -7,7 +7,7 @@ use Rattle.network.specs.Words.{occupied}
 use Rattle.network.specs.Views.{countsIn, boxesIn}
 use Rattle.sized.specs.Sized as Sized
 use Rattle.sized.specs.Sized.{largerSide}
-use Rattle.free_places.proofs.Rest.{onward}
+use Rattle.network.proofs.Rest.{onward}
 use Rattle.sized.proofs.Sizing.{largest-start, largest-yes, largest-no, largest-end}
 use borrow.Author.Needs.{needs}
 use Rattle.sized.proofs.largest.Statement.{statement}

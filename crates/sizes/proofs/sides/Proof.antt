@@ -5,7 +5,8 @@ use native.Mathlib.Omega.{arith}
 use lib.ListN.{length, take, length-set}
 use Rattle.sizes.specs.Size.{sides}
 use Rattle.sizes.specs.Stages.Views.{sizesIn}
-use Rattle.sizes.proofs.Occupied.{passed, sides-none, sides-more, passed-no, passed-all}
+use Rattle.network.proofs.Occupied.{passed, passed-no, passed-all}
+use Rattle.sizes.proofs.Occupied.{sides-none, sides-more}
 use borrow.Author.Needs.{needs}
 use Rattle.sizes.proofs.sides.Statement.{statement}
 use Rattle.sizes.proofs.sides.Tie as tie

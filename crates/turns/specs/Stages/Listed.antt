@@ -6,7 +6,7 @@ use lib.ListN.{length, getD, take}
 use Rattle.order.specs.Order.{keyAt}
 use Rattle.order.specs.Table.{howMany, which}
 use Rattle.network.specs.Words.{isOccupied}
-use Rattle.stations.specs.Column.{falling}
+use Rattle.columns.specs.Column.{falling}
 
 -- the c occupied stations lead the list o, and each station has its bus count's key
 pub record Listed (counts : List ℕ) (k : ℕ) (ks o : List ℕ) (c : ℕ) : Type 0 where

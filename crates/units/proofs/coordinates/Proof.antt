@@ -8,7 +8,7 @@ use lib.Seq.{lt-length-set}
 use Rattle.order.proofs.Tables.{howMany-zero}
 use Rattle.network.specs.Views.{pointsIn}
 use Rattle.units.specs.Unit.{coordinates}
-use Rattle.sizes.proofs.Occupied.{passed, passedCount, count-yes, count-no, passed-no, passed-all, count-all}
+use Rattle.network.proofs.Occupied.{passed, passedCount, count-yes, count-no, passed-no, passed-all, count-all}
 use Rattle.units.proofs.Points.{coordinates-none, coordinates-more}
 use borrow.Author.Needs.{needs}
 use Rattle.units.proofs.coordinates.Statement.{statement}

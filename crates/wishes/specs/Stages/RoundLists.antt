@@ -13,7 +13,7 @@ use Rattle.geometry.specs.Plane.{point, pointAt, boxAt}
 use Rattle.crossing.specs.Cross.{param, placeOr}
 use Rattle.channel.specs.declared.Channel.{Channel}
 use Rattle.channel.specs.Channel.{channelOf}
-use Rattle.channel.specs.Space.{wishOrder, inOrder, spaced, putAll}
+use Rattle.spacing.specs.Space.{wishOrder, inOrder, spaced, putAll}
 use Rattle.mesh.specs.Mesh.{lowAt, highAt, meshOk}
 use Rattle.runs.specs.Stages.Views.{firstExit, secondExit}
 use Rattle.crossings.specs.Route.{routing}

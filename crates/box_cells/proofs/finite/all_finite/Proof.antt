@@ -4,7 +4,7 @@ use mathlib.Core.Bool.{true, true≢false}
 use Prim.Native.Nat.{_≤_, _-_}
 use native.Mathlib.Omega.{arith}
 use Rattle.network.specs.Views.{boxesIn}
-use Rattle.placement.specs.Place.{boxIn}
+use Rattle.geometry.specs.Plane.{boxIn}
 use Rattle.windows.specs.Stages.Window.{finiteBox}
 use Rattle.box_cells.proofs.Occupied.{Left, left-start, left-yes, left-no, left-end}
 use borrow.Author.Needs.{needs}

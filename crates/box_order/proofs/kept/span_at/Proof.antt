@@ -1,5 +1,5 @@
 -- `box_order::kept::span_at` meets its contract. Assumes nothing.
-use Rattle.box_order.specs.Stages.Cells.{spanOf}
+use Rattle.cells.specs.Stages.Cells.{spanOf}
 use borrow.Author.Needs.{needs}
 use Rattle.box_order.proofs.kept.span_at.Statement.{statement}
 use Rattle.box_order.proofs.kept.span_at.Tie as tie

@@ -1,7 +1,7 @@
 -- `box_order::kept::stretch_end` meets its contract. Assumes nothing.
 use native.Mathlib.Omega.{arith}
 use borrow.Author.Needs.{needs}
-use Rattle.box_order.proofs.CellWords.{key-most}
+use Rattle.cells.proofs.CellWords.{key-most}
 use Rattle.box_order.proofs.Keeping.{end-at}
 use Rattle.box_order.proofs.kept.stretch_end.Statement.{statement}
 use Rattle.box_order.proofs.kept.stretch_end.Tie as tie

@@ -8,7 +8,7 @@ use Rattle.chart.proofs.lay.lay.Statement.{statement}
 use Rattle.chart.proofs.lay.lay.Tie as tie
 use Rattle.chart.proofs.lay.lay.Reads as reads
 use Rattle.chart.proofs.lay.lay.Lts as lts
-use Rattle.bars.proofs.span.spans.Reads as spans-reads
+use Rattle.spans.proofs.spans.Reads as spans-reads
 use Rattle.chart.proofs.lay.search_in.Reads as search-in-reads
 use Rattle.plan.proofs.interiors.Reads as interiors-reads
 use Rattle.plan.proofs.settle.Reads as settle-reads

@@ -1,6 +1,6 @@
 -- `figures::figure::displacements` meets its contract. Assumes nothing.
 use Rattle.figures.proofs.Front.{Front, front-start, front-same, front-put, front-end, front-room}
-use Rattle.free_places.proofs.Rest.{onward, onward-start, onward-no}
+use Rattle.network.proofs.Rest.{onward, onward-start, onward-no}
 use mathlib.Core.Path.{ap}
 use native.Mathlib.Omega.{arith}
 use Prim.Native.Nat.{_≤_, _-_}

@@ -8,7 +8,7 @@ use Rattle.finish.proofs.draft.judge.Lts as lts
 use Rattle.crossings.proofs.gap.gap_of.Reads as gap-of-reads
 use Rattle.finish.proofs.draft.is_led.Reads as is-led-reads
 use Rattle.drawing.proofs.late.late_of.Reads as late-of-reads
-use Rattle.pieces.proofs.survey.Reads as survey-reads
+use Rattle.survey.proofs.survey.Reads as survey-reads
 use Rattle.results.proofs.bounds.bounds_of.Reads as bounds-of-reads
 
 is-led-requires : tie.Need-is-led-requires

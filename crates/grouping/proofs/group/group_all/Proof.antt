@@ -1,7 +1,7 @@
 -- `grouping::group::group_all` meets its contract. Assumes nothing.
 use mathlib.Core.Path.{refl}
 use native.Mathlib.Omega.{arith}
-use Rattle.walk.proofs.Rounds.{round-made}
+use Rattle.half_edges.proofs.Rounds.{round-made}
 use Rattle.grouping.proofs.Grouping.{grouped}
 use borrow.Author.Needs.{needs}
 use Rattle.grouping.proofs.group.group_all.Statement.{statement}

@@ -13,10 +13,10 @@ use Rattle.layout.proofs.call.tx_schematic_layout.Reads as reads
 use Rattle.layout.proofs.call.tx_schematic_layout.Lts as lts
 use Rattle.layout.proofs.call.crossing_room.Reads as crossing-room-reads
 use Rattle.chart.proofs.chart.Reads as chart-reads
-use Rattle.drawing.proofs.clear.clear_crossings.Reads as clear-crossings-reads
-use Rattle.drawing.proofs.clear.clear_work.Reads as clear-work-reads
+use Rattle.clear.proofs.clear_crossings.Reads as clear-crossings-reads
+use Rattle.clear.proofs.clear_work.Reads as clear-work-reads
 use Rattle.finish.proofs.finish.Reads as finish-reads
-use Rattle.drawing.proofs.refuse.refusal_of_input.Reads as refusal-of-input-reads
+use Rattle.layout_limits.proofs.refuse.refusal_of_input.Reads as refusal-of-input-reads
 use Rattle.network.proofs.words.station_count.Reads as station-count-reads
 
 refusal-of-input-requires : tie.Need-refusal-of-input-requires

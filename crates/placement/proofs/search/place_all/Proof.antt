@@ -6,7 +6,7 @@ use lib.ListN.{length, getD}
 use Rattle.order.proofs.Strides.{getD-strided, length-strided}
 use Rattle.network.specs.Views.{orderIn, pointsIn}
 use Rattle.placement.specs.Stages.Views.{framesIn}
-use Rattle.offset_table.specs.Table.{skipped, pairsIn}
+use Rattle.offset_rule.specs.Table.{skipped, pairsIn}
 use Rattle.placement.proofs.Placing.{Placed, placed-none, placed-more, placed-end, holds-of, fresh-of, turn-below}
 use borrow.Author.Needs.{needs}
 use Rattle.placement.proofs.search.place_all.Statement.{statement}

@@ -4,7 +4,7 @@ use mathlib.Core.List.{List}
 use Rattle.network.specs.Views.{orderIn, pointsIn}
 use Rattle.offsets.specs.declared.offset.Offset.{Offset}
 use Rattle.offsets.specs.Offset.{offsetOf}
-use Rattle.offset_table.specs.Table.{codes, tablePairs}
+use Rattle.offset_rule.specs.Table.{codes, tablePairs}
 use Rattle.offset_table.proofs.Pairs.{within-held}
 use Rattle.placement.specs.Place.{places}
 use Rattle.placement.specs.Stages.Views.{framesIn}

@@ -15,7 +15,7 @@ use Rattle.results.proofs.buses.write_buses.Tie as tie
 use Rattle.results.proofs.buses.write_buses.Reads as reads
 use Rattle.results.proofs.buses.write_buses.Lts as lts
 use Rattle.bars.proofs.position.Reads as position-reads
-use Rattle.network.proofs.seed.put_point.Reads as put-point-reads
+use Rattle.seeds.proofs.put_point.Reads as put-point-reads
 use Rattle.network.proofs.words.station_of.Reads as station-of-reads
 use Rattle.results.proofs.lists.put_numbers.Reads as put-numbers-reads
 use Rattle.runs.proofs.run.bar_of.Reads as bar-of-reads

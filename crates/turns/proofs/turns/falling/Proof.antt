@@ -1,6 +1,6 @@
 -- `turns::turns::falling` meets its contract. Assumes nothing.
 use native.Mathlib.Omega.{arith}
-use Rattle.stations.specs.Column.{falling}
+use Rattle.columns.specs.Column.{falling}
 use borrow.Author.Needs.{needs}
 use Rattle.turns.proofs.turns.falling.Statement.{statement}
 use Rattle.turns.proofs.turns.falling.Tie as tie

@@ -5,7 +5,7 @@ use native.Mathlib.Omega.{arith}
 use borrow.Author.Count.{below-more}
 use lib.ListN.{length, length-set, getD}
 use lib.Seq.{getD-set-same, getD-set-other}
-use Rattle.stations.specs.Column.{falling}
+use Rattle.columns.specs.Column.{falling}
 use borrow.Author.Needs.{needs}
 use Rattle.turns.proofs.turns.fill_keys.Statement.{statement}
 use Rattle.turns.proofs.turns.fill_keys.Tie as tie

@@ -3,7 +3,7 @@ use Prim.Native.Nat.{_≤_, _-_, _<_}
 use mathlib.Core.Path.{_≡_, refl, ap, _∙_}
 use native.Mathlib.Omega.{arith}
 use lib.ListN.{length, length-set, getD}
-use Rattle.stations.specs.Column.{falling}
+use Rattle.columns.specs.Column.{falling}
 use Rattle.turns.proofs.Queue.{Lowered, lowered-none, lowered-yes, lowered-no}
 use borrow.Author.Needs.{needs}
 use Rattle.turns.proofs.turns.top_keys.Statement.{statement}

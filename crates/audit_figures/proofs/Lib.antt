@@ -1,0 +1,2 @@
+-- Laws of the figures.
+pub mod Figuring

@@ -1,0 +1,2 @@
+// The figures of an accepted audit.
+pub mod stages;

@@ -1,0 +1,2 @@
+-- Laws of lent lists.
+mod Equal

@@ -1,0 +1,3 @@
+-- Laws of columns.
+pub mod Falls
+pub mod ColumnLaw

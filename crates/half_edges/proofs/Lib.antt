@@ -1,0 +1,3 @@
+-- Laws of half-edges by their corner.
+pub mod Rounds
+mod Copying

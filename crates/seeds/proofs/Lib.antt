@@ -1,0 +1,2 @@
+-- Laws of seeds, on plain lists.
+pub mod Seeding

@@ -1,0 +1,2 @@
+-- Laws of a bus's first and last row.
+pub mod Rows

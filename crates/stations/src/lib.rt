@@ -1,4 +1,0 @@
-// Columns and rows.
-pub mod columns;
-pub mod ranking;
-pub mod rows;
