@@ -1,4 +1,6 @@
 // The audit of a drawing: the public call.
+#![tactic(auto)]
+
 pub mod clear;
 pub mod inside;
 pub mod quality;

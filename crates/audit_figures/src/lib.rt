@@ -1,2 +1,4 @@
 // The figures of an accepted audit.
+#![tactic(auto)]
+
 pub mod stages;

@@ -1,4 +1,5 @@
 // Bars, positions, row ends and exits.
+#![tactic(auto)]
 
 ghost use Rattle.std.specs.Prelude.{◌≡◌, ◌<◌};
 ghost use Rattle.bars.specs.Bar.{bar_x, row_y, rows, bare, span_of, reach, lengthened, bar_for, position};
@@ -8,7 +9,7 @@ use geometry::{Box, Point};
 use options::Gaps;
 
 // A bar, top to bottom.
-#[derive(Drop)]
+#[derive(Clone, Copy)]
 pub struct Bar {
     pub x: f64,
     pub y0: f64,

@@ -6,7 +6,7 @@ use float::small::max;
 use grid::cell;
 
 // The stations whose left-top corners lie farthest to each side, the sums of the boxes' sides, and how many there are.
-#[derive(Drop)]
+#[derive(Clone, Copy)]
 pub struct Extent {
     pub left: usize,
     pub right: usize,
@@ -76,7 +76,7 @@ pub(crate) fn extent_of(k: usize, stations: &[u32], frames: &[f64]) -> Extent
 }
 
 // Numbers of columns and rows.
-#[derive(Drop)]
+#[derive(Clone, Copy)]
 pub struct Counts {
     pub columns: usize,
     pub rows: usize,

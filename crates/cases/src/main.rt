@@ -3,6 +3,8 @@
 // Standard input has one test a line: a name of three letters, then operands and expected results as 16 hexadecimal digits
 // each, every one after a space. Expected IEEE values come from exact whole-number arithmetic (reference/ieee_values.py), those of
 // other names from the original (reference/oracle, `vectors 1 100`).
+#![tactic(auto)]
+
 mod ieee;
 mod lists;
 mod plane;
@@ -12,7 +14,7 @@ mod words;
 use text::line_end;
 
 // How many tests were compared, and how many of them differ.
-#[derive(Drop)]
+#[derive(Clone, Copy)]
 pub struct Tally {
     pub compared: u64,
     pub differ: u64,

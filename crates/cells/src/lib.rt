@@ -1,4 +1,6 @@
 // The cell of an edge, as it is stored: plus 2^52.
+#![tactic(auto)]
+
 ghost use Rattle.std.specs.Prelude.{◌≡◌, ◌^◌, ◌≤◌, nat_abs};
 ghost use Rattle.cells.specs.Stages.Cells.{cell_number, shifted, cell_key};
 

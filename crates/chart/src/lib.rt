@@ -1,4 +1,6 @@
 // A drawing charted in the work lists: laid out, and its lines routed.
+#![tactic(auto)]
+
 pub mod lay;
 
 ghost use Rattle.std.specs.Prelude.{◌≡◌, ◌+◌, ◌*◌, ◌≤◌, min, length};
@@ -19,7 +21,7 @@ use routes::route_lines;
 use sized::ill_sized;
 
 // The unit, and the late refusal so far, 8, 9 or 10, 0 for none.
-#[derive(Drop)]
+#[derive(Clone, Copy)]
 pub struct Course {
     pub unit: f64,
     pub late: u32,

@@ -1,4 +1,6 @@
 // Work and crossing lists back to zeros.
+#![tactic(auto)]
+
 ghost use Rattle.std.specs.Prelude.{◌≡◌};
 ghost use Rattle.drawing.specs.Network.{crossings};
 ghost use Rattle.drawing.specs.Answer.{cleared_work, cleared_crossings};

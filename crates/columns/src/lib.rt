@@ -1,4 +1,6 @@
 // 2. Columns: `kv` falling, then bus number.
+#![tactic(auto)]
+
 ghost use Rattle.std.specs.Prelude.{◌≡◌, ◌*◌, ◌≤◌, length, take};
 ghost use Rattle.order.specs.Table.{table};
 ghost use Rattle.network.specs.Words.{station_count};

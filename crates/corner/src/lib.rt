@@ -1,4 +1,6 @@
 // The point by which a piece goes round a box: a corner of it, half a gap off.
+#![tactic(auto)]
+
 ghost use Rattle.std.specs.Prelude.{◌≡◌, cond, [], ◌∷◌};
 ghost use Rattle.corner.specs.Corner.{cost, cost_key, clears, cheaper, cheapest, or_else, corner};
 ghost use Rattle.corner.specs.declared.Choice.TheVariants.{Nowhere};
@@ -8,7 +10,7 @@ use geometry::{Box, Point, piece_hits, shrunk};
 use hypot::hypot;
 
 // The cheapest point so far, or none.
-#[derive(Drop)]
+#[derive(Clone, Copy)]
 pub enum Choice {
     Nowhere,
     Over(Point),

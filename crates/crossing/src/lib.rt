@@ -1,4 +1,6 @@
 // Whether two segments cross, and the place where a line crosses a segment.
+#![tactic(auto)]
+
 ghost use Rattle.std.specs.Prelude.{◌≡◌, true, false};
 ghost use Rattle.geometry.specs.Plane.{point};
 ghost use Rattle.crossing.specs.Cross.{orient, crosses, parallel, param};
@@ -8,7 +10,7 @@ use geometry::Point;
 use hypot::hypot;
 
 // Where the line through two points crosses a segment, between its ends (0 and 1), or that they are parallel.
-#[derive(Drop)]
+#[derive(Clone, Copy)]
 pub enum Param {
     At(f64),
     Parallel,

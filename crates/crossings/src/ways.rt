@@ -8,7 +8,7 @@ use crate::corners::corner_of;
 use network::words::{Kind, kind_of, station_of};
 
 // The way of a branch: of a line one more than its first corner, and its second corner; 0 and 0 of any other.
-#[derive(Drop)]
+#[derive(Clone, Copy)]
 pub struct Way {
     pub start: u32,
     pub end: u32,

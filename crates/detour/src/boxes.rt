@@ -10,7 +10,7 @@ use first_box::{FirstHit, box_in};
 use geometry::{Box, Point};
 
 // The lent boxes, four numbers each.
-#[derive(Drop)]
+#[derive(Clone, Copy)]
 pub struct BoxIndex<'a> {
     pub boxes: &'a [f64],
 }

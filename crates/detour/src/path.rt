@@ -49,7 +49,7 @@ fn put_in(path: &mut [f64], i: usize, end: usize, c: Point)
 }
 
 // The piece that is looked at next, from point i to the one after it: its ends, of how many points the path is, how many may still be put in, and whether there is such a piece.
-#[derive(Drop)]
+#[derive(Clone, Copy)]
 pub struct Turn {
     pub n: usize,
     pub i: usize,

@@ -2,7 +2,7 @@
 use geometry::Box;
 
 // The numbers of a drawing beside its lists.
-#[derive(Drop)]
+#[derive(Clone, Copy)]
 pub struct Plot {
     pub unit: f64,
     pub bounds: Box,
@@ -10,7 +10,7 @@ pub struct Plot {
 }
 
 // Drawn, or refused with 01's number.
-#[derive(Drop)]
+#[derive(Clone, Copy)]
 pub enum Answer {
     Drawn(Plot),
     Refused(u32),

@@ -1,4 +1,6 @@
 // What a drawing is and what a call answers; refusal 11.
+#![tactic(auto)]
+
 pub mod answer;
 pub mod answers;
 pub mod late;

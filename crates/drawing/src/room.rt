@@ -1,5 +1,5 @@
 // The lengths of the lent lists.
-#[derive(Drop)]
+#[derive(Clone, Copy)]
 pub struct Room {
     pub positions: usize,
     pub bars: usize,

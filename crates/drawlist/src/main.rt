@@ -1,4 +1,6 @@
 // Reads a network from standard input and writes the pieces of its drawing (01, 'Worked drawings').
+#![tactic(auto)]
+
 mod draw;
 mod plot;
 

@@ -1,4 +1,6 @@
 // The exits of lines from their stations' boxes, worked out once and kept in a lent list.
+#![tactic(auto)]
+
 ghost use Rattle.std.specs.Prelude.{◌≡◌, ℕ, ◌+◌, ◌*◌, ◌^◌, ◌≤◌, ◌<◌, length};
 ghost use Rattle.geometry.specs.Plane.{point_at};
 ghost use Rattle.network.specs.Words.{station_of};
@@ -13,7 +15,7 @@ use order::at;
 use runs::run::{box_at, exit_of, put_point};
 
 // The two exits of a line: from its first station's box and from its second's.
-#[derive(Drop)]
+#[derive(Clone, Copy)]
 pub struct Exits {
     pub first: Point,
     pub second: Point,

@@ -1,4 +1,6 @@
 // Functions for C and Rust: numbers pass as themselves, a list as a pointer and a length.
+#![tactic(auto)]
+
 pub mod auditing;
 pub mod plotting;
 

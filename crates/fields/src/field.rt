@@ -3,13 +3,13 @@ ghost use Rattle.std.specs.Prelude.{◌≡◌, ◌+◌, ◌-◌, ◌^◌, ◌≤
 ghost use Rattle.fields.specs.Field.{digit as digit_of, closed as closed_by, digits_to, limited, positive as positive_to, whole as whole_to, pattern as pattern_to, bus_number};
 ghost use Rattle.fields.specs.Stages.Places.{field_of, signed_of, Between, minus_of, plus_of};
 
-#[derive(Drop)]
+#[derive(Clone, Copy)]
 pub enum Field {
     Value { value: u64, next: usize },
     Wrong,
 }
 
-#[derive(Drop)]
+#[derive(Clone, Copy)]
 pub enum Signed {
     Number { value: i64, next: usize },
     None,

@@ -1,2 +1,4 @@
 // The audit's displacement and spacing.
+#![tactic(auto)]
+
 pub mod figure;

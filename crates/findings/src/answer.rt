@@ -1,7 +1,7 @@
 // What an audit answers.
 
 // How many stations are occupied, how many pairs of their boxes overlap, how many pieces of lines run through boxes, and how many relative lengths there are.
-#[derive(Drop)]
+#[derive(Clone, Copy)]
 pub struct Figures {
     pub stations: usize,
     pub overlaps: usize,
@@ -10,7 +10,7 @@ pub struct Figures {
 }
 
 // Audited, or refused with 01's number.
-#[derive(Drop)]
+#[derive(Clone, Copy)]
 pub enum Audit {
     Audited(Figures),
     Refused(u32),

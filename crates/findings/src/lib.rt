@@ -1,3 +1,5 @@
 // What an audit is lent and what it answers.
+#![tactic(auto)]
+
 pub mod answer;
 pub mod room;

@@ -1,5 +1,5 @@
 // The lengths of the lent lists.
-#[derive(Drop)]
+#[derive(Clone, Copy)]
 pub struct Room {
     pub displacement: usize,
     pub spacing: usize,

@@ -19,7 +19,7 @@ use results::bounds::bounds_of;
 use survey::survey;
 
 // What a drawing answers beside its lists, and its late refusal, 0 for none.
-#[derive(Drop)]
+#[derive(Clone, Copy)]
 pub struct Draft {
     pub bounds: Box,
     pub pieces: usize,

@@ -1,4 +1,6 @@
 // A charted drawing written into the result lists where nothing refuses it.
+#![tactic(auto)]
+
 pub mod draft;
 
 ghost use Rattle.std.specs.Prelude.{◌≡◌, ◌*◌, ◌≤◌, length};

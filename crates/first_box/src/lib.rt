@@ -1,4 +1,6 @@
 // The box that a piece enters first (02, change 9), by a look at every station.
+#![tactic(auto)]
+
 ghost use Rattle.std.specs.Prelude.{◌≡◌, ◌+◌, ◌*◌, ◌≤◌, ◌<◌, length};
 ghost use Rattle.network.specs.Words.{occupied};
 ghost use Rattle.network.specs.Views.{counts_in, boxes_in};
@@ -9,14 +11,14 @@ use geometry::entry::{Entry, enters};
 use geometry::{Box, Point, box_at};
 
 // The box entered first so far: the place where the piece enters it, and its station.
-#[derive(Drop)]
+#[derive(Clone, Copy)]
 pub enum Best {
     Nothing,
     First(f64, usize),
 }
 
 // The station of the box that a piece enters first, or that it enters none.
-#[derive(Drop)]
+#[derive(Clone, Copy)]
 pub enum FirstHit {
     Free,
     At(usize),

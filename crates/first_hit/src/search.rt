@@ -17,14 +17,14 @@ use order::at;
 use windows::{holds, is_apart};
 
 // The box entered first so far: the place where the piece enters it, above 1 for none, and its station. (An enum in these loops costs twice the time.)
-#[derive(Drop)]
+#[derive(Clone, Copy)]
 pub struct Near {
     pub place: f64,
     pub station: usize,
 }
 
 // The end of a search: it may be unsure, by rounding.
-#[derive(Drop)]
+#[derive(Clone, Copy)]
 pub enum Search {
     Unsure,
     Done(Near),

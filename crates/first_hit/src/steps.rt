@@ -4,7 +4,7 @@ use geometry::{Box, Point};
 use grid::Grid;
 
 // Steps along a piece: how far the next one goes, and how far one may go that stays within a column or row.
-#[derive(Drop)]
+#[derive(Clone, Copy)]
 pub struct Steps {
     pub next: f64,
     pub most: f64,

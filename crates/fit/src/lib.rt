@@ -1,3 +1,5 @@
 // Whether an audited drawing fits its network, and whether it is ill sized: refusals 13 and 8.
+#![tactic(auto)]
+
 pub mod fit;
 pub mod scale;

@@ -1,4 +1,6 @@
 // One station's place: the first free one round its seed, else the seed.
+#![tactic(auto)]
+
 ghost use Rattle.std.specs.Prelude.{◌≡◌, ◌+◌, ◌*◌, ◌≤◌, ◌<◌, nat_abs, length, take};
 ghost use Rattle.order.proofs.Laws.{All};
 ghost use Rattle.free_places.specs.Search as Place;
@@ -15,7 +17,7 @@ use offsets::offset::Offset;
 use proximity::overlaps;
 
 // A free place, or none.
-#[derive(Drop)]
+#[derive(Clone, Copy)]
 pub enum Found {
     At(Point),
     Nowhere,

@@ -5,7 +5,7 @@ ghost use Rattle.geometry.specs.Entry.{entry_of, enters};
 use crate::{Box, Clip, Point, clip_by};
 
 // The place along a piece where it enters a box, from 0 at its start to 1 at its end, or that it misses the box.
-#[derive(Drop)]
+#[derive(Clone, Copy)]
 pub enum Entry {
     Missed,
     Place(f64),

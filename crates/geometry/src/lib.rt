@@ -1,4 +1,6 @@
 // Points, boxes and pieces: the clip test.
+#![tactic(auto)]
+
 ghost use Rattle.std.specs.Prelude.{◌≡◌, ◌+◌, ◌*◌, ◌<◌, length, get_or};
 ghost use Rattle.std.specs.Float.{nan};
 ghost use Rattle.geometry.specs.Plane.{point_at, box_at, shrunk};
@@ -9,14 +11,14 @@ use float::small::{max, min};
 pub mod entry;
 
 // A point of the drawing.
-#[derive(Drop)]
+#[derive(Clone, Copy)]
 pub struct Point {
     pub x: f64,
     pub y: f64,
 }
 
 // A box: its sides.
-#[derive(Drop)]
+#[derive(Clone, Copy)]
 pub struct Box {
     pub left: f64,
     pub top: f64,
@@ -25,7 +27,7 @@ pub struct Box {
 }
 
 // What is left of a piece after some of a box's four sides: nothing, or the part between two places on it.
-#[derive(Drop)]
+#[derive(Clone, Copy)]
 pub enum Clip {
     Miss,
     Part(f64, f64),

@@ -1,4 +1,6 @@
 // The cells of boxes, and the list that holds them.
+#![tactic(auto)]
+
 ghost use Rattle.std.specs.Prelude.{◌≡◌, ◌*◌, ◌≤◌, ◌<◌, length};
 ghost use Rattle.network.specs.Views.{boxes_in};
 ghost use Rattle.grid.specs.Stages.Cells.{cell_at, column_of, row_of, chain_of, grid_in};
@@ -9,7 +11,7 @@ use geometry::Box;
 use order::at;
 
 // The grid: its left-top corner, the sides of a cell, and how many columns and rows it has.
-#[derive(Drop)]
+#[derive(Clone, Copy)]
 pub struct Grid {
     pub left: f64,
     pub top: f64,

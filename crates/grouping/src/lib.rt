@@ -1,2 +1,4 @@
 // Crossings grouped by channel, in lent lists.
+#![tactic(auto)]
+
 pub mod group;

@@ -1,4 +1,6 @@
 // The half-edges of a mesh by the corner that they start at, and where in that order a corner's own begin.
+#![tactic(auto)]
+
 ghost use Rattle.std.specs.Prelude.{◌≡◌, ◌++◌, ◌+◌, ◌^◌, ◌≤◌, ◌<◌, length, take, drop, replicate, get_or};
 ghost use Rattle.half_edges.specs.Round.{round_of, first_at};
 

@@ -1,5 +1,7 @@
 // hypot: the square root of x * x + y * y, correctly rounded. In whole numbers throughout: a float is m * 2 ^ e grains of
 // 2 ^ -1074, and twice the root is found digit by digit, in units of the longer side's last digit, with what is left over.
+#![tactic(auto)]
+
 ghost use Rattle.std.specs.Prelude.{◌≡◌, ◌+◌, ◌*◌, ◌/◌, ◌%◌, ◌^◌, ◌≤◌, ◌<◌};
 ghost use Rattle.std.specs.Float.Ieee.{of_bits};
 ghost use Rattle.std.specs.Float.{binary64};
@@ -11,21 +13,21 @@ use float::floor::size_down;
 use float::small::abs;
 
 // m * 2 ^ e grains.
-#[derive(Drop)]
+#[derive(Clone, Copy)]
 pub struct Part {
     pub m: u64,
     pub e: u64,
 }
 
 // hi * 2 ^ 54 + lo.
-#[derive(Drop)]
+#[derive(Clone, Copy)]
 pub struct Wide {
     pub hi: u64,
     pub lo: u64,
 }
 
 // A square root's whole part, and what is left of the number.
-#[derive(Drop)]
+#[derive(Clone, Copy)]
 pub struct Root {
     pub root: u64,
     pub rest: u64,

@@ -1,2 +1,4 @@
 // The public call.
+#![tactic(auto)]
+
 pub mod call;

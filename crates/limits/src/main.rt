@@ -1,6 +1,8 @@
 // The limits of the scope and of its changes, executed through the public call: how many buses, how wide a search, how large a number and which gaps pass.
 //
 // A line for each: what is tried, and the answer's number, 0 where it is drawn.
+#![tactic(auto)]
+
 mod call;
 
 use call::number_of;

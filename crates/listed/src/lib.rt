@@ -1,1 +1,2 @@
 // What `drawlist` writes for a text: definitions only (specs).
+#![tactic(auto)]

@@ -16,20 +16,20 @@ const BUSES: usize = 64;
 const BRANCHES: usize = 64;
 
 // How many lines of one kind there are, and the place after them.
-#[derive(Drop)]
+#[derive(Clone, Copy)]
 pub enum Block {
     Lines { count: usize, next: usize },
     Broken,
 }
 
 // How many buses and branches a text has.
-#[derive(Drop)]
+#[derive(Clone, Copy)]
 pub struct Counts {
     pub buses: usize,
     pub branches: usize,
 }
 
-#[derive(Drop)]
+#[derive(Clone, Copy)]
 pub enum Parsed {
     Network(Counts),
     Malformed,

@@ -5,7 +5,7 @@ ghost use Rattle.listing.specs.LinePlaces.{bus_of, branch_of};
 
 use fields::field::{Field, Signed, bus_number, pattern, whole};
 
-#[derive(Drop)]
+#[derive(Clone, Copy)]
 pub enum BusLine {
     Bus {
         sub: u32,
@@ -17,7 +17,7 @@ pub enum BusLine {
     Wrong,
 }
 
-#[derive(Drop)]
+#[derive(Clone, Copy)]
 pub enum BranchLine {
     Branch {
         from: i64,

@@ -1,4 +1,6 @@
 // Sizes, spacing, the unit and scales, joined.
+#![tactic(auto)]
+
 ghost use Rattle.std.specs.Prelude.{◌≡◌, ◌*◌, ◌≤◌, length};
 ghost use Rattle.network.specs.Views.{counts_in, points_in};
 ghost use Rattle.sizes.specs.Size.{sizes_for};
@@ -9,7 +11,7 @@ ghost use Rattle.sizes.specs.Stages.Views.{sizes_in, scales_in, row_counts_in};
 use options::{Gaps, Options};
 
 // What interiors are measured by: the unit, and the gaps in blocks.
-#[derive(Drop)]
+#[derive(Clone, Copy)]
 pub struct Measures {
     pub unit: f64,
     pub gaps: Gaps,

@@ -1,4 +1,6 @@
 // 01's mesh of triangles between stations, as it is lent, and the test that refusal 9 asks.
+#![tactic(auto)]
+
 ghost use Rattle.std.specs.Prelude.{◌≡◌, ◌+◌, ◌≤◌, ◌<◌, length};
 ghost use Rattle.mesh.specs.Mesh.{next, end_at, corner_ok, reversed, pairs, twin_ok, edges_ok, mesh_ok};
 

@@ -1,4 +1,6 @@
 // Neighbours: the distance to the nearest other point, and how many points are near.
+#![tactic(auto)]
+
 ghost use Rattle.std.specs.Prelude.{◌≡◌, ◌++◌, ◌+◌, ◌*◌, ◌^◌, ◌<◌, ◌≤◌, length, drop};
 ghost use Rattle.order.specs.Table.{table};
 ghost use Rattle.proximity.specs.Near.{nearest, within, neighbours};

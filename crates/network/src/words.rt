@@ -5,14 +5,14 @@ ghost use Rattle.network.specs.Words.{station_count, station_of, bus_counts, kno
 ghost use Rattle.network.specs.Views.{counts_in};
 
 // A bus number below 0 or at or past the bus count is unknown.
-#[derive(Drop)]
+#[derive(Clone, Copy)]
 pub enum Known {
     Bus(usize),
     Unknown,
 }
 
 // What a branch is, with its two buses. One with an unknown end, or from a bus to itself, is not drawn.
-#[derive(Drop)]
+#[derive(Clone, Copy)]
 pub enum Kind {
     Undrawn,
     Open(usize, usize),

@@ -1,4 +1,6 @@
 // The text of the offsets of a search: a header line, then one pair a line.
+#![tactic(auto)]
+
 ghost use Rattle.std.specs.Prelude.{◌≡◌, ◌+◌, ◌*◌, ◌≤◌, length};
 ghost use Rattle.order.specs.Over.{over};
 ghost use Rattle.offsets.specs.Offset.{offsets};

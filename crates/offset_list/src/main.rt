@@ -1,4 +1,6 @@
 // Prints the table of offsets for search 20: the line `a b`, then one pair a line (02, change 3).
+#![tactic(auto)]
+
 mod table;
 
 ghost use Rattle.std.specs.Prelude.{◌≤◌, length};

@@ -1,4 +1,6 @@
 // The table of offsets for search 20, in 01's order: the pairs (a, b), both from −20 to 20, by a² + b², a, b.
+#![tactic(auto)]
+
 ghost use Rattle.std.specs.Prelude.{◌≡◌, pos, nat_abs, get_or};
 ghost use Rattle.offset_rule.specs.Table.{inside, pair_at, table_pair};
 

@@ -9,7 +9,7 @@ ghost use Rattle.offsets.specs.Stages.OffsetList.{offset_at, offsets_in};
 use order::{at, key_at, number, sort_part};
 
 // An offset, in steps from the seed.
-#[derive(Drop)]
+#[derive(Clone, Copy)]
 pub struct Offset {
     pub a: i32,
     pub b: i32,

@@ -1,9 +1,11 @@
 // The options of a drawing.
+#![tactic(auto)]
+
 ghost use Rattle.std.specs.Prelude.{◌≡◌};
 ghost use Rattle.options.specs.Options.{defaults, between, search_fits, gap_fits, gaps_fit, in_range, search_of};
 
 // The interior grid, in blocks, and what is kept free around each box.
-#[derive(Drop)]
+#[derive(Clone, Copy)]
 pub struct Gaps {
     // From one bar to the next.
     pub bar_gap: f64,
@@ -16,7 +18,7 @@ pub struct Gaps {
 }
 
 // Options of `TxLayoutOptions`, for given points.
-#[derive(Drop)]
+#[derive(Clone, Copy)]
 pub struct Options {
     // Typical box size as a fraction of the median distance between neighbouring stations.
     pub fill: f64,

@@ -1,4 +1,6 @@
 // Overlaps of an audit: pairs of occupied stations' boxes, that of the higher number shrunk, found along the order of left sides.
+#![tactic(auto)]
+
 ghost use Rattle.std.specs.Prelude.{◌≡◌, ◌++◌, ◌+◌, ◌*◌, ◌^◌, ◌≤◌, ◌<◌, length, get_or, take, drop};
 ghost use Rattle.float.specs.Ops.{order_key};
 ghost use Rattle.order.specs.Order.{count};

@@ -1,4 +1,6 @@
 // Pieces of one run: counted, and written where they are to be written.
+#![tactic(auto)]
+
 ghost use Rattle.std.specs.Prelude.{◌≡◌, [], ◌∷◌, ◌+◌, ◌*◌, ◌<◌, ◌≤◌, ◌^◌, length};
 ghost use Rattle.network.specs.Views.{points_in};
 ghost use Rattle.runs.specs.Run.{apart, pieces};

@@ -1,4 +1,6 @@
 // The stages of a drawing, joined: interiors, then places.
+#![tactic(auto)]
+
 ghost use Rattle.std.specs.Prelude.{◌≡◌, ◌+◌, ◌*◌, ◌≤◌, length};
 ghost use Rattle.network.specs.Words.{station_count, bus_counts};
 ghost use Rattle.network.specs.Views.{counts_in, points_in};

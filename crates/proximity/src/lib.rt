@@ -1,4 +1,6 @@
 // Whether boxes overlap and points are near: the tests that scans over points and boxes make.
+#![tactic(auto)]
+
 ghost use Rattle.std.specs.Prelude.{◌≡◌};
 ghost use Rattle.std.specs.Float.Ieee.{le};
 ghost use Rattle.float.specs.Hypot.{hypot_of};

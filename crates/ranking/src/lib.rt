@@ -1,4 +1,6 @@
 // The place of each number in its station by a key, in one sort for all stations: of buses for columns, of branch ends for rows.
+#![tactic(auto)]
+
 ghost use Rattle.std.specs.Prelude.{◌≡◌, ℕ, ◌+◌, ◌*◌, ◌^◌, ◌≤◌, ◌<◌, eqb, length, take, get_or};
 ghost use Rattle.order.specs.Order.{key_at, sort_by, up_from, count};
 ghost use Rattle.order.specs.Table.{table, strided};

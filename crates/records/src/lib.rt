@@ -1,2 +1,4 @@
 // Answers as plain records, for C and Rust.
+#![tactic(auto)]
+
 pub mod plain;

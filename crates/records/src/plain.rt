@@ -8,7 +8,7 @@ use options::{Gaps, Options};
 
 // The options of a drawing (crate `network`).
 #[repr(C)]
-#[derive(Drop)]
+#[derive(Clone, Copy)]
 pub struct Settings {
     pub fill: f64,
     pub tier_radius: f64,
@@ -26,7 +26,7 @@ pub struct Settings {
 
 // Number 0 with the unit, the bounds and the count of pieces, or a refusal's number and zeros.
 #[repr(C)]
-#[derive(Drop)]
+#[derive(Clone, Copy)]
 pub struct Plotted {
     pub number: u32,
     pub pieces: usize,
@@ -39,7 +39,7 @@ pub struct Plotted {
 
 // Number 0 with the audit's four counts, or a refusal's number and zeros.
 #[repr(C)]
-#[derive(Drop)]
+#[derive(Clone, Copy)]
 pub struct Audited {
     pub number: u32,
     pub stations: usize,

@@ -1,4 +1,6 @@
 // The refusals that the input alone decides: 1 to 4, 15 and 6, and whether numbers are finite.
+#![tactic(auto)]
+
 ghost use Rattle.std.specs.Prelude.{◌≡◌, ◌+◌, ◌<◌};
 ghost use Rattle.refusals.specs.Refusal.{is_voltage, stray_voltage, shape_refusal, above, far_out, too_far};
 

@@ -3,6 +3,8 @@
 // Standard input has a call and the original's answer on each line: L or A, then words in hexadecimal digits, each after a
 // space (src/layouts.rt, src/audits.rt; made by reference/make_replay). At the first that differs its line number is
 // printed, and nothing further is run.
+#![tactic(auto)]
+
 mod audits;
 mod layouts;
 mod lists;

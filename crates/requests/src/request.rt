@@ -10,7 +10,7 @@ use order::at;
 use runs::run::{first_exit, second_exit, slot_of};
 
 // What a line asks for: its branch, its two stations, and its slot and exit at each end. The two stations are one where the branch is no line.
-#[derive(Drop)]
+#[derive(Clone, Copy)]
 pub struct LineRequest {
     pub e: usize,
     pub sa: usize,

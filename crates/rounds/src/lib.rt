@@ -1,4 +1,6 @@
 // The rounds of spacing: crossings move along their channels towards their wishes.
+#![tactic(auto)]
+
 pub mod space;
 
 ghost use Rattle.std.specs.Prelude.{◌≡◌, ◌+◌, ◌*◌, ◌^◌, ◌≤◌, ◌<◌, length};

@@ -1,4 +1,6 @@
 // Lines routed through the mesh: refusals 9 and 10, crossings, rounds, waypoints.
+#![tactic(auto)]
+
 ghost use Rattle.std.specs.Prelude.{◌≡◌, ℕ, ◌+◌, ◌*◌, ◌≤◌, ◌<◌, min, length};
 ghost use Rattle.mesh.specs.Mesh.{mesh_ok};
 ghost use Rattle.network.specs.Views.{order_in};

@@ -1,3 +1,5 @@
 // Lines through the mesh: all branches traced, their crossings and paths.
+#![tactic(auto)]
+
 pub mod lines;
 pub mod routes;

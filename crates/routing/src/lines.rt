@@ -11,7 +11,7 @@ use order::at;
 use walk::trace::trace;
 
 // How many crossings and how many channels there are.
-#[derive(Drop)]
+#[derive(Clone, Copy)]
 pub struct Counts {
     pub crossings: usize,
     pub channels: usize,

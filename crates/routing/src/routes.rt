@@ -12,7 +12,7 @@ use crossings::ways::write_ways;
 use half_edges::go_round;
 
 // The crossings of all lines, whether they outnumber the room for them, and, where not, the channels.
-#[derive(Drop)]
+#[derive(Clone, Copy)]
 pub struct Routed {
     pub crossings: usize,
     pub channels: usize,

@@ -1,5 +1,7 @@
 // 3. Rows: live branches inside the station first, by branch number. Then live line ends, by the other station's seed y, then branch number.
 // The ends are entries: 2 e is branch e's from end, 2 e + 1 its to end.
+#![tactic(auto)]
+
 ghost use Rattle.std.specs.Prelude.{◌≡◌, suc, ◌+◌, ◌*◌, ◌/◌, ◌-◌, ◌^◌, ◌≤◌, ◌<◌, length, take, get_or};
 ghost use Rattle.std.specs.Float.{nan};
 ghost use Rattle.float.specs.Ops.{order_key};

@@ -1,2 +1,4 @@
 // Runs of points and their pieces.
+#![tactic(auto)]
+
 pub mod run;

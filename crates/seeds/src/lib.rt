@@ -1,4 +1,6 @@
 // 1. Seeds: the mean of a station's bus points.
+#![tactic(auto)]
+
 ghost use Rattle.std.specs.Prelude.{◌≡◌, ◌+◌, ◌*◌, ◌≤◌, ◌<◌, length, get_or, set};
 ghost use Rattle.order.specs.Table.{table};
 ghost use Rattle.geometry.specs.Plane.{origin, point_at};

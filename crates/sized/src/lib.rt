@@ -1,4 +1,6 @@
 // Refusal 8: whether the occupied stations' boxes are all of size 0, or one lies too far out for its size.
+#![tactic(auto)]
+
 ghost use Rattle.std.specs.Prelude.{◌≡◌, ◌+◌, ◌*◌, ◌≤◌, ◌<◌, ltb, length};
 ghost use Rattle.float.specs.Ops.{f0};
 ghost use Rattle.network.specs.Words.{occupied};

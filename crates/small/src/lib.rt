@@ -1,2 +1,4 @@
 // Drawings of small networks.
+#![tactic(auto)]
+
 pub mod draw;

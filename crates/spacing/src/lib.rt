@@ -1,4 +1,6 @@
 // Crossings of one channel, placed nearest their wishes, in their order, a gap apart.
+#![tactic(auto)]
+
 ghost use Rattle.std.specs.Prelude.{◌≡◌, ◌++◌, map, ◌+◌, ◌-◌, ◌^◌, ◌≤◌, length, drop, take, replicate};
 ghost use Rattle.order.specs.Order.{up_from};
 ghost use Rattle.spacing.specs.Space.{wish_key, wish_of, read_back, wish_order, in_order, even_at, crowded, forward_all, backward, spaced};

@@ -1,4 +1,6 @@
 // The first and the last row of each bus, by one pass over the branches.
+#![tactic(auto)]
+
 ghost use Rattle.std.specs.Prelude.{◌≡◌, ◌≢◌, ℕ, ◌+◌, ◌*◌, ◌-◌, ◌^◌, ◌≤◌, ◌<◌, max, length, get_or, set};
 ghost use Rattle.order.specs.Table.{table};
 ghost use Rattle.network.specs.Words.{kind_of, kinds};

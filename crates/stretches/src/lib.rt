@@ -1,2 +1,4 @@
 // The audit's relative lengths.
+#![tactic(auto)]
+
 pub mod relative;

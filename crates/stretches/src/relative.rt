@@ -9,7 +9,7 @@ use fit::fit::{branch_of, is_line};
 use geometry::Point;
 
 // An unbroken stretch of pieces of one branch: where it starts, where it ends so far, and its length so far.
-#[derive(Drop)]
+#[derive(Clone, Copy)]
 pub struct Stretch {
     pub branch: usize,
     pub start: Point,

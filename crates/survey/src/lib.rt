@@ -1,4 +1,6 @@
 // The pieces of all runs: counted, then written.
+#![tactic(auto)]
+
 pub mod lines;
 
 ghost use Rattle.std.specs.Prelude.{◌≡◌, map, ◌<◌, ◌≤◌, ◌^◌, length};

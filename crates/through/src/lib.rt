@@ -1,2 +1,4 @@
 // The audit's lines through boxes.
+#![tactic(auto)]
+
 pub mod through;

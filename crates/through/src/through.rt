@@ -35,7 +35,7 @@ fn is_hit(x: FirstHit) -> bool
 }
 
 // The piece of a line that is looked at next: its number, how many before it hit a box, its ends, its line's two stations, and whether there is such a piece.
-#[derive(Drop)]
+#[derive(Clone, Copy)]
 pub struct LinePiece {
     pub j: usize,
     pub count: usize,

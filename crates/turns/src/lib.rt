@@ -1,2 +1,4 @@
 // The order in which stations are placed.
+#![tactic(auto)]
+
 pub mod turns;

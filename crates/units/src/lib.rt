@@ -1,4 +1,6 @@
 // Spacing, the typical side and the unit.
+#![tactic(auto)]
+
 ghost use Rattle.std.specs.Prelude.{◌≡◌, ◌*◌, ◌≤◌, ◌^◌, length, take};
 ghost use Rattle.float.specs.Ops.{f1};
 ghost use Rattle.order.specs.Median.{median_of, or_else};

@@ -12,7 +12,7 @@ use mesh::{end_at, next};
 use order::at;
 
 // A walk's crossings: how many, and whether the path keeps them.
-#[derive(Drop)]
+#[derive(Clone, Copy)]
 pub struct Trail {
     pub count: usize,
     pub kept: bool,

@@ -3,7 +3,7 @@ use drawing::answer::Plot;
 use findings::answer::Figures;
 
 // Layout refused, with 01's number; drawn, but the audit refused, with 01's number; or drawn and audited.
-#[derive(Drop)]
+#[derive(Clone, Copy)]
 pub enum Checked {
     LayoutRefused(u32),
     AuditRefused(Plot, u32),

@@ -1,3 +1,5 @@
 // A drawing and the audit of it.
+#![tactic(auto)]
+
 pub mod answer;
 pub mod check;

@@ -1,4 +1,6 @@
 // The window of a part of a piece: a box that every box reaches which the piece enters there.
+#![tactic(auto)]
+
 ghost use Rattle.std.specs.Prelude.{◌≡◌};
 ghost use Rattle.windows.specs.Stages.Window.{range_holds, window_holds, is_apart};
 

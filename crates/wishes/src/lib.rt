@@ -1,2 +1,4 @@
 // The places that crossings wish for, between the points before and behind them.
+#![tactic(auto)]
+
 pub mod wish;
