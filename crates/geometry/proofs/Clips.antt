@@ -68,7 +68,7 @@ clip_straight p q (Part t0 t1) h = go (eq p f0) (lt q f0) (lt p f0)
 
 pub clipped_straight : (p q : Point) (b : Box) → Straight (clipped p q b)
 unfolding clipped Straight lt of_bits
-clipped_straight p q b = clip_straight _ _ (top_test p q b) (clip_straight _ _ (right_test p q b) (clip_straight _ _ (left_test p q b) (clip_straight (neg (q.x ⊖ p.x)) (p.x ⊖ b.left) (Part f0 f1) start)))
+clipped_straight p q b = clip_straight (q.y ⊖ p.y) (b.bottom ⊖ p.y) (top_test p q b) (clip_straight (neg (q.y ⊖ p.y)) (p.y ⊖ b.top) (right_test p q b) (clip_straight (q.x ⊖ p.x) (b.right ⊖ p.x) (left_test p q b) (clip_straight (neg (q.x ⊖ p.x)) (p.x ⊖ b.left) (Part f0 f1) start)))
   where
     start : Straight (Part f0 f1)
     start = refl

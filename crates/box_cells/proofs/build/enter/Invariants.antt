@@ -1,0 +1,14 @@
+-- What the loops of `box_cells::build::enter` keep.
+use mathlib.Core.Path.{◌≡◌}
+use Prim.Native.Nat.{◌≤◌, ◌-◌}
+use lib.ListN.{length}
+use Rattle.network.specs.Views.{boxes_in}
+use Rattle.box_cells.specs.Stages.Enter.{SameGrid}
+use Rattle.box_cells.proofs.Chaining.{Put}
+use Rattle.box_cells.proofs.build.enter.Given as goal
+
+abbrev pub invariant-loop-s : goal.invariant-loop-s
+invariant-loop-s l = (l.s ≤ l.k) × (length l.index ≡ length l.initial.index) × Put l.g (boxes_in l.k l.frames) l.k l.stations l.s l.index × SameGrid l.initial.index l.index
+
+abbrev pub decreases-loop-s : goal.decreases-loop-s
+decreases-loop-s l = l.k - l.s

@@ -1,0 +1,15 @@
+-- What the loops of `box_cells::finite::all_finite` keep.
+use mathlib.Core.Path.{◌≡◌}
+use mathlib.Core.Bool.{true}
+use Prim.Native.Nat.{◌≤◌, ◌-◌}
+use Rattle.network.specs.Views.{boxes_in}
+use Rattle.geometry.specs.Plane.{box_in}
+use Rattle.windows.specs.Stages.Window.{finite_box}
+use Rattle.box_cells.proofs.Occupied.{Left}
+use Rattle.box_cells.proofs.finite.all_finite.Given as goal
+
+abbrev pub invariant-loop-s : goal.invariant-loop-s
+invariant-loop-s l = (l.s ≤ l.k) × Left l.k l.stations (λ s. finite_box (box_in (boxes_in l.k l.frames) s) ≡ true) l.s
+
+abbrev pub decreases-loop-s : goal.decreases-loop-s
+decreases-loop-s l = l.k - l.s

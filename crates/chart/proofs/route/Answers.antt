@@ -1,0 +1,47 @@
+-- Answers for `chart::route`.
+use native.Mathlib.Omega.{arith}
+use Rattle.chart.proofs.Laying.{below_of}
+use Rattle.chart.proofs.Charts.{charted, charted_ill}
+use Rattle.chart.proofs.route.Goals as goal
+
+pub returns-then-ill : goal.returns-then-ill
+returns-then-ill c = charted_ill _ _ _ _ _ _ _ _ _ _ (below_of _ _ c.requires.k_value.0) c.requires.room_in_bounds.1.1.1 _ _ _ _ c.requires.room_in_bounds.1.1.0 c.if-ill.true
+
+pub route_lines-late-requires-clause-from_len_bound : goal.route_lines-late-requires-clause-from_len_bound
+route_lines-late-requires-clause-from_len_bound c = (c.requires.k_value.1, c.requires.k_value.2, c.requires.k_value.3, c.requires.k_value.4, c.requires.k_value.5, omega (arith, c.requires.room_in_bounds.1.0.4), c.requires.k_value.7, c.requires.room_in_bounds.1.1.1.exits)
+
+pub route_lines-late-requires-clause-room_in_bounds : goal.route_lines-late-requires-clause-room_in_bounds
+route_lines-late-requires-clause-room_in_bounds c = c.requires.room_in_bounds.0
+
+pub route_lines-late-requires-clause-corners_in_bounds : goal.route_lines-late-requires-clause-corners_in_bounds
+route_lines-late-requires-clause-corners_in_bounds c = (c.requires.room_in_bounds.1.0.0, c.requires.room_in_bounds.1.0.1, c.requires.room_in_bounds.1.0.2, c.requires.room_in_bounds.1.0.3)
+
+pub shape_of-stations : goal.shape_of-stations
+shape_of-stations c = c.route_lines-late.auto.stations
+
+pub shape_of-ends : goal.shape_of-ends
+shape_of-ends c = c.route_lines-late.auto.ends
+
+pub shape_of-sorted : goal.shape_of-sorted
+shape_of-sorted c = c.route_lines-late.auto.sorted
+
+pub shape_of-spare : goal.shape_of-spare
+shape_of-spare c = c.route_lines-late.auto.spare
+
+pub shape_of-keys : goal.shape_of-keys
+shape_of-keys c = c.route_lines-late.auto.keys
+
+pub shape_of-path : goal.shape_of-path
+shape_of-path c = c.route_lines-late.auto.path
+
+pub shape_of-numbers : goal.shape_of-numbers
+shape_of-numbers c = c.route_lines-late.auto.numbers
+
+pub shape_of-along : goal.shape_of-along
+shape_of-along c = c.route_lines-late.auto.along
+
+pub shape_of-ways : goal.shape_of-ways
+shape_of-ways c = c.route_lines-late.auto.ways
+
+pub returns : goal.returns
+returns c = charted _ _ _ _ _ _ _ _ _ _ (below_of _ _ c.requires.k_value.0) c.requires.room_in_bounds.1.1.1 _ _ _ _ _ _ c.route_lines-late.ensures _ c.requires.room_in_bounds.1.1.0 c.if-ill.false (omega (arith, c.requires.room_in_bounds.1.0.4, c.route_lines-late.auto.path))

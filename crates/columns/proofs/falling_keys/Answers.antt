@@ -1,0 +1,22 @@
+-- Answers for `columns::falling_keys`.
+use Prim.Native.Nat.{ℕ}
+use mathlib.Core.Path.{◌≡◌, refl, ap, subst}
+use native.Mathlib.Omega.{arith}
+use lib.ListN.{length, take, length-set}
+use Rattle.order.specs.Table.{table}
+use Rattle.columns.specs.Column.{voltage, falling}
+use Rattle.ranking.proofs.Fronts.{front_zero, front_next}
+use Rattle.columns.proofs.falling_keys.Goals as goal
+
+pub loop-i-init : goal.loop-i-init
+loop-i-init c = (omega arith, refl, front_zero _)
+
+pub loop-i-preserved : goal.loop-i-preserved
+unfolding falling
+loop-i-preserved c =
+        (omega arith, simp length-set c.loop-i.invariant.1, front_next _ _ _ _ (omega arith) (ap falling c.key_of_bits.ensures) c.loop-i.invariant.2)
+
+pub returns : goal.returns
+returns c =
+        let e : c.loop-i.i ≡ length c.args.kv.now = omega arith in
+    subst (λ (j : ℕ). take j c.loop-i.keys ≡ table (λ i. falling (voltage c.args.kv.now i)) j) e c.loop-i.invariant.2

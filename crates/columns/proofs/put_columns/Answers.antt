@@ -1,0 +1,22 @@
+-- Answers for `columns::put_columns`.
+use Prim.Native.Nat.{ℕ}
+use mathlib.Core.Path.{◌≡◌, refl, sym, subst, ◌∙◌}
+use native.Mathlib.Omega.{arith}
+use lib.ListN.{length-set}
+use Rattle.order.specs.Order.{key_at}
+use Rattle.order.specs.Table.{table, strided}
+use Rattle.ranking.proofs.Fronts.{side_zero, side_next, front_table}
+use Rattle.columns.proofs.put_columns.Goals as goal
+
+pub loop-i-init : goal.loop-i-init
+loop-i-init c = (omega arith, refl, side_zero _ _ _ _)
+
+pub loop-i-preserved : goal.loop-i-preserved
+loop-i-preserved c =
+        (omega arith, simp length-set c.loop-i.invariant.1, side_next _ _ _ _ _ _ _ (omega arith) (omega arith) (omega arith) refl c.loop-i.invariant.2)
+
+pub returns : goal.returns
+returns c =
+        let e : c.loop-i.i ≡ c.args.n = omega arith in
+    subst (λ (j : ℕ). strided 3 0 0 j c.loop-i.buses ≡ table (key_at c.args.places.now) j) e c.loop-i.invariant.2
+    ∙ sym (front_table c.args.n c.args.places.now (omega (arith, c.requires)))

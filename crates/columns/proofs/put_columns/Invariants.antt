@@ -1,0 +1,13 @@
+-- What the loops of `columns::put_columns` keep.
+use Prim.Native.Nat.{◌-◌, ◌≤◌}
+use mathlib.Core.Path.{◌≡◌}
+use lib.ListN.{length}
+use Rattle.order.specs.Order.{key_at}
+use Rattle.order.specs.Table.{table, strided}
+use Rattle.columns.proofs.put_columns.Given as goal
+
+abbrev pub invariant-loop-i : goal.invariant-loop-i
+invariant-loop-i l = (l.i ≤ l.n) × (length l.buses ≡ length l.initial.buses) × (strided 3 0 0 l.i l.buses ≡ table (key_at l.places) l.i)
+
+abbrev pub decreases-loop-i : goal.decreases-loop-i
+decreases-loop-i l = l.n - l.i

@@ -1,0 +1,6 @@
+-- Answers for `drawlist::plot::plot`.
+use Rattle.drawlist.proofs.Listed.{shown_by}
+use Rattle.drawlist.proofs.plot.plot.Goals as goal
+
+pub returns : goal.returns
+returns c = shown_by _ _ _ _ _ c.options.ensures c.draw_small.ensures

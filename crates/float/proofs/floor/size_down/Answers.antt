@@ -1,0 +1,10 @@
+-- Answers for `float::floor::size_down`.
+use Rattle.float.proofs.Floors.{trunc_low, size_down_is}
+use Rattle.float.proofs.floor.size_down.Goals as goal
+
+pub truncating_f64_to_u64-requires : goal.truncating_f64_to_u64-requires
+truncating_f64_to_u64-requires c =
+    let both = trunc_low c.args.x c.requires.fact_1 c.requires.fact_2 in record { lower_bound = both.0; upper_bound = both.1 }
+
+pub returns : goal.returns
+returns c = size_down_is c.args.x c.truncating_f64_to_u64.result c.requires.fact_1 c.requires.fact_2 c.truncating_f64_to_u64.ensures

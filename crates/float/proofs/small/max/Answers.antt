@@ -1,0 +1,11 @@
+-- Answers for `float::small::max`.
+use Rattle.float.specs.Small.{max_of}
+use Rattle.float.proofs.small.max.Goals as goal
+
+pub returns-then-a-b : goal.returns-then-a-b
+unfolding max_of
+returns-then-a-b c = simp c.if-a-b.true
+
+pub returns-else-a-b : goal.returns-else-a-b
+unfolding max_of
+returns-else-a-b c = simp c.if-a-b.false
