@@ -58,6 +58,15 @@ def own_ensures(repo,crate,path):
             return re.findall(r'(?m)^\s*ensures\*? ?(\w*) ?\{',m[0])
     return None
 
+def nested(segs,n):
+    """k-th of n right-nested pairs: its index and what is left, or None"""
+    k=0; r=list(segs)
+    while k<n-1 and r and r[0]=='1': k+=1; r=r[1:]
+    if k<n-1:
+        if not r or r[0]!='0': return None
+        r=r[1:]
+    return k,r
+
 class Fn:
     def __init__(self,crate,path,v):
         self.crate,self.path,self.v=crate,path,v
@@ -85,8 +94,8 @@ class Fn:
             segs=['requires']+segs[1:]
             pre=self.v['pre']
             if pre and len(segs)>1 and segs[1].isdigit():
-                k=int(segs[1])-pre.get('before',0)
-                if 0<=k<len(pre['fields']): return ['requires',pre['fields'][k]]+segs[2:]
+                nr=nested(segs[1:],len(pre['fields']))
+                if nr: return ['requires',pre['fields'][nr[0]]]+nr[1]
             return segs
         if nf in ('well_formed','ranges','type_inv','utf8'): return [nf]+segs[1:]
         for i,p in self.chain(place):
@@ -114,8 +123,8 @@ class Fn:
                     if k<len(ps): rest=[rest[0],ps[k]]+r
                 cl=self.v['clauses'][i]
                 if cl and rest and rest[0]=='ensures' and len(rest)>1 and rest[1].isdigit():
-                    k=int(rest[1])
-                    if k<len(cl['fields']): rest=['ensures',cl['fields'][k]]+rest[2:]
+                    nr=nested(rest[1:],len(cl['fields']))
+                    if nr: rest=['ensures',cl['fields'][nr[0]]]+nr[1]
                 return [new]+rest
             if of and p[4]:
                 pass
@@ -210,6 +219,15 @@ def convert(crate,path,file,v,repo):
             m=re.search(r'let (\S+) = ('+'|'.join(map(re.escape,alias))+r')((?:\.before)*) in\s',body)
             if not m: break
             alias=alias|{m[1]}; body=body[:m.start()]+body[m.end():]
+        start=0
+        while True:
+            m=re.compile(r'let (\S+) = ('+'|'.join(map(re.escape,alias))+r')((?:\.[^\s(){};,]+)*?\.(?:requires|pre|ensures)) in\s').search(body,start)
+            if not m: break
+            rest=body[m.end():]
+            full=m[2]+m[3]
+            rest2=re.sub(r'(?<![^\s(){};,])'+re.escape(m[1])+r'(?=\.)',lambda _:full,rest)
+            if re.search(r'(?<![^\s(){};,])'+re.escape(m[1])+r'(?![^\s(){};,])',rest2): body=body[:m.end()]+rest2; start=m.end()
+            else: body=body[:m.start()]+rest2
         ts=toks(body); out=[];k=0
         while k<len(ts):
             t=ts[k]

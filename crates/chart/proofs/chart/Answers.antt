@@ -7,22 +7,22 @@ pub lay-unit-requires-clause-k_value : goal.lay-unit-requires-clause-k_value
 lay-unit-requires-clause-k_value c = c.requires.k_value
 
 pub lay-unit-requires-clause-sub_in_bounds : goal.lay-unit-requires-clause-sub_in_bounds
-lay-unit-requires-clause-sub_in_bounds c = c.requires.sub_in_bounds.0
+lay-unit-requires-clause-sub_in_bounds c = c.requires.sub_in_bounds
 
 pub lay-unit-requires-clause-from_in_bounds : goal.lay-unit-requires-clause-from_in_bounds
-lay-unit-requires-clause-from_in_bounds c = c.requires.sub_in_bounds.1.0
+lay-unit-requires-clause-from_in_bounds c = c.requires.from_in_bounds
 
 pub ill_sized-ill-requires : goal.ill_sized-ill-requires
-ill_sized-ill-requires c = (omega (arith, c.lay-unit.auto.stations, c.requires.k_value.2, c.requires.sub_in_bounds.0.0), omega (arith, c.lay-unit.auto.frames, c.requires.k_value.2, c.requires.sub_in_bounds.0.5))
+ill_sized-ill-requires c = (omega (arith, c.lay-unit.auto.stations, c.requires.k_value.2, c.requires.sub_in_bounds.0), omega (arith, c.lay-unit.auto.frames, c.requires.k_value.2, c.requires.sub_in_bounds.5))
 
 pub route-course-requires-clause-k_value : goal.route-course-requires-clause-k_value
-route-course-requires-clause-k_value c = (c.requires.k_value.0, c.requires.k_value.3, omega (arith, c.requires.k_value.1, c.requires.k_value.2), omega (arith, c.lay-unit.auto.stations, c.requires.k_value.2, c.requires.sub_in_bounds.0.0), omega (arith, c.lay-unit.auto.places, c.requires.k_value.2, c.requires.sub_in_bounds.0.3), omega (arith, c.lay-unit.auto.frames, c.requires.k_value.2, c.requires.sub_in_bounds.0.5), omega (arith, c.lay-unit.auto.path, c.requires.k_value.2, c.requires.sub_in_bounds.0.6), c.requires.k_value.1)
+route-course-requires-clause-k_value c = (c.requires.k_value.0, c.requires.k_value.3, omega (arith, c.requires.k_value.1, c.requires.k_value.2), omega (arith, c.lay-unit.auto.stations, c.requires.k_value.2, c.requires.sub_in_bounds.0), omega (arith, c.lay-unit.auto.places, c.requires.k_value.2, c.requires.sub_in_bounds.3), omega (arith, c.lay-unit.auto.frames, c.requires.k_value.2, c.requires.sub_in_bounds.5), omega (arith, c.lay-unit.auto.path, c.requires.k_value.2, c.requires.sub_in_bounds.6), c.requires.k_value.1)
 
 pub route-course-requires-clause-room_in_bounds : goal.route-course-requires-clause-room_in_bounds
-route-course-requires-clause-room_in_bounds c = (c.requires.sub_in_bounds.1.1.0.0, c.requires.sub_in_bounds.1.1.0.1, c.requires.sub_in_bounds.1.1.0.2, omega (arith, c.requires.sub_in_bounds.1.1.0.3, c.lay-unit.auto.sorted), omega (arith, c.requires.sub_in_bounds.1.1.0.4, c.lay-unit.auto.spare), omega (arith, c.requires.sub_in_bounds.1.1.0.5, c.lay-unit.auto.keys))
+route-course-requires-clause-room_in_bounds c = (c.requires.room_in_bounds.0, c.requires.room_in_bounds.1, c.requires.room_in_bounds.2, omega (arith, c.requires.room_in_bounds.3, c.lay-unit.auto.sorted), omega (arith, c.requires.room_in_bounds.4, c.lay-unit.auto.spare), omega (arith, c.requires.room_in_bounds.5, c.lay-unit.auto.keys))
 
 pub route-course-requires-clause-corners_in_bounds : goal.route-course-requires-clause-corners_in_bounds
-route-course-requires-clause-corners_in_bounds c = (omega (arith, c.requires.sub_in_bounds.1.1.1.0, c.lay-unit.auto.ends), omega (arith, c.requires.sub_in_bounds.1.1.1.1, c.lay-unit.auto.sorted), omega (arith, c.requires.sub_in_bounds.1.1.1.2, c.lay-unit.auto.spare), omega (arith, c.requires.sub_in_bounds.1.1.1.3, c.lay-unit.auto.keys), omega (arith, c.requires.sub_in_bounds.1.1.1.4, c.requires.k_value.2, c.lay-unit.auto.path))
+route-course-requires-clause-corners_in_bounds c = (omega (arith, c.requires.corners_in_bounds.0, c.lay-unit.auto.ends), omega (arith, c.requires.corners_in_bounds.1, c.lay-unit.auto.sorted), omega (arith, c.requires.corners_in_bounds.2, c.lay-unit.auto.spare), omega (arith, c.requires.corners_in_bounds.3, c.lay-unit.auto.keys), omega (arith, c.requires.corners_in_bounds.4, c.requires.k_value.2, c.lay-unit.auto.path))
 
 pub route-course-requires-clause-ill_value : goal.route-course-requires-clause-ill_value
 route-course-requires-clause-ill_value c = c.ill_sized-ill.ensures
@@ -31,7 +31,7 @@ pub route-course-requires-clause-laid : goal.route-course-requires-clause-laid
 route-course-requires-clause-laid c = c.lay-unit.ensures
 
 pub index_boxes-requires : goal.index_boxes-requires
-index_boxes-requires c = (omega (arith, c.route-course.auto.stations, c.lay-unit.auto.stations, c.requires.k_value.2, c.requires.sub_in_bounds.0.0), omega (arith, c.lay-unit.auto.frames, c.requires.k_value.2, c.requires.sub_in_bounds.0.5), omega (arith, c.requires.k_value.1, c.requires.k_value.2))
+index_boxes-requires c = (omega (arith, c.route-course.auto.stations, c.lay-unit.auto.stations, c.requires.k_value.2, c.requires.sub_in_bounds.0), omega (arith, c.lay-unit.auto.frames, c.requires.k_value.2, c.requires.sub_in_bounds.5), omega (arith, c.requires.k_value.1, c.requires.k_value.2))
 
 pub shape_of-stations : goal.shape_of-stations
 shape_of-stations c = c.route-course.auto.stations ∙ c.lay-unit.auto.stations

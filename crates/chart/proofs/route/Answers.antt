@@ -5,16 +5,16 @@ use Rattle.chart.proofs.Charts.{charted, charted_ill}
 use Rattle.chart.proofs.route.Goals as goal
 
 pub returns-then-ill : goal.returns-then-ill
-returns-then-ill c = charted_ill _ _ _ _ _ _ _ _ _ _ (below_of _ _ c.requires.k_value.0) c.requires.room_in_bounds.1.1.1 _ _ _ _ c.requires.room_in_bounds.1.1.0 c.if-ill.true
+returns-then-ill c = charted_ill _ _ _ _ _ _ _ _ _ _ (below_of _ _ c.requires.k_value.0) c.requires.laid _ _ _ _ c.requires.ill_value c.if-ill.true
 
 pub route_lines-late-requires-clause-from_len_bound : goal.route_lines-late-requires-clause-from_len_bound
-route_lines-late-requires-clause-from_len_bound c = (c.requires.k_value.1, c.requires.k_value.2, c.requires.k_value.3, c.requires.k_value.4, c.requires.k_value.5, omega (arith, c.requires.room_in_bounds.1.0.4), c.requires.k_value.7, c.requires.room_in_bounds.1.1.1.exits)
+route_lines-late-requires-clause-from_len_bound c = (c.requires.k_value.1, c.requires.k_value.2, c.requires.k_value.3, c.requires.k_value.4, c.requires.k_value.5, omega (arith, c.requires.corners_in_bounds.4), c.requires.k_value.7, c.requires.laid.exits)
 
 pub route_lines-late-requires-clause-room_in_bounds : goal.route_lines-late-requires-clause-room_in_bounds
-route_lines-late-requires-clause-room_in_bounds c = c.requires.room_in_bounds.0
+route_lines-late-requires-clause-room_in_bounds c = c.requires.room_in_bounds
 
 pub route_lines-late-requires-clause-corners_in_bounds : goal.route_lines-late-requires-clause-corners_in_bounds
-route_lines-late-requires-clause-corners_in_bounds c = (c.requires.room_in_bounds.1.0.0, c.requires.room_in_bounds.1.0.1, c.requires.room_in_bounds.1.0.2, c.requires.room_in_bounds.1.0.3)
+route_lines-late-requires-clause-corners_in_bounds c = (c.requires.corners_in_bounds.0, c.requires.corners_in_bounds.1, c.requires.corners_in_bounds.2, c.requires.corners_in_bounds.3)
 
 pub shape_of-stations : goal.shape_of-stations
 shape_of-stations c = c.route_lines-late.auto.stations
@@ -44,4 +44,4 @@ pub shape_of-ways : goal.shape_of-ways
 shape_of-ways c = c.route_lines-late.auto.ways
 
 pub returns : goal.returns
-returns c = charted _ _ _ _ _ _ _ _ _ _ (below_of _ _ c.requires.k_value.0) c.requires.room_in_bounds.1.1.1 _ _ _ _ _ _ c.route_lines-late.ensures _ c.requires.room_in_bounds.1.1.0 c.if-ill.false (omega (arith, c.requires.room_in_bounds.1.0.4, c.route_lines-late.auto.path))
+returns c = charted _ _ _ _ _ _ _ _ _ _ (below_of _ _ c.requires.k_value.0) c.requires.laid _ _ _ _ _ _ c.route_lines-late.ensures _ c.requires.ill_value c.if-ill.false (omega (arith, c.requires.corners_in_bounds.4, c.route_lines-late.auto.path))

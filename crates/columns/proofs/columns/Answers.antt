@@ -14,4 +14,4 @@ returns-clause-buses_after c = c.put_columns.ensures
           c.rank_in_stations.ensures.places_after
 
 pub returns-clause-stations_unchanged : goal.returns-clause-stations_unchanged
-returns-clause-stations_unchanged c = c.rank_in_stations.ensures.stations_after.1
+returns-clause-stations_unchanged c = c.rank_in_stations.ensures.stations_unchanged

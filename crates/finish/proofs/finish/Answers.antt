@@ -3,19 +3,19 @@ use Rattle.finish.proofs.Drafts.{refused}
 use Rattle.finish.proofs.finish.Goals as goal
 
 pub returns-then-c-ne0 : goal.returns-then-c-ne0
-returns-then-c-ne0 c = refused _ _ _ _ _ _ _ _ _ _ _ _ _ _ c.requires.sub_in_bounds.1.0 c.if-c-ne0.true _
+returns-then-c-ne0 c = refused _ _ _ _ _ _ _ _ _ _ _ _ _ _ c.requires.charted c.if-c-ne0.true _
 
 pub write-requires-clause-sub_len_bound : goal.write-requires-clause-sub_len_bound
 write-requires-clause-sub_len_bound c = c.requires.sub_len_bound
 
 pub write-requires-clause-sub_in_bounds : goal.write-requires-clause-sub_in_bounds
-write-requires-clause-sub_in_bounds c = c.requires.sub_in_bounds.0
+write-requires-clause-sub_in_bounds c = c.requires.sub_in_bounds
 
 pub write-requires-clause-charted : goal.write-requires-clause-charted
-write-requires-clause-charted c = c.requires.sub_in_bounds.1.0
+write-requires-clause-charted c = c.requires.charted
 
 pub write-requires-clause-indexed : goal.write-requires-clause-indexed
-write-requires-clause-indexed c = c.requires.sub_in_bounds.1.1
+write-requires-clause-indexed c = c.requires.indexed
 
 pub write-requires-clause-late_value : goal.write-requires-clause-late_value
 write-requires-clause-late_value c = c.if-c-ne0.false

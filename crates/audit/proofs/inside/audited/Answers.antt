@@ -29,10 +29,10 @@ pub figures_of-f-requires-clause-k_in_bounds : goal.figures_of-f-requires-clause
 figures_of-f-requires-clause-k_in_bounds c = (omega (arith, (fit_lengths _ _ _ _ _ _ _ _ c.fits2.ensures (not-false _ c.if-not-fits.false-raw)).0, c.station_count-k.ensures.value), (fit_lengths _ _ _ _ _ _ _ _ c.fits2.ensures (not-false _ c.if-not-fits.false-raw)).1, omega (arith, c.requires.sub_len_bound, c.bus_counts.auto.stations), fit_finite _ _ _ _ _ _ _ _ c.fits2.ensures (not-false _ c.if-not-fits.false-raw))
 
 pub figures_of-f-requires-clause-k_in_bounds_2 : goal.figures_of-f-requires-clause-k_in_bounds_2
-figures_of-f-requires-clause-k_in_bounds_2 c = (omega (arith, c.station_count-k.ensures.value, c.requires.sub_in_bounds.0), omega (arith, c.station_count-k.ensures.value, c.requires.sub_in_bounds.0), c.requires.sub_in_bounds.0.2, c.requires.sub_in_bounds.0.3, c.requires.sub_in_bounds.0.4)
+figures_of-f-requires-clause-k_in_bounds_2 c = (omega (arith, c.station_count-k.ensures.value, c.requires.sub_in_bounds), omega (arith, c.station_count-k.ensures.value, c.requires.sub_in_bounds), c.requires.sub_in_bounds.2, c.requires.sub_in_bounds.3, c.requires.sub_in_bounds.4)
 
 pub figures_of-f-requires-clause-sub_in_bounds : goal.figures_of-f-requires-clause-sub_in_bounds
-figures_of-f-requires-clause-sub_in_bounds c = c.requires.sub_in_bounds.1
+figures_of-f-requires-clause-sub_in_bounds c = c.requires.sub_in_bounds_2
 
 pub shape_of-displacement : goal.shape_of-displacement
 shape_of-displacement c = c.figures_of-f.auto.displacement

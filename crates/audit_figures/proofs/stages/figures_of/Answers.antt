@@ -5,34 +5,34 @@ use Rattle.audit_figures.proofs.Figuring.{displaced, spaced, figured}
 use Rattle.audit_figures.proofs.stages.figures_of.Goals as goal
 
 pub seeds-requires : goal.seeds-requires
-seeds-requires c = (c.requires.k_value.0, c.requires.k_value.1, omega (arith, c.requires.k_value), omega (arith, c.requires.k_value, c.requires.k_in_bounds.0), omega (arith, c.requires.k_value, c.requires.k_in_bounds.1.0), c.requires.k_value.3)
+seeds-requires c = (c.requires.k_value.0, c.requires.k_value.1, omega (arith, c.requires.k_value), omega (arith, c.requires.k_value, c.requires.k_in_bounds), omega (arith, c.requires.k_value, c.requires.k_in_bounds_2), c.requires.k_value.3)
 
 pub displacements-requires : goal.displacements-requires
-displacements-requires c = (omega (arith, c.requires.k_value), omega (arith, c.requires.k_value, c.requires.k_in_bounds.0), c.requires.k_in_bounds.0.0, c.requires.k_in_bounds.1.0.0)
+displacements-requires c = (omega (arith, c.requires.k_value), omega (arith, c.requires.k_value, c.requires.k_in_bounds), c.requires.k_in_bounds.0, c.requires.k_in_bounds_2.0)
 
 pub middles-requires : goal.middles-requires
-middles-requires c = (c.requires.k_in_bounds.0.0, omega (arith, c.requires.k_value, c.requires.k_in_bounds.1.0, c.seeds.auto.places))
+middles-requires c = (c.requires.k_in_bounds.0, omega (arith, c.requires.k_value, c.requires.k_in_bounds_2, c.seeds.auto.places))
 
 pub coordinates-n-requires : goal.coordinates-n-requires
-coordinates-n-requires c = (omega (arith, c.requires.k_value, c.requires.k_in_bounds.0), omega (arith, c.requires.k_value, c.requires.k_in_bounds.1.0, c.seeds.auto.places, c.middles.auto.points), omega (arith, c.requires.k_value, c.requires.k_in_bounds.1.0))
+coordinates-n-requires c = (omega (arith, c.requires.k_value, c.requires.k_in_bounds), omega (arith, c.requires.k_value, c.requires.k_in_bounds_2, c.seeds.auto.places, c.middles.auto.points), omega (arith, c.requires.k_value, c.requires.k_in_bounds_2))
 
 pub spacings-requires-clause-k_bound : goal.spacings-requires-clause-k_bound
-spacings-requires-clause-k_bound c = (omega (arith, c.requires.k_value), c.coordinates-n.ensures.value.0, omega (arith, c.requires.k_value, c.requires.k_in_bounds.1.0, c.coordinates-n.ensures.value.1, c.coordinates-n.auto.path), omega (arith, c.requires.k_value, c.requires.k_in_bounds.0), c.requires.k_in_bounds.0.0, c.requires.k_in_bounds.1.0.1)
+spacings-requires-clause-k_bound c = (omega (arith, c.requires.k_value), c.coordinates-n.ensures.value, omega (arith, c.requires.k_value, c.requires.k_in_bounds_2, c.coordinates-n.ensures.upper_bound, c.coordinates-n.auto.path), omega (arith, c.requires.k_value, c.requires.k_in_bounds), c.requires.k_in_bounds.0, c.requires.k_in_bounds_2.1)
 
 pub spacings-requires-clause-k_in_bounds : goal.spacings-requires-clause-k_in_bounds
-spacings-requires-clause-k_in_bounds c = (omega (arith, c.requires.k_value, c.requires.k_in_bounds.1.1), omega (arith, c.requires.k_value, c.requires.k_in_bounds.1.1), omega (arith, c.requires.k_value, c.requires.k_in_bounds.1.1))
+spacings-requires-clause-k_in_bounds c = (omega (arith, c.requires.k_value, c.requires.sub_in_bounds), omega (arith, c.requires.k_value, c.requires.sub_in_bounds), omega (arith, c.requires.k_value, c.requires.sub_in_bounds))
 
 pub count_overlaps-overlaps-requires-clause-k_bound : goal.count_overlaps-overlaps-requires-clause-k_bound
-count_overlaps-overlaps-requires-clause-k_bound c = (omega (arith, c.requires.k_value), omega (arith, c.requires.k_value, c.requires.k_in_bounds.0), c.requires.k_in_bounds.0.0, c.requires.k_in_bounds.0.3)
+count_overlaps-overlaps-requires-clause-k_bound c = (omega (arith, c.requires.k_value), omega (arith, c.requires.k_value, c.requires.k_in_bounds), c.requires.k_in_bounds.0, c.requires.k_in_bounds.3)
 
 pub count_overlaps-overlaps-requires-clause-k_in_bounds : goal.count_overlaps-overlaps-requires-clause-k_in_bounds
-count_overlaps-overlaps-requires-clause-k_in_bounds c = (omega (arith, c.requires.k_value, c.requires.k_in_bounds.1.1, c.spacings.auto.keys), omega (arith, c.requires.k_value, c.requires.k_in_bounds.1.1, c.spacings.auto.order), omega (arith, c.requires.k_value, c.requires.k_in_bounds.1.1, c.spacings.auto.spare))
+count_overlaps-overlaps-requires-clause-k_in_bounds c = (omega (arith, c.requires.k_value, c.requires.sub_in_bounds, c.spacings.auto.keys), omega (arith, c.requires.k_value, c.requires.sub_in_bounds, c.spacings.auto.order), omega (arith, c.requires.k_value, c.requires.sub_in_bounds, c.spacings.auto.spare))
 
 pub count_through-through-requires : goal.count_through-through-requires
-count_through-through-requires c = (omega (arith, c.requires.k_value, c.requires.k_in_bounds.0), c.requires.k_in_bounds.0.0, omega (arith, c.requires.k_value), c.requires.k_in_bounds.0.1)
+count_through-through-requires c = (omega (arith, c.requires.k_value, c.requires.k_in_bounds), c.requires.k_in_bounds.0, omega (arith, c.requires.k_value), c.requires.k_in_bounds.1)
 
 pub relative_lengths-lengths-requires : goal.relative_lengths-lengths-requires
-relative_lengths-lengths-requires c = (c.requires.k_in_bounds.0.1, c.requires.k_in_bounds.1.0.2)
+relative_lengths-lengths-requires c = (c.requires.k_in_bounds.1, c.requires.k_in_bounds_2.2)
 
 pub shape_of-displacement : goal.shape_of-displacement
 shape_of-displacement c = c.displacements.auto.displacement
@@ -59,4 +59,4 @@ pub shape_of-path : goal.shape_of-path
 shape_of-path c = c.coordinates-n.auto.path
 
 pub returns : goal.returns
-returns c = figured _ _ _ c.requires.k_value.0 c.requires.k_value.3 _ _ _ _ _ _ _ _ _ _ (displaced _ _ _ c.requires.k_value.0 c.requires.k_value.3 _ _ _ c.seeds.ensures c.displacements.ensures) (spaced _ _ _ c.requires.k_value.0 c.requires.k_value.3 _ _ _ _ _ c.middles.ensures c.coordinates-n.ensures.path_after c.coordinates-n.ensures.value.0 c.spacings.ensures) c.coordinates-n.ensures.value.0 c.count_overlaps-overlaps.ensures c.count_through-through.ensures c.relative_lengths-lengths.ensures.relative_after c.relative_lengths-lengths.ensures.value
+returns c = figured _ _ _ c.requires.k_value.0 c.requires.k_value.3 _ _ _ _ _ _ _ _ _ _ (displaced _ _ _ c.requires.k_value.0 c.requires.k_value.3 _ _ _ c.seeds.ensures c.displacements.ensures) (spaced _ _ _ c.requires.k_value.0 c.requires.k_value.3 _ _ _ _ _ c.middles.ensures c.coordinates-n.ensures.path_after c.coordinates-n.ensures.value c.spacings.ensures) c.coordinates-n.ensures.value c.count_overlaps-overlaps.ensures c.count_through-through.ensures c.relative_lengths-lengths.ensures.relative_after c.relative_lengths-lengths.ensures.value

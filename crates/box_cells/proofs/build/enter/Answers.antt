@@ -12,24 +12,21 @@ loop-s-init c = (omega arith, refl, put_start _ _ _ _ _ c.requires.le_columns.3,
 
 pub chain_of-requires : goal.chain_of-requires
 chain_of-requires c =
-    let p = c.requires in
-    (p.1.0, p.1.1, few_columns _ _ _ p.1.1 (omega (arith, p.1.2, p.0.2)), few_rows _ _ _ p.1.0 (omega (arith, p.1.2, p.0.2)))
+        (c.requires.le_columns.0, c.requires.le_columns.1, few_columns _ _ _ c.requires.le_columns.1 (omega (arith, c.requires.le_columns.2, c.requires.k_in_bounds.2)), few_rows _ _ _ c.requires.le_columns.0 (omega (arith, c.requires.le_columns.2, c.requires.k_in_bounds.2)))
 
 pub link-requires : goal.link-requires
 link-requires c =
-    let p = c.requires in
-    (c.loop-s-test.true, p.0.2, omega (arith, c.chain_of.ensures.1, p.1.2), omega (arith, c.loop-s.invariant.1, p.0.3))
+        (c.loop-s-test.true, c.requires.k_in_bounds.2, omega (arith, c.chain_of.ensures.1, c.requires.le_columns.2), omega (arith, c.loop-s.invariant.1, c.requires.k_in_bounds.3))
 
 pub loop-s-preserved-then-stations-s-gt0 : goal.loop-s-preserved-then-stations-s-gt0
 loop-s-preserved-then-stations-s-gt0 c =
-    let p = c.requires in
-    let i = c.loop-s.invariant in
+        let i = c.loop-s.invariant in
     let e = c.link.ensures in
     let t = c.loop-s-test.true in (
       omega arith,
       omega (arith, c.link.auto.index, i.1),
-      subst (Put _ _ _ _ _) (sym e) (put_yes _ _ _ _ _ _ _ t p.1.2 (omega (arith, i.1, p.0.3)) p.1.0 p.1.1 c.if-stations-s-gt0.true (c.chain_of.ensures.0 ∙ ap (chain_of _) c.box_in.ensures) i.2),
-      subst (SameGrid _) (sym e) (same_linked _ _ _ _ _ t (omega (arith, c.chain_of.ensures.1, p.1.2)) (omega (arith, i.1, p.0.3)) i.3),
+      subst (Put _ _ _ _ _) (sym e) (put_yes _ _ _ _ _ _ _ t c.requires.le_columns.2 (omega (arith, i.1, c.requires.k_in_bounds.3)) c.requires.le_columns.0 c.requires.le_columns.1 c.if-stations-s-gt0.true (c.chain_of.ensures.0 ∙ ap (chain_of _) c.box_in.ensures) i.2),
+      subst (SameGrid _) (sym e) (same_linked _ _ _ _ _ t (omega (arith, c.chain_of.ensures.1, c.requires.le_columns.2)) (omega (arith, i.1, c.requires.k_in_bounds.3)) i.3),
     )
 
 pub loop-s-preserved : goal.loop-s-preserved

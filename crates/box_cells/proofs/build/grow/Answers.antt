@@ -11,19 +11,16 @@ returns-then-k-most c = none_set _ _ c.args.index.now c.requires.k_in_bounds.3
 
 pub put_grid-requires : goal.put_grid-requires
 put_grid-requires c =
-    let p = c.requires in
-    let e = c.extent_of-e.ensures in
-    let k = c.counts_for-c.ensures in
-    (omega (arith, p.0.4, c.if-k-most.false), e.0, e.1, e.2, e.3, few_columns _ _ _ k.1 (omega (arith, k.2, e.4, p.0.2)), few_rows _ _ _ k.0 (omega (arith, k.2, e.4, p.0.2)))
+                (omega (arith, c.requires.k_in_bounds.4, c.if-k-most.false), c.extent_of-e.ensures.0, c.extent_of-e.ensures.1, c.extent_of-e.ensures.2, c.extent_of-e.ensures.3, few_columns _ _ _ c.counts_for-c.ensures.1 (omega (arith, c.counts_for-c.ensures.2, c.extent_of-e.ensures.4, c.requires.k_in_bounds.2)), few_rows _ _ _ c.counts_for-c.ensures.0 (omega (arith, c.counts_for-c.ensures.2, c.extent_of-e.ensures.4, c.requires.k_in_bounds.2)))
 
 pub fill-requires-clause-k_in_bounds : goal.fill-requires-clause-k_in_bounds
-fill-requires-clause-k_in_bounds c = let p = c.requires in let g = c.put_grid.ensures in let k = c.counts_for-c.ensures in (p.0.0, p.0.1, p.0.2, omega (arith, c.put_grid.auto.index, p.0.4))
+fill-requires-clause-k_in_bounds c = (c.requires.k_in_bounds.0, c.requires.k_in_bounds.1, c.requires.k_in_bounds.2, omega (arith, c.put_grid.auto.index, c.requires.k_in_bounds.4))
 
 pub fill-requires-clause-bound : goal.fill-requires-clause-bound
-fill-requires-clause-bound c = let p = c.requires in let g = c.put_grid.ensures in let k = c.counts_for-c.ensures in (omega (arith, g.0, k.0), omega (arith, g.1, k.1), same_room _ _ _ _ _ g.0 g.1 (omega (arith, k.2, c.if-k-most.false)))
+fill-requires-clause-bound c = (omega (arith, c.put_grid.ensures.0, c.counts_for-c.ensures.0), omega (arith, c.put_grid.ensures.1, c.counts_for-c.ensures.1), same_room _ _ _ _ _ c.put_grid.ensures.0 c.put_grid.ensures.1 (omega (arith, c.counts_for-c.ensures.2, c.if-k-most.false)))
 
 pub fill-requires-clause-all : goal.fill-requires-clause-all
-fill-requires-clause-all c = let p = c.requires in let g = c.put_grid.ensures in let k = c.counts_for-c.ensures in p.1
+fill-requires-clause-all c = c.requires.all
 
 pub shape_of-index : goal.shape_of-index
 shape_of-index c = omega (arith, c.fill.auto.index, c.put_grid.auto.index)

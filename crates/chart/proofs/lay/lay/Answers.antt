@@ -9,22 +9,22 @@ pub interiors-unit-requires-clause-k_value : goal.interiors-unit-requires-clause
 interiors-unit-requires-clause-k_value c = (c.requires.k_value.0, c.requires.k_value.1, omega (arith, c.requires.k_value.1, c.requires.k_value.2), c.requires.k_value.3, c.requires.k_value.4)
 
 pub interiors-unit-requires-clause-k_in_bounds : goal.interiors-unit-requires-clause-k_in_bounds
-interiors-unit-requires-clause-k_in_bounds c = (omega (arith, c.requires.sub_in_bounds.0.0, c.requires.k_value.2), c.requires.sub_in_bounds.0.1, c.requires.sub_in_bounds.0.2, omega (arith, c.requires.sub_in_bounds.0.3, c.requires.k_value.2), omega (arith, c.requires.sub_in_bounds.0.4, c.requires.k_value.2), omega (arith, c.requires.sub_in_bounds.0.5, c.requires.k_value.2), omega (arith, c.requires.sub_in_bounds.0.6, c.requires.k_value.2))
+interiors-unit-requires-clause-k_in_bounds c = (omega (arith, c.requires.sub_in_bounds.0, c.requires.k_value.2), c.requires.sub_in_bounds.1, c.requires.sub_in_bounds.2, omega (arith, c.requires.sub_in_bounds.3, c.requires.k_value.2), omega (arith, c.requires.sub_in_bounds.4, c.requires.k_value.2), omega (arith, c.requires.sub_in_bounds.5, c.requires.k_value.2), omega (arith, c.requires.sub_in_bounds.6, c.requires.k_value.2))
 
 pub interiors-unit-requires-clause-from_in_bounds : goal.interiors-unit-requires-clause-from_in_bounds
-interiors-unit-requires-clause-from_in_bounds c = (omega (arith, c.requires.sub_in_bounds.1.0), omega (arith, c.requires.sub_in_bounds.1.1), omega (arith, c.requires.sub_in_bounds.1.2), c.requires.k_value.2)
+interiors-unit-requires-clause-from_in_bounds c = (omega (arith, c.requires.from_in_bounds.0), omega (arith, c.requires.from_in_bounds.1), omega (arith, c.requires.from_in_bounds.2), c.requires.k_value.2)
 
 pub spans-requires : goal.spans-requires
-spans-requires c = (c.requires.k_value.1, c.requires.k_value.3, omega (arith, c.interiors-unit.auto.buses, c.requires.sub_in_bounds.0.1), ends_small _ _ _ _ _ c.requires.k_value.3 (length_kinds _ _ _ _) c.interiors-unit.ensures.from_rows c.interiors-unit.ensures.to_rows)
+spans-requires c = (c.requires.k_value.1, c.requires.k_value.3, omega (arith, c.interiors-unit.auto.buses, c.requires.sub_in_bounds.1), ends_small _ _ _ _ _ c.requires.k_value.3 (length_kinds _ _ _ _) c.interiors-unit.ensures.from_rows c.interiors-unit.ensures.to_rows)
 
 pub settle-requires-clause-search_bound : goal.settle-requires-clause-search_bound
 settle-requires-clause-search_bound c = (omega (arith, c.search_in-search.ensures, c.requires.k_value.5), omega (arith, c.requires.k_value.1, c.requires.k_value.2), c.requires.k_value.4, c.interiors-unit.ensures.counts)
 
 pub settle-requires-clause-k_in_bounds : goal.settle-requires-clause-k_in_bounds
-settle-requires-clause-k_in_bounds c = (omega (arith, c.interiors-unit.auto.stations, c.requires.sub_in_bounds.0.0, c.requires.k_value.2), omega (arith, c.interiors-unit.auto.sorted, c.requires.sub_in_bounds.1.0, c.requires.k_value.2), omega (arith, c.interiors-unit.auto.spare, c.requires.sub_in_bounds.1.1, c.requires.k_value.2), omega (arith, c.interiors-unit.auto.keys, c.requires.sub_in_bounds.1.2, c.requires.k_value.2), omega (arith, c.interiors-unit.auto.blocks, c.requires.sub_in_bounds.0.4, c.requires.k_value.2), omega (arith, c.interiors-unit.auto.places, c.requires.sub_in_bounds.0.3, c.requires.k_value.2), omega (arith, c.interiors-unit.auto.frames, c.requires.sub_in_bounds.0.5, c.requires.k_value.2))
+settle-requires-clause-k_in_bounds c = (omega (arith, c.interiors-unit.auto.stations, c.requires.sub_in_bounds.0, c.requires.k_value.2), omega (arith, c.interiors-unit.auto.sorted, c.requires.from_in_bounds.0, c.requires.k_value.2), omega (arith, c.interiors-unit.auto.spare, c.requires.from_in_bounds.1, c.requires.k_value.2), omega (arith, c.interiors-unit.auto.keys, c.requires.from_in_bounds.2, c.requires.k_value.2), omega (arith, c.interiors-unit.auto.blocks, c.requires.sub_in_bounds.4, c.requires.k_value.2), omega (arith, c.interiors-unit.auto.places, c.requires.sub_in_bounds.3, c.requires.k_value.2), omega (arith, c.interiors-unit.auto.frames, c.requires.sub_in_bounds.5, c.requires.k_value.2))
 
 pub write_exits-requires-clause-sub_len_bound : goal.write_exits-requires-clause-sub_len_bound
-write_exits-requires-clause-sub_len_bound c = (c.requires.k_value.1, c.requires.k_value.3, omega (arith, c.settle.auto.places, c.interiors-unit.auto.places, c.requires.sub_in_bounds.0.3))
+write_exits-requires-clause-sub_len_bound c = (c.requires.k_value.1, c.requires.k_value.3, omega (arith, c.settle.auto.places, c.interiors-unit.auto.places, c.requires.sub_in_bounds.3))
 
 pub write_exits-requires-clause-by_index : goal.write_exits-requires-clause-by_index
 write_exits-requires-clause-by_index c = station_few _ _ c.requires.k_value.0 c.requires.k_value.2

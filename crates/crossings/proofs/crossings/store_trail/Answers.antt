@@ -11,10 +11,10 @@ pub overflow_add-x : goal.overflow_add-x
 overflow_add-x c = omega (arith, c.requires.m_bound)
 
 pub store_crossing-known-requires-clause-m_bound : goal.store_crossing-known-requires-clause-m_bound
-store_crossing-known-requires-clause-m_bound c = (omega (arith, c.requires.m_bound), omega (arith, c.requires.m_bound), omega (arith, c.requires.m_bound), omega (arith, c.requires.m_bound), omega (arith, c.requires.m_bound), omega (arith, c.requires.m_bound, c.loop-i.invariant.1), omega (arith, c.at-h.ensures, c.requires.around_value.1 c.loop-i.i (omega arith)), omega (arith, c.requires.m_bound, c.loop-i.invariant.2), omega (arith, c.requires.m_bound, c.loop-i.invariant.3), omega (arith, c.requires.m_bound, c.loop-i.invariant.4))
+store_crossing-known-requires-clause-m_bound c = (omega (arith, c.requires.m_bound), omega (arith, c.requires.m_bound), omega (arith, c.requires.m_bound), omega (arith, c.requires.m_bound), omega (arith, c.requires.m_bound), omega (arith, c.requires.m_bound, c.loop-i.invariant.1), omega (arith, c.at-h.ensures, c.requires.by_index c.loop-i.i (omega arith)), omega (arith, c.requires.m_bound, c.loop-i.invariant.2), omega (arith, c.requires.m_bound, c.loop-i.invariant.3), omega (arith, c.requires.m_bound, c.loop-i.invariant.4))
 
 pub store_crossing-known-requires-clause-around_value : goal.store_crossing-known-requires-clause-around_value
-store_crossing-known-requires-clause-around_value c = c.requires.around_value.0
+store_crossing-known-requires-clause-around_value c = c.requires.around_value
 
 pub loop-i-preserved : goal.loop-i-preserved
 loop-i-preserved c = (omega arith, omega (arith, c.loop-i.invariant.1, c.store_crossing-known.ensures.upper_bound), omega (arith, c.loop-i.invariant.2), omega (arith, c.loop-i.invariant.3), omega (arith, c.loop-i.invariant.4), trail_more _ _ _ _ _ _ _ _ _ _ _ _ _ _ _ _ _ _ _ (omega (arith, c.requires.m_bound)) c.at-h.ensures c.loop-i.invariant.5 c.store_crossing-known.ensures.by_index)

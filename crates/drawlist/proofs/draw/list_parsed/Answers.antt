@@ -9,7 +9,7 @@ pub list_front-requires-clause-n_in_bounds : goal.list_front-requires-clause-n_i
 list_front-requires-clause-n_in_bounds c = (omega (arith, (few_read _ _ (sym c.parse.ensures.value ∙ c.in-Network.is)).0, c.parse.auto.sub, c.requires.in_bounds.0), omega (arith, (few_read _ _ (sym c.parse.ensures.value ∙ c.in-Network.is)).0, c.parse.auto.kv, c.requires.in_bounds.1), omega (arith, (few_read _ _ (sym c.parse.ensures.value ∙ c.in-Network.is)).0, c.parse.auto.xy, c.requires.in_bounds.2), (few_read _ _ (sym c.parse.ensures.value ∙ c.in-Network.is)).0)
 
 pub list_front-requires-clause-m_in_bounds : goal.list_front-requires-clause-m_in_bounds
-list_front-requires-clause-m_in_bounds c = (omega (arith, (few_read _ _ (sym c.parse.ensures.value ∙ c.in-Network.is)).1, c.parse.auto.from, c.requires.in_bounds_2.0.0), omega (arith, (few_read _ _ (sym c.parse.ensures.value ∙ c.in-Network.is)).1, c.parse.auto.to, c.requires.in_bounds_2.0.1), omega (arith, (few_read _ _ (sym c.parse.ensures.value ∙ c.in-Network.is)).1, c.parse.auto.live, c.requires.in_bounds_2.0.2), c.requires.in_bounds_2.1)
+list_front-requires-clause-m_in_bounds c = (omega (arith, (few_read _ _ (sym c.parse.ensures.value ∙ c.in-Network.is)).1, c.parse.auto.from, c.requires.in_bounds_2.0), omega (arith, (few_read _ _ (sym c.parse.ensures.value ∙ c.in-Network.is)).1, c.parse.auto.to, c.requires.in_bounds_2.1), omega (arith, (few_read _ _ (sym c.parse.ensures.value ∙ c.in-Network.is)).1, c.parse.auto.live, c.requires.in_bounds_2.2), c.requires.in_bounds_3)
 
 pub shape_of-sub-in-Network : goal.shape_of-sub-in-Network
 shape_of-sub-in-Network c = c.parse.auto.sub
@@ -31,7 +31,7 @@ shape_of-live-in-Network c = c.parse.auto.live
 
 pub returns-in-Network : goal.returns-in-Network
 returns-in-Network c =
-    let both = printed _ _ _ _ _ (output_drawn _ _ _ _ _ _ _ _ _ _ _ _ _ _ (sym c.parse.ensures.value ∙ c.in-Network.is) c.parse.ensures.sub_after.0 c.parse.ensures.sub_after.1.0 c.parse.ensures.sub_after.1.1.1.0 c.parse.ensures.sub_after.1.1.1.1.0 c.parse.ensures.sub_after.1.1.1.1.1 c.parse.ensures.sub_after.1.1.0) c.list_front.ensures.value c.list_front.ensures.out_after in record { value = both.0; out_after = both.1 }
+    let both = printed _ _ _ _ _ (output_drawn _ _ _ _ _ _ _ _ _ _ _ _ _ _ (sym c.parse.ensures.value ∙ c.in-Network.is) c.parse.ensures.sub_after c.parse.ensures.kv_after c.parse.ensures.from_after c.parse.ensures.to_after c.parse.ensures.live_after c.parse.ensures.xy_after) c.list_front.ensures.value c.list_front.ensures.out_after in record { value = both.0; out_after = both.1 }
 
 pub shape_of-sub-in-Malformed : goal.shape_of-sub-in-Malformed
 shape_of-sub-in-Malformed c = c.parse.auto.sub

@@ -6,10 +6,10 @@ pub survey-pieces-requires-clause-from_len_bound : goal.survey-pieces-requires-c
 survey-pieces-requires-clause-from_len_bound c = (c.requires.sub_len_bound.1, c.requires.sub_len_bound.0)
 
 pub survey-pieces-requires-clause-fit_all : goal.survey-pieces-requires-clause-fit_all
-survey-pieces-requires-clause-fit_all c = c.requires.charted.0.fits c.requires.charted.1.1
+survey-pieces-requires-clause-fit_all c = c.requires.charted.fits c.requires.late_value
 
 pub survey-pieces-requires-clause-stands : goal.survey-pieces-requires-clause-stands
-survey-pieces-requires-clause-stands c = (c.requires.sub_len_bound.3, c.requires.sub_len_bound.4, c.requires.sub_len_bound.2, c.requires.charted.1.0)
+survey-pieces-requires-clause-stands c = (c.requires.sub_len_bound.3, c.requires.sub_len_bound.4, c.requires.sub_len_bound.2, c.requires.indexed)
 
 pub bounds_of-bounds-requires : goal.bounds_of-bounds-requires
 bounds_of-bounds-requires c = (c.requires.sub_len_bound.3, c.requires.sub_len_bound.4)
@@ -18,4 +18,4 @@ pub shape_of-path : goal.shape_of-path
 shape_of-path c = c.survey-pieces.auto.path
 
 pub returns : goal.returns
-returns c = judged _ _ _ _ _ _ _ _ _ _ _ _ _ _ c.requires.charted.0 c.requires.charted.1.1 _ _ c.gap_of.ensures c.is_led-led.ensures _ _ _ c.survey-pieces.ensures.value c.bounds_of-bounds.ensures c.late_of-late.ensures
+returns c = judged _ _ _ _ _ _ _ _ _ _ _ _ _ _ c.requires.charted c.requires.late_value _ _ c.gap_of.ensures c.is_led-led.ensures _ _ _ c.survey-pieces.ensures.value c.bounds_of-bounds.ensures c.late_of-late.ensures

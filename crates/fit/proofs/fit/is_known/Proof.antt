@@ -1,0 +1,23 @@
+-- `fit::fit::is_known` meets its contract. Assumes nothing.
+use mathlib.Core.Path.{sym, ap}
+use Rattle.fit.specs.Fit.{is_known}
+use borrow.Author.Rules.{rules}
+use Rattle.fit.proofs.fit.is_known.Statement.{statement}
+use Rattle.fit.proofs.fit.is_known.Tie as tie
+
+enum_told : tie.Need-enum-told
+enum_told c = search rules
+
+enum-told-2 : tie.Need-enum-told-2
+enum-told-2 c = search rules
+
+returns : tie.Need-returns
+unfolding is_known
+returns c = sym (ap is_known c.enum_told.given.1)
+
+returns-2 : tie.Need-returns-2
+unfolding is_known
+returns-2 c = sym (ap is_known c.enum-told2.given.1)
+
+pub is-known-spec : {M : Type 1} → statement M
+is-known-spec = tie.close (tie.spec enum_told enum-told-2 returns returns-2)

@@ -1,0 +1,62 @@
+-- `listing::output::word` meets its contract. Assumes nothing.
+use native.Mathlib.Omega.{arith}
+use Prim.Native.Nat.{◌-◌}
+use mathlib.Core.Path.{refl}
+use lib.ListN.{length}
+use Rattle.listing.proofs.Writing.{Copied, copied_none, copied_more, copied_all}
+use borrow.Author.Rules.{rules}
+use Rattle.listing.proofs.output.word.Statement.{statement}
+use Rattle.listing.proofs.output.word.Tie as tie
+
+abbrev invariant-loop : tie.invariant-loop
+invariant-loop s at out₀ i₀ out i = Copied s out₀ out at i
+
+abbrev decreases-loop : tie.decreases-loop
+decreases-loop s at out₀ i₀ out i = length s - i
+
+loop-holds : tie.Need-loop-init invariant-loop decreases-loop
+loop-holds c = copied_none _ _ _
+
+shared-slice-read-out : tie.Need-shared-slice-read-out invariant-loop decreases-loop
+shared-slice-read-out c = search rules
+
+add-out : tie.Need-overflow-add-out invariant-loop decreases-loop
+add-out c = search rules
+
+slice-write-out : tie.Need-slice-write-out invariant-loop decreases-loop
+slice-write-out c = omega (arith, c.before.before.loop.invariant.size, c.before.before.before.requires)
+
+add-i : tie.Need-overflow-add-i invariant-loop decreases-loop
+add-i c = search rules
+
+loop-less : tie.Need-loop-smaller invariant-loop decreases-loop
+loop-less c = search rules
+
+loop-again : tie.Need-loop-preserved invariant-loop decreases-loop
+loop-again c = copied_more _ _ _ _ _ c.before.before.loop.invariant c.before.loop-test.true
+
+add-result : tie.Need-overflow-add-result invariant-loop decreases-loop
+add-result c = search rules
+
+same_length : tie.Need-same-length invariant-loop decreases-loop
+same_length c = c.before.loop.invariant.size
+
+returns : tie.Need-returns invariant-loop decreases-loop
+returns c = (refl, copied_all _ _ _ _ _ c.before.loop.invariant c.loop-test.false)
+
+pub word-spec : {M : Type 1} → statement M
+word-spec =
+    tie.close
+    (tie.spec
+    invariant-loop
+    decreases-loop
+    loop-holds
+    shared-slice-read-out
+    add-out
+    slice-write-out
+    add-i
+    loop-less
+    loop-again
+    add-result
+    same_length
+    returns)

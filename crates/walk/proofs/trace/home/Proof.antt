@@ -1,0 +1,29 @@
+-- `walk::trace::home` meets its contract. Assumes nothing.
+use Rattle.walk.specs.Trace.{home_of}
+use borrow.Author.Rules.{rules}
+use Rattle.walk.proofs.trace.home.Statement.{statement}
+use Rattle.walk.proofs.trace.home.Tie as tie
+
+enum_told : tie.Need-enum-told
+enum_told c = search rules
+
+enum-told-2 : tie.Need-enum-told-2
+enum-told-2 c = search rules
+
+enum-told-3 : tie.Need-enum-told-3
+enum-told-3 c = search rules
+
+returns : tie.Need-returns
+unfolding home_of
+returns c = simp c.enum_told.given.1
+
+returns-2 : tie.Need-returns-2
+unfolding home_of
+returns-2 c = simp c.enum-told2.given.1
+
+returns-3 : tie.Need-returns-3
+unfolding home_of
+returns-3 c = simp c.enum-told3.given.1
+
+pub home-spec : {M : Type 1} → statement M
+home-spec = tie.close (tie.spec enum_told enum-told-2 enum-told-3 returns returns-2 returns-3)
