@@ -221,7 +221,7 @@ def convert(crate,path,file,v,repo):
             alias=alias|{m[1]}; body=body[:m.start()]+body[m.end():]
         start=0
         while True:
-            m=re.compile(r'let (\S+) = ('+'|'.join(map(re.escape,alias))+r')((?:\.[^\s(){};,]+)*?\.(?:requires|pre|ensures)) in\s').search(body,start)
+            m=re.compile(r'let (\S+) = ('+'|'.join(map(re.escape,alias))+r')((?:\.[^\s(){};,.]+)*\.(?:requires|pre|ensures)) in\s').search(body,start)
             if not m: break
             rest=body[m.end():]
             full=m[2]+m[3]

@@ -1,0 +1,16 @@
+-- Answers for `first_hit::search::closer`.
+use mathlib.Core.Path.{sym, ◌∙◌}
+use Rattle.first_hit.specs.Stages.Looks.{near, closer}
+use Rattle.first_hit.proofs.search.closer.Goals as goal
+
+pub returns-in-Missed : goal.returns-in-Missed
+unfolding closer
+returns-in-Missed c = simp c.in-Missed.is
+
+pub returns-then-comes_first : goal.returns-then-comes_first
+unfolding closer near
+returns-then-comes_first c = simp (c.in-Place.is, sym c.comes_first.ensures ∙ c.if-comes_first.true)
+
+pub returns-else-comes_first : goal.returns-else-comes_first
+unfolding closer near
+returns-else-comes_first c = simp (c.in-Place.is, sym c.comes_first.ensures ∙ c.if-comes_first.false)

@@ -1,0 +1,11 @@
+-- Answers for `first_hit::search::hit_of`.
+use Rattle.first_hit.specs.Stages.Looks.{hit_of}
+use Rattle.first_hit.proofs.search.hit_of.Goals as goal
+
+pub returns-then-n : goal.returns-then-n
+unfolding hit_of
+returns-then-n c = simp c.if-n.true
+
+pub returns : goal.returns
+unfolding hit_of
+returns c = simp c.if-n.false

@@ -1,0 +1,14 @@
+-- Answers for `grouping::group::copy_order`.
+use mathlib.Core.Path.{refl}
+use native.Mathlib.Omega.{arith}
+use Rattle.grouping.proofs.Grouping.{copy_start, copy_step, copy_end}
+use Rattle.grouping.proofs.group.copy_order.Goals as goal
+
+pub loop-j-init : goal.loop-j-init
+loop-j-init c = copy_start _ _
+
+pub loop-j-preserved : goal.loop-j-preserved
+loop-j-preserved c = copy_step _ _ _ _ _ (omega arith) (omega arith) refl c.loop-j.invariant
+
+pub returns : goal.returns
+returns c = copy_end _ _ _ _ (omega arith) c.loop-j.invariant

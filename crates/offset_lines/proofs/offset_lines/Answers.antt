@@ -1,0 +1,27 @@
+-- Answers for `offset_lines::offset_lines`.
+use native.Mathlib.Omega.{arith}
+use Rattle.offsets.specs.Stages.OffsetList.{offset_at}
+use Rattle.listing.proofs.Writing.{listed_none, listed_more, listed_all}
+use Rattle.offset_lines.proofs.Lines.{wrote_same, wrote_lines}
+use Rattle.offset_lines.proofs.offset_lines.Goals as goal
+
+pub loop-i-init : goal.loop-i-init
+loop-i-init c = listed_none _ _ _ _ _
+
+pub offset_line-p-requires : goal.offset_line-p-requires
+offset_line-p-requires c =
+    let l = c.loop-i.invariant in
+    omega (arith, l.room, l.size, c.requires)
+
+pub loop-i-preserved : goal.loop-i-preserved
+loop-i-preserved c =
+    let f = c.offset_line-p in
+    let o = c.offset_at in
+        listed_more _ _ _ _ _ _ _ _ _ _ c.loop-i.invariant c.loop-i-test.true f.auto.1.1.0 f.ensures.0 (wrote_same _ _ _ _ _ _ o.ensures f.ensures.1)
+
+pub shape_of-out : goal.shape_of-out
+shape_of-out c = c.loop-i.invariant.size
+
+pub returns : goal.returns
+returns c =
+    let l = c.loop-i.invariant in let both = wrote_lines _ _ _ _ _ _ _ (listed_all _ _ _ _ _ _ _ _ l c.loop-i-test.false) in record { upper_bound = omega (arith, l.room, l.below, c.loop-i-test.false); value = both.0; out_after = both.1 }

@@ -1,0 +1,8 @@
+-- Answers for `offset_list::table::print_table`.
+use Rattle.listing.proofs.Writing.{printed}
+use Rattle.offset_list.proofs.Generated.{generated_text}
+use Rattle.offset_list.proofs.table.print_table.Goals as goal
+
+pub returns : goal.returns
+returns c =
+    let both = let p = c.print in printed _ _ _ _ _ generated_text p.ensures.0 p.ensures.1 in record { value = both.0; out_after = both.1 }

@@ -1,0 +1,24 @@
+-- Answers for `placement::search::place_by_table`.
+use mathlib.Core.Path.{refl, ap, ◌∙◌}
+use mathlib.Core.List.{List}
+use Rattle.network.specs.Views.{order_in, points_in}
+use Rattle.offsets.specs.declared.offset.Offset.{Offset}
+use Rattle.offsets.specs.Offset.{offset_of}
+use Rattle.offset_rule.specs.Table.{codes, table_pairs}
+use Rattle.offset_table.proofs.Pairs.{within_held}
+use Rattle.placement.specs.Place.{places}
+use Rattle.placement.specs.Stages.Views.{frames_in}
+use Rattle.placement.proofs.search.place_by_table.Goals as goal
+
+pub place_all-requires-clause-search_bound : goal.place_all-requires-clause-search_bound
+place_all-requires-clause-search_bound c = c.requires.search_bound
+
+pub place_all-requires-clause-turns : goal.place_all-requires-clause-turns
+place_all-requires-clause-turns c = c.requires.turns
+
+pub returns : goal.returns
+unfolding codes table_pairs offset_of
+returns c =
+        c.place_all.ensures
+    ∙ ap (λ (os : List Offset). places (frames_in c.args.m c.args.k c.args.blocks.now) os (points_in c.args.k c.args.places.now) (order_in c.args.r c.args.stations.now))
+    (within_held _ _ refl refl c.args.search c.requires.search_bound.0)

@@ -1,0 +1,14 @@
+-- Answers for `proximity::is_near`.
+use mathlib.Core.Path.{sym, subst}
+use lib.Dec.{T}
+use Rattle.proximity.proofs.Sides.{near_under}
+use Rattle.proximity.proofs.is_near.Goals as goal
+
+pub returns-then-radius-longer : goal.returns-then-radius-longer
+returns-then-radius-longer c = sym (c.longer.ensures.bound _ c.if-radius-longer.true)
+
+pub returns-then-abs-radius : goal.returns-then-abs-radius
+returns-then-abs-radius c = let g = c.well_formed in sym (near_under _ _ _ (subst T (sym g.0.1) tt) (subst T (sym g.1.0.1) tt) (rw (c.abs.ensures, c.abs-2.ensures) at c.if-abs-radius.true))
+
+pub returns : goal.returns
+returns c = simp c.hypot.ensures

@@ -1,0 +1,11 @@
+-- Answers for `proximity::longer`.
+use mathlib.Core.Path.{sym, subst}
+use lib.Dec.{T}
+use Rattle.proximity.proofs.Sides.{longer_past}
+use Rattle.proximity.proofs.longer.Goals as goal
+
+pub returns : goal.returns
+returns c =
+    let g = c.well_formed in
+    simp (c.max-3.ensures, c.max-2.ensures, c.max.ensures)
+    (longer_past _ _ (subst T (sym g.0.1) tt) (subst T (sym g.1.0.1) tt))

@@ -1,0 +1,11 @@
+-- What the loops of `rounds::space::put_places` keep.
+use Prim.Native.Nat.{◌+◌, ◌-◌}
+use Rattle.grouping.specs.Stages.Grouped.{member_in}
+use Rattle.rounds.proofs.Putting.{Putting}
+use Rattle.rounds.proofs.space.put_places.Given as goal
+
+abbrev pub invariant-loop-i : goal.invariant-loop-i
+invariant-loop-i l = Putting (λ k. member_in l.numbers (l.start + k)) l.n l.order l.ways l.initial.along l.along l.i
+
+abbrev pub decreases-loop-i : goal.decreases-loop-i
+decreases-loop-i l = l.n - l.i

@@ -1,0 +1,17 @@
+-- What the loops of `rows::fill_entries` keep.
+use Prim.Native.Nat.{◌*◌, ◌-◌, ◌≤◌}
+use mathlib.Core.Path.{◌≡◌}
+use lib.ListN.{length, take}
+use Rattle.order.specs.Table.{table}
+use Rattle.network.specs.Words.{station_count, kinds}
+use Rattle.network.specs.Views.{points_in}
+use Rattle.rows.specs.Stages.Entry.{entry_station, entry_key}
+use Rattle.rows.proofs.fill_entries.Given as goal
+
+abbrev pub invariant-loop-x : goal.invariant-loop-x
+invariant-loop-x l =    (l.x ≤ l.c) × (l.c ≡ 2 * length l.from) × (length l.keys ≡ length l.initial.keys) × (length l.own ≡ length l.initial.own)
+    × (take l.x l.keys ≡ table (entry_key l.sub (points_in (station_count l.sub) l.places) (kinds l.sub l.from l.to l.service)) l.x)
+    × (take l.x l.own ≡ table (entry_station l.sub (kinds l.sub l.from l.to l.service)) l.x)
+
+abbrev pub decreases-loop-x : goal.decreases-loop-x
+decreases-loop-x l = l.c - l.x

@@ -1,0 +1,14 @@
+-- What the loops of `sizes::sides` keep.
+use mathlib.Core.Path.{◌≡◌}
+use Prim.Native.Nat.{◌≤◌, ◌-◌}
+use lib.ListN.{length, take}
+use Rattle.sizes.specs.Size.{sides}
+use Rattle.sizes.specs.Stages.Views.{sizes_in}
+use Rattle.network.proofs.Occupied.{passed}
+use Rattle.sizes.proofs.sides.Given as goal
+
+abbrev pub invariant-loop-s : goal.invariant-loop-s
+invariant-loop-s l = (l.s ≤ l.k) × (length l.frames ≡ length l.initial.frames) × (l.r ≤ l.s) × (take l.r l.frames ≡ sides (sizes_in l.k l.blocks) (passed l.k l.stations l.s))
+
+abbrev pub decreases-loop-s : goal.decreases-loop-s
+decreases-loop-s l = l.k - l.s

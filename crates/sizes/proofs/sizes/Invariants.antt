@@ -1,0 +1,13 @@
+-- What the loops of `sizes::sizes` keep.
+use mathlib.Core.Path.{◌≡◌}
+use Prim.Native.Nat.{◌≤◌, ◌-◌}
+use lib.ListN.{length}
+use Rattle.sizes.specs.Stages.Views.{sizes_in}
+use Rattle.sizes.proofs.Blocks.{sized}
+use Rattle.sizes.proofs.sizes.Given as goal
+
+abbrev pub invariant-loop-s : goal.invariant-loop-s
+invariant-loop-s l = (l.s ≤ l.k) × (length l.blocks ≡ length l.initial.blocks) × (sizes_in l.s l.blocks ≡ sized l.g l.k l.stations l.s)
+
+abbrev pub decreases-loop-s : goal.decreases-loop-s
+decreases-loop-s l = l.k - l.s

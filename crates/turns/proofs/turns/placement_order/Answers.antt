@@ -1,0 +1,33 @@
+-- Answers for `turns::turns::placement_order`.
+use Prim.Native.Nat.{◌≤◌}
+use native.Mathlib.Omega.{arith}
+use Rattle.turns.proofs.Queue.{listed_le, bus_below, order_found}
+use Rattle.turns.proofs.turns.placement_order.Goals as goal
+
+pub sort_part-requires : goal.sort_part-requires
+sort_part-requires c =
+            let h : c.list_occupied-r.result ≤ c.args.k = listed_le _ _ _ _ _ c.list_occupied-r.ensures in
+    (omega arith, omega (arith, h, c.requires.kv_len, c.list_occupied-r.auto), omega (arith, h, c.requires.kv_len))
+
+pub top_keys-requires-clause-kv_len : goal.top_keys-requires-clause-kv_len
+top_keys-requires-clause-kv_len c = (c.requires.kv_len.0, omega (arith, c.requires.kv_len, c.list_occupied-r.auto, c.fill_keys.auto))
+
+pub top_keys-requires-clause-by_index : goal.top_keys-requires-clause-by_index
+top_keys-requires-clause-by_index c = bus_below _ c.args.stations.now _ c.requires.stations_value
+
+pub top_keys-requires-clause-by_index_2 : goal.top_keys-requires-clause-by_index_2
+top_keys-requires-clause-by_index_2 c = c.fill_keys.ensures
+
+pub sort_part-requires-2 : goal.sort_part-requires-2
+sort_part-requires-2 c =
+                let h : c.list_occupied-r.result ≤ c.args.k = listed_le _ _ _ _ _ c.list_occupied-r.ensures in
+    (omega arith, omega (arith, h, c.requires.kv_len, c.list_occupied-r.auto, c.sort_part.auto), omega (arith, h, c.requires.kv_len, c.sort_part.auto))
+
+pub put_order-requires : goal.put_order-requires
+put_order-requires c =
+            let h : c.list_occupied-r.result ≤ c.args.k = listed_le _ _ _ _ _ c.list_occupied-r.ensures in
+    (omega (arith, h, c.requires.kv_len, c.list_occupied-r.auto, c.sort_part.auto, c.sort_part-2.auto), omega (arith, h, c.requires.kv_len))
+
+pub returns : goal.returns
+returns c =
+    let both = order_found c.args.sub.now c.args.kv.now c.args.k c.args.stations.now _ c.list_occupied-r.new.keys c.top_keys.new.keys _ _ _ _ c.requires.stations_value c.list_occupied-r.ensures c.sort_part.ensures.order_after c.top_keys.ensures c.sort_part-2.ensures.order_after c.put_order.ensures.stations_after c.put_order.ensures.by_index in record { value = both.0; stations_after = both.1; turns = both.2; stations_after_2 = both.3 }

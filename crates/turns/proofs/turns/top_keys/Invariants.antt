@@ -1,0 +1,12 @@
+-- What the loops of `turns::turns::top_keys` keep.
+use Prim.Native.Nat.{◌≤◌, ◌-◌}
+use mathlib.Core.Path.{◌≡◌}
+use lib.ListN.{length}
+use Rattle.turns.proofs.Queue.{Lowered}
+use Rattle.turns.proofs.turns.top_keys.Given as goal
+
+abbrev pub invariant-loop-i : goal.invariant-loop-i
+invariant-loop-i l = (l.i ≤ length l.sub) × (length l.keys ≡ length l.initial.keys) × Lowered l.sub l.kv l.k l.keys l.i
+
+abbrev pub decreases-loop-i : goal.decreases-loop-i
+decreases-loop-i l = length l.sub - l.i

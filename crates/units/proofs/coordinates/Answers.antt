@@ -1,0 +1,40 @@
+-- Answers for `units::coordinates`.
+use mathlib.Core.Path.{◌≡◌, refl, sym, ap, ◌∙◌}
+use Prim.Native.Nat.{◌+◌, ◌*◌, ◌<◌}
+use native.Mathlib.Omega.{arith}
+use lib.ListN.{length, get_or, length-set}
+use lib.Ieee.{nan}
+use lib.Seq.{lt-length-set}
+use Rattle.order.proofs.Tables.{how_many_zero}
+use Rattle.units.specs.Unit.{coordinates}
+use Rattle.network.proofs.Occupied.{count_yes, count_no, passed_no, passed_all, count_all}
+use Rattle.units.proofs.Points.{coordinates_none, coordinates_more}
+use Rattle.units.proofs.coordinates.Goals as goal
+
+pub loop-s-init : goal.loop-s-init
+loop-s-init c = (omega arith, refl, omega arith, sym (how_many_zero _), coordinates_none _ _ _)
+
+pub bounds-path-r-then-stations-s-gt0 : goal.bounds-path-r-then-stations-s-gt0
+bounds-path-r-then-stations-s-gt0 c =
+        let h : 2 * c.loop-s.r + 1 < length c.loop-s.path = omega arith in
+    lt-length-set c.loop-s.path (2 * c.loop-s.r) (get_or c.args.places.now (2 * c.loop-s.s) nan) h
+
+pub loop-s-preserved-then-stations-s-gt0 : goal.loop-s-preserved-then-stations-s-gt0
+loop-s-preserved-then-stations-s-gt0 c =
+        let v = c.loop-s.invariant in
+    let h : c.loop-s.s < c.args.k = omega arith in
+    let l : 2 * c.loop-s.r + 1 < length c.loop-s.path = omega arith in
+    let g = c.if-stations-s-gt0.true in
+    (omega arith, simp length-set v.1, omega arith, count_yes _ _ _ h g _ v.3, coordinates_more _ _ _ h g _ _ _ l v.4)
+
+pub loop-s-preserved : goal.loop-s-preserved
+loop-s-preserved c =
+        let v = c.loop-s.invariant in
+    let h : c.loop-s.s < c.args.k = omega arith in
+    (omega arith, v.1, omega arith, count_no _ _ _ h _ c.if-stations-s-gt0.false v.3, v.4 ∙ ap (coordinates _) (passed_no _ _ _ h c.if-stations-s-gt0.false))
+
+pub returns-clause-path_after : goal.returns-clause-path_after
+returns-clause-path_after c = let v = c.loop-s.invariant in let a = c.args in let e : c.loop-s.s ≡ a.k = omega arith in cc (e, v.4, passed_all a.k a.stations.now)
+
+pub returns-clause-value : goal.returns-clause-value
+returns-clause-value c = let v = c.loop-s.invariant in let a = c.args in let e : c.loop-s.s ≡ a.k = omega arith in cc (e, v.3, count_all a.k a.stations.now)

@@ -1,0 +1,14 @@
+-- What the loops of `units::coordinates` keep.
+use mathlib.Core.Path.{◌≡◌}
+use Prim.Native.Nat.{◌*◌, ◌≤◌, ◌-◌}
+use lib.ListN.{length, take}
+use Rattle.network.specs.Views.{points_in}
+use Rattle.units.specs.Unit.{coordinates}
+use Rattle.network.proofs.Occupied.{passed, passed_count}
+use Rattle.units.proofs.coordinates.Given as goal
+
+abbrev pub invariant-loop-s : goal.invariant-loop-s
+invariant-loop-s l = (l.s ≤ l.k) × (length l.path ≡ length l.initial.path) × (l.r ≤ l.s) × (l.r ≡ passed_count l.k l.stations l.s) × (take (2 * l.r) l.path ≡ coordinates (points_in l.k l.places) (passed l.k l.stations l.s))
+
+abbrev pub decreases-loop-s : goal.decreases-loop-s
+decreases-loop-s l = l.k - l.s
