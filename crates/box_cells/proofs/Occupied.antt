@@ -2,7 +2,7 @@
 use mathlib.Core.Path.{◌≡◌, refl, sym, subst}
 use mathlib.Core.Logic.{◌⊎◌, inl, inr}
 use mathlib.Core.Bool.{Bool, true, false}
-use mathlib.Core.List.{List, ◌∷◌}
+use mathlib.Core.List.{List, [], ◌∷◌}
 use Prim.Native.Nat.{ℕ, zero, suc, ◌+◌, ◌*◌, ◌≤◌, ◌<◌}
 use native.Mathlib.Omega.{arith}
 use lib.ListN.{get_or}
@@ -19,6 +19,7 @@ use Rattle.grid.specs.Stages.Cells.In.{front, later}
 
 -- ---- numbers of a list
 pub all_in : (P : ℕ → Type 0) (l : List ℕ) → All P l → (x : ℕ) → In x l → P x
+all_in P [] a x i = elim i [ ]
 all_in P (y ∷ l) a x (front ys) = a.0
 all_in P (y ∷ l) a x (later z ys i) = all_in P l a.1 x i
 
@@ -48,6 +49,7 @@ module _ (p : ℕ → Bool) where
 
   of_keep : (a n x : ℕ) → In x (keep p (up_from a n)) → (x < a + n) × (p x ≡ true)
   unfolding up_from keep
+  of_keep a zero x i = elim i [ ]
   of_keep a (suc n) x i = go (λ j. of_keep (suc a) n x j) (p a) refl
     where
       less : (a n x : ℕ) → x < suc a + n → x < a + suc n

@@ -193,4 +193,4 @@ mag_small (pos n) = omega arith
 mag_small (negsuc n) = omega arith
 
 pub floor_back : (z : ℤ) (t : Float) → z ≡ floor_int t → lt (neg high) t ≡ true → lt t high ≡ true → to_z w64 (of_z w64 z) ≡ floor_int t
-floor_back z t e h k = to_z-of_z (record { sfits = omega (arith, mag_small z, floor_requires z t e h k) }) ∙ e
+floor_back z t e h k = to_z-of_z {w = w64} (record { sfits = omega (arith, mag_small z, floor_requires z t e h k) }) ∙ e

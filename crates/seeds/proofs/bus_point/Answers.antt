@@ -10,4 +10,4 @@ returns-then-is_finite-2 c = bus_at _ _ _ _ c.point_at-p.ensures (rw (sym c.is_f
 pub returns-else-is_finite : goal.returns-else-is_finite
 returns-else-is_finite c =
     bus_at _ _ _ _ c.point_at-p.ensures
-    (⊎_elim (λ w. rw (sym c.is_finite.ensures ∙ w.0.taken, sym w.1.ensures ∙ w.2.left)) (λ w. rw (sym c.is_finite.ensures ∙ w.left)) c.else-is_finite.branch)
+    (elim c.else-is_finite.branch [ then-is_finite w ↦ ? | else-is_finite w ↦ ? ])
