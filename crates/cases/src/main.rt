@@ -11,7 +11,12 @@ mod plane;
 mod text;
 mod words;
 
+use std::io;
+use std::io::Read;
 use text::line_end;
+
+// How much of the input is read.
+const MOST_BYTES: u64 = 524288;
 
 // How many tests were compared, and how many of them differ.
 #[derive(Clone, Copy)]
@@ -73,12 +78,9 @@ fn run(text: &[u8]) -> Tally {
     tally
 }
 
-fn main() {
-    let mut space = [0u8; 524288];
-    let n = io::read_full(0, &mut space);
-    let tally = run(&space[..n]);
-    io::print_decimal(1, tally.compared);
-    io::write_all(1, b" compared, ");
-    io::print_decimal(1, tally.differ);
-    io::write_all(1, b" differ\n");
+fn main(rt: HostRuntime) -> io::Result<()> {
+    let mut text = Vec::new(rt.alloc());
+    rt.reader().take(MOST_BYTES).read_to_end(&mut text)?;
+    let Tally { compared, differ } = run(&text);
+    println!(rt; "{compared} compared, {differ} differ")
 }

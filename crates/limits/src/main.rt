@@ -6,8 +6,8 @@
 mod call;
 
 use call::number_of;
-use libc::STDOUT_FILENO;
 use options::{Gaps, Options};
+use std::io;
 
 // The answer's number of n buses of one station at (0, 0).
 fn of_buses(n: usize) -> u32 {
@@ -60,27 +60,27 @@ fn of_distance(x: f64) -> u32 {
     of_two(Options::default(), x)
 }
 
-fn print(name: &[u8], number: u32) {
-    io::write_all(STDOUT_FILENO, name);
-    io::print_decimal(STDOUT_FILENO, number as u64);
-    io::write_all(STDOUT_FILENO, b"\n");
+fn print(rt: &impl Print, name: &str, number: u32) -> io::Result<()> {
+    println!(rt; "{name}{number}")
 }
 
-fn main() {
-    print(b"4096 buses: ", of_buses(4096));
-    print(b"4097 buses: ", of_buses(4097));
-    print(b"search 20: ", of_settings(20, 2.0, 1.0));
-    print(b"search 21: ", of_settings(21, 2.0, 1.0));
-    print(b"x 10^12: ", of_distance(1e12));
-    print(b"x the next float: ", of_distance(1000000000000.0001));
-    print(b"bar gap 0.5, buffer 8: ", of_settings(10, 0.5, 8.0));
-    print(b"bar gap 8, buffer 0.5: ", of_settings(10, 8.0, 0.5));
+fn main(rt: HostRuntime) -> io::Result<()> {
+    print(&rt, "4096 buses: ", of_buses(4096))?;
+    print(&rt, "4097 buses: ", of_buses(4097))?;
+    print(&rt, "search 20: ", of_settings(20, 2.0, 1.0))?;
+    print(&rt, "search 21: ", of_settings(21, 2.0, 1.0))?;
+    print(&rt, "x 10^12: ", of_distance(1e12))?;
+    print(&rt, "x the next float: ", of_distance(1000000000000.0001))?;
+    print(&rt, "bar gap 0.5, buffer 8: ", of_settings(10, 0.5, 8.0))?;
+    print(&rt, "bar gap 8, buffer 0.5: ", of_settings(10, 8.0, 0.5))?;
     print(
-        b"bar gap the float below 0.5: ",
+        &rt,
+        "bar gap the float below 0.5: ",
         of_settings(10, 0.49999999999999994, 1.0),
-    );
+    )?;
     print(
-        b"buffer the float above 8: ",
+        &rt,
+        "buffer the float above 8: ",
         of_settings(10, 2.0, 8.000000000000002),
-    );
+    )
 }

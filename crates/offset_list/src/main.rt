@@ -3,20 +3,25 @@
 
 mod table;
 
-ghost use Rattle.std.specs.Prelude.{◌≤◌, length};
+ghost use Rattle.std.specs.Prelude.{◌≤◌, length, OnOk};
+ghost use Rattle.std.specs.Io.KnownBytes.{Appends};
+ghost use Rattle.offset_rule.specs.Table.{table_pairs};
+ghost use Rattle.offset_lines.specs.Stages.Text.{offset_text};
 
-use libc::STDOUT_FILENO;
+use std::io;
+use std::io::Write;
 use table::print_table;
 
 // Writes the text of the table.
-fn run(out: &mut [u8])
+fn run<W: Write>(output: &mut W, out: &mut [u8]) -> io::Result<()>
     requires { 40348 ≤ length out.old }
+    ensures { OnOk result (Appends (W.contents output.old) (W.contents output.new) (offset_text table_pairs)) }
 {
     let count = print_table(out);
-    io::write_all(STDOUT_FILENO, &out[0..count]);
+    output.write_all(&out[..count])
 }
 
-fn main() {
+fn main(rt: HostRuntime) -> io::Result<()> {
     let mut out = [0u8; 40348];
-    run(&mut out);
+    run(&mut io::writer(&rt), &mut out)
 }

@@ -11,8 +11,13 @@ mod lists;
 mod text;
 mod words;
 
+use std::io;
+use std::io::Read;
 use text::line_end;
 use words::word_at;
+
+// How much of the input is read.
+const MOST_BYTES: u64 = 524288;
 
 const LAYOUT: u8 = 76;
 
@@ -61,33 +66,24 @@ fn run(text: &[u8], drawn: &mut [u64; 16], audited: &mut [u64; 16]) -> u64 {
 }
 
 // A line for each answer that came.
-fn print_counts(name: &[u8], counts: &[u64; 16]) {
-    let mut i = 0;
-    while i < 16 {
-        let n = counts[i];
-        if n != 0 {
-            io::write_all(1, name);
-            io::print_decimal(1, i as u64);
-            io::write_all(1, b": ");
-            io::print_decimal(1, n);
-            io::write_all(1, b" agree\n");
+fn print_counts(rt: &impl Print, name: &str, counts: &[u64; 16]) -> io::Result<()> {
+    for (i, n) in counts.iter().enumerate() {
+        if *n != 0 {
+            println!(rt; "{name}{i}: {n} agree")?;
         }
-        i += 1;
     }
+    Ok(())
 }
 
-fn main() {
-    let mut space = [0u8; 524288];
+fn main(rt: HostRuntime) -> io::Result<()> {
+    let mut text = Vec::new(rt.alloc());
     let mut drawn = [0u64; 16];
     let mut audited = [0u64; 16];
-    let n = io::read_full(0, &mut space);
-    let line = run(&space[..n], &mut drawn, &mut audited);
+    rt.reader().take(MOST_BYTES).read_to_end(&mut text)?;
+    let line = run(&text, &mut drawn, &mut audited);
     if line != 0 {
-        io::write_all(1, b"line ");
-        io::print_decimal(1, line);
-        io::write_all(1, b" differs\n");
-        return;
+        return println!(rt; "line {line} differs");
     }
-    print_counts(b"layout ", &drawn);
-    print_counts(b"audit ", &audited);
+    print_counts(&rt, "layout ", &drawn)?;
+    print_counts(&rt, "audit ", &audited)
 }
