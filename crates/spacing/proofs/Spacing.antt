@@ -8,6 +8,8 @@ use native.Mathlib.Nat.{le_of_suc-le-suc, not-suc-le-zero}
 use lib.ListN.{length, get_or, set, length-set, length-map}
 use lib.Seq.{get_or-set_same, get_or-set_other}
 use lib.Ieee.{Float, nan}
+use Rattle.float.specs.Ops.{◌⊕◌}
+use Rattle.float.specs.Small.{max_of, clamp_of}
 use Rattle.order.specs.Order.{up_from, key_at, rank}
 use Rattle.order.proofs.Laws.{length_up, rank_law, rank_below, place_law, below_sort}
 use Rattle.order.proofs.Merging.{length_sort}
@@ -18,12 +20,12 @@ module _ (c : Channel) where
   length_forward : (t : Float) (ws : List Float) → length (forward c t ws) ≡ length ws
   unfolding forward
   length_forward t [] = refl
-  length_forward t (w ∷ ws) = ap suc (length_forward _ ws)
+  length_forward t (w ∷ ws) = ap suc (length_forward (max_of (clamp_of w c.lo c.hi) (t ⊕ c.gap)) ws)
 
   pub length_forward_all : (ws : List Float) → length (forward_all c ws) ≡ length ws
   unfolding forward_all
   length_forward_all [] = refl
-  length_forward_all (w ∷ ws) = ap suc (length_forward _ ws)
+  length_forward_all (w ∷ ws) = ap suc (length_forward (clamp_of w c.lo c.hi) ws)
 
   length_back_one : (t : Float) (us : List Float) → length (back_one c t us) ≡ suc (length us)
   length_back_one t [] = refl

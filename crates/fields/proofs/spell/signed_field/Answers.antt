@@ -25,11 +25,11 @@ shape_of-out-then-n-lt0 c = c.number_field.auto.out ∙ simp length-set
 
 pub returns-then-n-lt0 : goal.returns-then-n-lt0
 returns-then-n-lt0 c =
-    let m = nat_abs (again (negsuc 0 -ℤ again c.args.n)) + 1 in let l = u32_places m (rest_more _ c.ranges.n c.if-n-lt0.true).fits in let both = put_after _ _ _ _ _ _ _ (minus_field _ c.ranges.n c.if-n-lt0.true _) c.number_field.ensures in record { upper_bound = omega (arith, c.number_field.ensures.value, number_length c.args.stop m, l); value = both.0; out_after = both.1 }
+    let m = nat_abs (again (negsuc 0 -ℤ again c.args.n)) + 1 in let l = u32_places m (rest_more _ c.ranges.n c.if-n-lt0.true).fits in let both = put_after _ _ _ _ _ _ _ (minus_field _ c.ranges.n c.if-n-lt0.true _) (c.number_field.ensures.value, c.number_field.ensures.out_after) in record { upper_bound = omega (arith, c.number_field.ensures.value, number_length c.args.stop m, l); value = both.0; out_after = both.1 }
 
 pub overflow_cast-n-2 : goal.overflow_cast-n-2
 overflow_cast-n-2 c = plus_cast _ c.ranges.n c.if-n-lt0.false
 
 pub returns : goal.returns
 returns c =
-    let m = nat_abs (again c.args.n) in let l = u32_places m (plus_cast _ c.ranges.n c.if-n-lt0.false).1.fits in let both = put_same _ _ _ _ _ _ (plus_field _ c.ranges.n c.if-n-lt0.false _) c.number_field-2.ensures in record { upper_bound = omega (arith, c.number_field-2.ensures.value, number_length c.args.stop m, l); value = both.0; out_after = both.1 }
+    let m = nat_abs (again c.args.n) in let l = u32_places m (plus_cast _ c.ranges.n c.if-n-lt0.false).1.fits in let both = put_same _ _ _ _ _ _ (plus_field _ c.ranges.n c.if-n-lt0.false _) (c.number_field-2.ensures.value, c.number_field-2.ensures.out_after) in record { upper_bound = omega (arith, c.number_field-2.ensures.value, number_length c.args.stop m, l); value = both.0; out_after = both.1 }
