@@ -13,7 +13,7 @@ pub(crate) fn clear_work(
     points: &mut [f64],
     path: &mut [f64],
 )
-    ensures { record { stations = stations.exit.now; index = index.new; spare = spare.new; keys = keys.new; points = points.new; path = path.new } ≡ cleared (record { stations = stations.entry.now; index = index.old; spare = spare.old; keys = keys.old; points = points.old; path = path.old }) }
+    ensures { record { stations = stations.new; index = index.new; spare = spare.new; keys = keys.new; points = points.new; path = path.new } ≡ cleared (record { stations = stations.old; index = index.old; spare = spare.old; keys = keys.old; points = points.old; path = path.old }) }
 {
     zero_u32(stations);
     zero_u32(index);

@@ -35,7 +35,7 @@ pub(crate) fn audited(
     requires sub_in_bounds { (station_count sub.now ≤ length displacement.old) × (station_count sub.now ≤ length spacing.old) × (length branches.now ≤ length relative.old) × (2 * length sub.now ≤ length points.old) × (2 * length sub.now ≤ length path.old) }
     requires sub_in_bounds_2 { (length sub.now ≤ length index.old) × (length sub.now ≤ length spare.old) × (length sub.now ≤ length keys.old) }
     ensures { Inner (drawn sub.now kv.now from.now to.now xy.now boxes.now roles.now pieces.now branches.now)
-        (record { displacement = displacement.entry.now; spacing = spacing.old; relative = relative.old }) result (record { displacement = displacement.exit.now; spacing = spacing.new; relative = relative.new }) }
+        (record { displacement = displacement.old; spacing = spacing.old; relative = relative.old }) result (record { displacement = displacement.new; spacing = spacing.new; relative = relative.new }) }
 {
     if !fits(sub, from, to, boxes, roles, pieces, branches) {
         return Audit::Refused(13);

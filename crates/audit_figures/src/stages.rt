@@ -41,7 +41,7 @@ pub fn figures_of(
     requires k_in_bounds_2 { (k ≤ length displacement.old) × (k ≤ length spacing.old) × (length branches.now ≤ length relative.old) × (2 * length sub.now ≤ length points.old) × (2 * length sub.now ≤ length path.old) }
     requires sub_in_bounds { (length sub.now ≤ length index.old) × (length sub.now ≤ length spare.old) × (length sub.now ≤ length keys.old) }
     ensures { Figured (drawn sub.now kv.now from.now to.now xy.now boxes.now roles.now pieces.now branches.now)
-        (record { displacement = displacement.entry.now; spacing = spacing.old; relative = relative.old }) result (record { displacement = displacement.exit.now; spacing = spacing.new; relative = relative.new }) }
+        (record { displacement = displacement.old; spacing = spacing.old; relative = relative.old }) result (record { displacement = displacement.new; spacing = spacing.new; relative = relative.new }) }
 {
     seeds(sub, xy, k, stations, points);
     displacements(k, stations, points, boxes, displacement);

@@ -20,8 +20,8 @@ pub fn clear_work(
     frames: &mut [f64],
     path: &mut [f64],
 )
-    ensures { record { stations = stations.exit.now; buses = buses.new; ends = ends.new; sorted = sorted.new; spare = spare.new; keys = keys.new; places = places.new; blocks = blocks.new; frames = frames.new; path = path.new }
-        ≡ cleared_work (record { stations = stations.entry.now; buses = buses.old; ends = ends.old; sorted = sorted.old; spare = spare.old; keys = keys.old; places = places.old; blocks = blocks.old; frames = frames.old; path = path.old }) }
+    ensures { record { stations = stations.new; buses = buses.new; ends = ends.new; sorted = sorted.new; spare = spare.new; keys = keys.new; places = places.new; blocks = blocks.new; frames = frames.new; path = path.new }
+        ≡ cleared_work (record { stations = stations.old; buses = buses.old; ends = ends.old; sorted = sorted.old; spare = spare.old; keys = keys.old; places = places.old; blocks = blocks.old; frames = frames.old; path = path.old }) }
 {
     zero_u32(stations);
     zero_u32(buses);

@@ -28,11 +28,11 @@ pub extern "C" fn tansygate_audit(
 ) -> Audited
     ensures { AuditAnswered
         (record { station = sub.now; kv = kv.now; from = from.now; to = to.now; xy = xy.now; boxes = boxes.now; roles = roles.now; pieces = pieces.now; branches = branches.now })
-        (record { displacement = displacement.entry.now; spacing = spacing.old; relative = relative.old })
-        (record { stations = stations.entry.now; index = index.old; spare = spare.old; keys = keys.old; points = points.old; path = path.old })
+        (record { displacement = displacement.old; spacing = spacing.old; relative = relative.old })
+        (record { stations = stations.old; index = index.old; spare = spare.old; keys = keys.old; points = points.old; path = path.old })
         (judged result
-        (record { displacement = displacement.exit.now; spacing = spacing.new; relative = relative.new })
-        (record { stations = stations.exit.now; index = index.new; spare = spare.new; keys = keys.new; points = points.new; path = path.new })) }
+        (record { displacement = displacement.new; spacing = spacing.new; relative = relative.new })
+        (record { stations = stations.new; index = index.new; spare = spare.new; keys = keys.new; points = points.new; path = path.new })) }
 {
     let a = tx_layout_quality(
         displacement,

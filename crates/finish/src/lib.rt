@@ -61,7 +61,7 @@ fn write(
     requires charted { Charted o (network sub.now kv.now from.now to.now service.now xy.now corners.now twins.now) k (crossing_room room) c.unit c.late stations.now buses.now ends.now blocks.now places.now frames.now path.old ways.now }
     requires indexed { Indexed (boxes_in k frames.now) (occupied (counts_in k stations.now)) sorted.now }
     requires late_value { c.late ≡ 0 }
-    ensures { Drew o (network sub.now kv.now from.now to.now service.now xy.now corners.now twins.now) (late (drawing o (network sub.now kv.now from.now to.now service.now xy.now corners.now twins.now)) room) (record { positions = positions.entry.now; bars = bars.old; boxes = boxes.old; scales = scales.old; roles = roles.old; pieces = pieces.old; branches = branches.old }) result (record { positions = positions.exit.now; bars = bars.new; boxes = boxes.new; scales = scales.new; roles = roles.new; pieces = pieces.new; branches = branches.new }) }
+    ensures { Drew o (network sub.now kv.now from.now to.now service.now xy.now corners.now twins.now) (late (drawing o (network sub.now kv.now from.now to.now service.now xy.now corners.now twins.now)) room) (record { positions = positions.old; bars = bars.old; boxes = boxes.old; scales = scales.old; roles = roles.old; pieces = pieces.old; branches = branches.old }) result (record { positions = positions.new; bars = bars.new; boxes = boxes.new; scales = scales.new; roles = roles.new; pieces = pieces.new; branches = branches.new }) }
 {
     let unit = c.unit;
     let gaps = o.gaps;
@@ -135,7 +135,7 @@ pub fn finish(
     requires sub_in_bounds { (2 * length sub.now ≤ length positions.old) × (4 * length sub.now ≤ length bars.old) × (4 * k ≤ length boxes.old) × (k ≤ length scales.old) × (length from.now ≤ length roles.old) × (room.pieces ≡ length pieces.old) × (room.branches ≡ length branches.old) }
     requires charted { Charted o (network sub.now kv.now from.now to.now service.now xy.now corners.now twins.now) k (crossing_room room) c.unit c.late stations.now buses.now ends.now blocks.now places.now frames.now path.old ways.now }
     requires indexed { Indexed (boxes_in k frames.now) (occupied (counts_in k stations.now)) sorted.now }
-    ensures { Drew o (network sub.now kv.now from.now to.now service.now xy.now corners.now twins.now) (late (drawing o (network sub.now kv.now from.now to.now service.now xy.now corners.now twins.now)) room) (record { positions = positions.entry.now; bars = bars.old; boxes = boxes.old; scales = scales.old; roles = roles.old; pieces = pieces.old; branches = branches.old }) result (record { positions = positions.exit.now; bars = bars.new; boxes = boxes.new; scales = scales.new; roles = roles.new; pieces = pieces.new; branches = branches.new }) }
+    ensures { Drew o (network sub.now kv.now from.now to.now service.now xy.now corners.now twins.now) (late (drawing o (network sub.now kv.now from.now to.now service.now xy.now corners.now twins.now)) room) (record { positions = positions.old; bars = bars.old; boxes = boxes.old; scales = scales.old; roles = roles.old; pieces = pieces.old; branches = branches.old }) result (record { positions = positions.new; bars = bars.new; boxes = boxes.new; scales = scales.new; roles = roles.new; pieces = pieces.new; branches = branches.new }) }
 {
     if c.late != 0 {
         return Answer::Refused(c.late);

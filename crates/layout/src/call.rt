@@ -65,12 +65,12 @@ pub fn tx_schematic_layout(
 ) -> Answer
     ensures { Answered o
         (record { station = sub.now; kv = kv.now; from = from.now; to = to.now; service = service.now; xy = xy.now; corners = corners.now; twins = twins.now })
-        (record { positions = positions.entry.now; bars = bars.old; boxes = boxes.old; scales = scales.old; roles = roles.old; pieces = pieces.old; branches = branches.old })
-        (record { stations = stations.entry.now; buses = buses.old; ends = ends.old; sorted = sorted.old; spare = spare.old; keys = keys.old; places = places.old; blocks = blocks.old; frames = frames.old; path = path.old })
+        (record { positions = positions.old; bars = bars.old; boxes = boxes.old; scales = scales.old; roles = roles.old; pieces = pieces.old; branches = branches.old })
+        (record { stations = stations.old; buses = buses.old; ends = ends.old; sorted = sorted.old; spare = spare.old; keys = keys.old; places = places.old; blocks = blocks.old; frames = frames.old; path = path.old })
         (crossings crossing_numbers.old crossing_places.old crossing_ways.old)
         (call result
-        (record { positions = positions.exit.now; bars = bars.new; boxes = boxes.new; scales = scales.new; roles = roles.new; pieces = pieces.new; branches = branches.new })
-        (record { stations = stations.exit.now; buses = buses.new; ends = ends.new; sorted = sorted.new; spare = spare.new; keys = keys.new; places = places.new; blocks = blocks.new; frames = frames.new; path = path.new })
+        (record { positions = positions.new; bars = bars.new; boxes = boxes.new; scales = scales.new; roles = roles.new; pieces = pieces.new; branches = branches.new })
+        (record { stations = stations.new; buses = buses.new; ends = ends.new; sorted = sorted.new; spare = spare.new; keys = keys.new; places = places.new; blocks = blocks.new; frames = frames.new; path = path.new })
         (crossings crossing_numbers.new crossing_places.new crossing_ways.new)) }
 {
     let room = Room {

@@ -30,9 +30,9 @@ pub fn draw_small(
 ) -> Answer
     requires { (station_room ≤ 128) × (crossing_room ≤ 128) }
     ensures { SmallCall o (network sub.now kv.now from.now to.now service.now xy.now corners.now twins.now)
-        (record { positions = positions.entry.now; bars = bars.old; boxes = boxes.old; scales = scales.old; roles = roles.old; pieces = pieces.old; branches = branches.old })
+        (record { positions = positions.old; bars = bars.old; boxes = boxes.old; scales = scales.old; roles = roles.old; pieces = pieces.old; branches = branches.old })
         station_room crossing_room result
-        (record { positions = positions.exit.now; bars = bars.new; boxes = boxes.new; scales = scales.new; roles = roles.new; pieces = pieces.new; branches = branches.new }) }
+        (record { positions = positions.new; bars = bars.new; boxes = boxes.new; scales = scales.new; roles = roles.new; pieces = pieces.new; branches = branches.new }) }
 {
     let mut stations = [0u32; 128];
     let mut buses = [0u32; 192];

@@ -43,9 +43,9 @@ fn audit_drawing(
     branches: &[u32],
 ) -> Audit
     requires { (4 * count ≤ length pieces.now) × (count ≤ length branches.now) }
-    ensures { Audited.call result (record { displacement = displacement.exit.now; spacing = spacing.new; relative = relative.new }) (record { stations = stations.exit.now; index = index.new; spare = spare.new; keys = keys.new; points = points.new; path = path.new })
+    ensures { Audited.call result (record { displacement = displacement.new; spacing = spacing.new; relative = relative.new }) (record { stations = stations.new; index = index.new; spare = spare.new; keys = keys.new; points = points.new; path = path.new })
         ≡ Audited.audit_of (audit_parts sub.now kv.now from.now to.now xy.now boxes.now roles.now pieces.now branches.now count)
-        (record { displacement = displacement.entry.now; spacing = spacing.old; relative = relative.old }) (record { stations = stations.entry.now; index = index.old; spare = spare.old; keys = keys.old; points = points.old; path = path.old }) }
+        (record { displacement = displacement.old; spacing = spacing.old; relative = relative.old }) (record { stations = stations.old; index = index.old; spare = spare.old; keys = keys.old; points = points.old; path = path.old }) }
 {
     let k = station_count(sub);
     let b = shorter(4 * k, boxes.len());
@@ -105,9 +105,9 @@ fn audit_answer(
     branches: &[u32],
 ) -> Checked
     requires { Holds a (length pieces.now) (length branches.now) }
-    ensures { check result (record { displacement = displacement.exit.now; spacing = spacing.new; relative = relative.new }) (record { stations = stations.exit.now; index = index.new; spare = spare.new; keys = keys.new; points = points.new; path = path.new })
+    ensures { check result (record { displacement = displacement.new; spacing = spacing.new; relative = relative.new }) (record { stations = stations.new; index = index.new; spare = spare.new; keys = keys.new; points = points.new; path = path.new })
         ≡ check_by a (audit_parts sub.now kv.now from.now to.now xy.now boxes.now roles.now pieces.now branches.now)
-        (record { displacement = displacement.entry.now; spacing = spacing.old; relative = relative.old }) (record { stations = stations.entry.now; index = index.old; spare = spare.old; keys = keys.old; points = points.old; path = path.old }) }
+        (record { displacement = displacement.old; spacing = spacing.old; relative = relative.old }) (record { stations = stations.old; index = index.old; spare = spare.old; keys = keys.old; points = points.old; path = path.old }) }
 {
     match a {
         Answer::Drawn(p) => {
@@ -173,12 +173,12 @@ pub fn draw_and_audit(
 ) -> Checked
     ensures { Claim o
         (record { station = sub.now; kv = kv.now; from = from.now; to = to.now; service = service.now; xy = xy.now; corners = corners.now; twins = twins.now })
-        (record { positions = positions.entry.now; bars = bars.old; boxes = boxes.old; scales = scales.old; roles = roles.old; pieces = pieces.old; branches = branches.old })
-        (record { stations = stations.entry.now; buses = buses.old; ends = ends.old; sorted = sorted.old; spare = spare.old; keys = keys.old; places = places.old; blocks = blocks.old; frames = frames.old; path = path.old })
+        (record { positions = positions.old; bars = bars.old; boxes = boxes.old; scales = scales.old; roles = roles.old; pieces = pieces.old; branches = branches.old })
+        (record { stations = stations.old; buses = buses.old; ends = ends.old; sorted = sorted.old; spare = spare.old; keys = keys.old; places = places.old; blocks = blocks.old; frames = frames.old; path = path.old })
         (crossings crossing_numbers.old crossing_places.old crossing_ways.old)
         (both result
-        (record { positions = positions.exit.now; bars = bars.new; boxes = boxes.new; scales = scales.new; roles = roles.new; pieces = pieces.new; branches = branches.new })
-        (record { stations = stations.exit.now; buses = buses.new; ends = ends.new; sorted = sorted.new; spare = spare.new; keys = keys.new; places = places.new; blocks = blocks.new; frames = frames.new; path = path.new })
+        (record { positions = positions.new; bars = bars.new; boxes = boxes.new; scales = scales.new; roles = roles.new; pieces = pieces.new; branches = branches.new })
+        (record { stations = stations.new; buses = buses.new; ends = ends.new; sorted = sorted.new; spare = spare.new; keys = keys.new; places = places.new; blocks = blocks.new; frames = frames.new; path = path.new })
         (crossings crossing_numbers.new crossing_places.new crossing_ways.new)) }
 {
     let a = tx_schematic_layout(

@@ -8,11 +8,9 @@ use Rattle.offset_lines.proofs.print.Goals as goal
 
 pub offset_lines-requires : goal.offset_lines-requires
 offset_lines-requires c =
-        let w = c.word-at in
-    let o = c.offset_order-count in
-    omega (arith, side_square (suc (2 * c.args.search)) (omega arith), o.ensures.0, w.ensures.0, w.auto.1.1.0, c.requires)
+                omega (arith, side_square (suc (2 * c.args.search)) (omega arith), c.offset_order-count.ensures.0, c.word-at.ensures.value, c.word-at.auto.out, c.requires)
 
 pub returns : goal.returns
 unfolding offset_names
 returns c =
-    let both = let w = c.word-at in let o = c.offset_order-count in let f = c.offset_lines in wrote_offsets _ _ _ _ _ _ _ o.ensures.1 w.ensures f.ensures.1 (omega (arith, side_square (suc (2 * c.args.search)) (omega arith), o.ensures.0, w.ensures.0, f.ensures.0, c.requires)) in record { value = both.0; out_after = both.1 }
+    let both = wrote_offsets _ _ _ _ _ _ _ c.offset_order-count.ensures.1 c.word-at.ensures c.offset_lines.ensures.1 (omega (arith, side_square (suc (2 * c.args.search)) (omega arith), c.offset_order-count.ensures.0, c.word-at.ensures.value, c.offset_lines.ensures.upper_bound, c.requires)) in record { value = both.0; out_after = both.1 }

@@ -10,18 +10,15 @@ pub placement_order-r-requires-clause-stations_value : goal.placement_order-r-re
 placement_order-r-requires-clause-stations_value c = c.requires.search_bound.3
 
 pub place_by_table-requires-clause-search_bound : goal.place_by_table-requires-clause-search_bound
-place_by_table-requires-clause-search_bound c = let o = c.placement_order-r in (c.requires.search_bound.0, o.ensures.0.1, c.requires.search_bound.1, omega (arith, o.auto.1.1.1.0, c.requires.k_in_bounds.0), c.requires.k_in_bounds.4, c.requires.k_in_bounds.5, c.requires.k_in_bounds.6, omega (arith, o.auto.1.1.1.1.0, c.requires.k_in_bounds.3), omega (arith, o.auto.1.1.1.1.1.0, c.requires.k_in_bounds.1))
+place_by_table-requires-clause-search_bound c = (c.requires.search_bound.0, c.placement_order-r.ensures.value.1, c.requires.search_bound.1, omega (arith, c.placement_order-r.auto.stations, c.requires.k_in_bounds.0), c.requires.k_in_bounds.4, c.requires.k_in_bounds.5, c.requires.k_in_bounds.6, omega (arith, c.placement_order-r.auto.keys, c.requires.k_in_bounds.3), omega (arith, c.placement_order-r.auto.sorted, c.requires.k_in_bounds.1))
 
 pub place_by_table-requires-clause-turns : goal.place_by_table-requires-clause-turns
-place_by_table-requires-clause-turns c = let o = c.placement_order-r in o.ensures.1.1.0
+place_by_table-requires-clause-turns c = c.placement_order-r.ensures.turns
 
 pub station_boxes-requires : goal.station_boxes-requires
 station_boxes-requires c =
-    let o = c.placement_order-r in
-    let p = c.place_by_table in
-        (omega (arith, o.auto.1.1.1.0, c.requires.k_in_bounds.0), c.requires.k_in_bounds.4, omega (arith, p.auto.1.1.1.1.1.1.0, c.requires.k_in_bounds.5), omega (arith, p.auto.1.1.1.1.1.1.1.0, c.requires.k_in_bounds.6))
+                (omega (arith, c.placement_order-r.auto.stations, c.requires.k_in_bounds.0), c.requires.k_in_bounds.4, omega (arith, c.place_by_table.auto.places, c.requires.k_in_bounds.5), omega (arith, c.place_by_table.auto.boxes, c.requires.k_in_bounds.6))
 
 pub returns : goal.returns
 returns c =
-    let o = c.placement_order-r in
-    settled_joined _ _ _ _ _ _ _ _ _ _ _ o.ensures.1.1.1 o.ensures.1.0 c.place_by_table.ensures c.station_boxes.ensures
+        settled_joined _ _ _ _ _ _ _ _ _ _ _ c.placement_order-r.ensures.stations_after_2 c.placement_order-r.ensures.stations_after c.place_by_table.ensures c.station_boxes.ensures

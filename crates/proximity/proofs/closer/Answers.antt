@@ -9,7 +9,7 @@ pub returns-then-best-longer : goal.returns-then-best-longer
 returns-then-best-longer c = nearer_keeps _ _ (c.longer.ensures.bound _ c.if-best-longer.true)
 
 pub returns-then-abs : goal.returns-then-abs
-returns-then-abs c = let g = c.well_formed in nearer_zero _ _ _ (subst T (sym g.1.0.1) tt) (subst T (sym g.1.1.0.1) tt) (rw (c.abs.ensures, c.abs-2.ensures) at c.if-abs.true)
+returns-then-abs c = nearer_zero _ _ _ (subst T (sym c.well_formed.1.0.1) tt) (subst T (sym c.well_formed.1.1.0.1) tt) (rw (c.abs.ensures, c.abs-2.ensures) at c.if-abs.true)
 
 pub returns-then-d : goal.returns-then-d
 unfolding nearer

@@ -8,7 +8,7 @@ pub returns-then-radius-longer : goal.returns-then-radius-longer
 returns-then-radius-longer c = sym (c.longer.ensures.bound _ c.if-radius-longer.true)
 
 pub returns-then-abs-radius : goal.returns-then-abs-radius
-returns-then-abs-radius c = let g = c.well_formed in sym (near_under _ _ _ (subst T (sym g.0.1) tt) (subst T (sym g.1.0.1) tt) (rw (c.abs.ensures, c.abs-2.ensures) at c.if-abs-radius.true))
+returns-then-abs-radius c = sym (near_under _ _ _ (subst T (sym c.well_formed.0.1) tt) (subst T (sym c.well_formed.1.0.1) tt) (rw (c.abs.ensures, c.abs-2.ensures) at c.if-abs-radius.true))
 
 pub returns : goal.returns
 returns c = simp c.hypot.ensures

@@ -61,7 +61,7 @@ loop-s-preserved c = let v = c.loop-s.invariant in
     )
 
 pub returns-clause-blocks_after : goal.returns-clause-blocks_after
-returns-clause-blocks_after c = let v = c.loop-s.invariant in let a = c.args in let e : c.loop-s.s ≡ a.k = omega arith in cc (e, v.4, scales_end a.o a.path.now a.n a.spacing a.k a.stations.now)
+returns-clause-blocks_after c = let v = c.loop-s.invariant in let e : c.loop-s.s ≡ c.args.k = omega arith in cc (e, v.4, scales_end c.args.o c.args.path.now c.args.n c.args.spacing c.args.k c.args.stations.now)
 
 pub returns-clause-blocks_unchanged : goal.returns-clause-blocks_unchanged
-returns-clause-blocks_unchanged c = let v = c.loop-s.invariant in let a = c.args in let e : c.loop-s.s ≡ a.k = omega arith in v.5
+returns-clause-blocks_unchanged c = let v = c.loop-s.invariant in let e : c.loop-s.s ≡ c.args.k = omega arith in v.5

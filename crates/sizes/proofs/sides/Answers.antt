@@ -26,4 +26,4 @@ loop-s-preserved c =
     (omega arith, v.1, omega arith, v.3 ∙ ap (sides _) (passed_no _ _ _ h c.if-stations-s-gt0.false))
 
 pub returns-clause-frames_after : goal.returns-clause-frames_after
-returns-clause-frames_after c = let v = c.loop-s.invariant in let a = c.args in let e : c.loop-s.s ≡ a.k = omega arith in cc (e, v.3, passed_all a.k a.stations.now)
+returns-clause-frames_after c = let v = c.loop-s.invariant in let e : c.loop-s.s ≡ c.args.k = omega arith in cc (e, v.3, passed_all c.args.k c.args.stations.now)

@@ -34,7 +34,7 @@ loop-s-preserved c =
     (omega arith, v.1, omega arith, count_no _ _ _ h _ c.if-stations-s-gt0.false v.3, v.4 ∙ ap (coordinates _) (passed_no _ _ _ h c.if-stations-s-gt0.false))
 
 pub returns-clause-path_after : goal.returns-clause-path_after
-returns-clause-path_after c = let v = c.loop-s.invariant in let a = c.args in let e : c.loop-s.s ≡ a.k = omega arith in cc (e, v.4, passed_all a.k a.stations.now)
+returns-clause-path_after c = let v = c.loop-s.invariant in let e : c.loop-s.s ≡ c.args.k = omega arith in cc (e, v.4, passed_all c.args.k c.args.stations.now)
 
 pub returns-clause-value : goal.returns-clause-value
-returns-clause-value c = let v = c.loop-s.invariant in let a = c.args in let e : c.loop-s.s ≡ a.k = omega arith in cc (e, v.3, count_all a.k a.stations.now)
+returns-clause-value c = let v = c.loop-s.invariant in let e : c.loop-s.s ≡ c.args.k = omega arith in cc (e, v.3, count_all c.args.k c.args.stations.now)

@@ -22,7 +22,7 @@ shape_of-live-then-text-i c = c.loop-n.invariant.lives.size
 pub returns-then-text-i : goal.returns-then-text-i
 unfolding block_of
 returns-then-text-i c =
-    let both = branches_ended _ _ _ _ _ c.loop-n.invariant c.if-text-i.true in record { text_value = both.0; from_after = both.1; to_after = both.2; live_after = both.3 }
+    let both = branches_ended _ _ _ _ _ c.loop-n.invariant c.if-text-i.true in record { text_value = both.0; from_after = both.1.0; to_after = both.1.1.0; live_after = both.1.1.1 }
 
 pub put_branch-requires : goal.put_branch-requires
 put_branch-requires c = (omega (arith, c.loop-n.invariant.froms.size, c.requires), omega (arith, c.loop-n.invariant.tos.size, c.requires), omega (arith, c.loop-n.invariant.lives.size, c.requires))
@@ -43,7 +43,7 @@ shape_of-live-in-Wrong c = c.loop-n.invariant.lives.size
 pub returns-in-Wrong : goal.returns-in-Wrong
 unfolding block_of branch_of
 returns-in-Wrong c =
-    let both = branches_wrong _ _ _ _ _ c.loop-n.invariant c.loop-n-test.true c.if-text-i.false (known (branch_of _) c.branch_line.ensures c.in-Wrong.is) in record { text_value = both.0; from_after = both.1; to_after = both.2; live_after = both.3 }
+    let both = branches_wrong _ _ _ _ _ c.loop-n.invariant c.loop-n-test.true c.if-text-i.false (known (branch_of _) c.branch_line.ensures c.in-Wrong.is) in record { text_value = both.0; from_after = both.1.0; to_after = both.1.1.0; live_after = both.1.1.1 }
 
 pub shape_of-from-then-text-i-2 : goal.shape_of-from-then-text-i-2
 shape_of-from-then-text-i-2 c = c.loop-n.invariant.froms.size
@@ -57,7 +57,7 @@ shape_of-live-then-text-i-2 c = c.loop-n.invariant.lives.size
 pub returns-then-text-i-2 : goal.returns-then-text-i-2
 unfolding block_of
 returns-then-text-i-2 c =
-    let both = branches_ended _ _ _ _ _ c.loop-n.invariant c.if-text-i-2.true in record { text_value = both.0; from_after = both.1; to_after = both.2; live_after = both.3 }
+    let both = branches_ended _ _ _ _ _ c.loop-n.invariant c.if-text-i-2.true in record { text_value = both.0; from_after = both.1.0; to_after = both.1.1.0; live_after = both.1.1.1 }
 
 pub shape_of-from : goal.shape_of-from
 shape_of-from c = c.loop-n.invariant.froms.size
@@ -71,4 +71,4 @@ shape_of-live c = c.loop-n.invariant.lives.size
 pub returns : goal.returns
 unfolding block_of
 returns c =
-    let both = branches_over _ _ _ _ _ c.loop-n.invariant c.loop-n-test.false c.if-text-i-2.false in record { text_value = both.0; from_after = both.1; to_after = both.2; live_after = both.3 }
+    let both = branches_over _ _ _ _ _ c.loop-n.invariant c.loop-n-test.false c.if-text-i-2.false in record { text_value = both.0; from_after = both.1.0; to_after = both.1.1.0; live_after = both.1.1.1 }

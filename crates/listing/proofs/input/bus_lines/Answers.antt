@@ -24,7 +24,7 @@ shape_of-xy-then-at_names c = c.loop-n.invariant.xys.size
 pub returns-then-at_names : goal.returns-then-at_names
 unfolding block_of
 returns-then-at_names c =
-    let both = buses_ended _ _ _ _ _ c.loop-n.invariant (sym c.at_names.ensures ∙ c.if-at_names.true) in record { text_value = both.0; sub_after = both.1; kv_after = both.2; xy_after = both.3 }
+    let both = buses_ended _ _ _ _ _ c.loop-n.invariant (sym c.at_names.ensures ∙ c.if-at_names.true) in record { text_value = both.0; sub_after = both.1.0; kv_after = both.1.1.0; xy_after = both.1.1.1 }
 
 pub put_bus-requires : goal.put_bus-requires
 put_bus-requires c = (omega (arith, c.loop-n.invariant.subs.size, c.requires), omega (arith, c.loop-n.invariant.kvs.size, c.requires), omega (arith, c.loop-n.invariant.xys.size, c.requires))
@@ -45,7 +45,7 @@ shape_of-xy-in-Wrong c = c.loop-n.invariant.xys.size
 pub returns-in-Wrong : goal.returns-in-Wrong
 unfolding block_of bus_of
 returns-in-Wrong c =
-    let both = buses_wrong _ _ _ _ _ c.loop-n.invariant c.loop-n-test.true (sym c.at_names.ensures ∙ c.if-at_names.false) (known (bus_of _) c.bus_line.ensures c.in-Wrong.is) in record { text_value = both.0; sub_after = both.1; kv_after = both.2; xy_after = both.3 }
+    let both = buses_wrong _ _ _ _ _ c.loop-n.invariant c.loop-n-test.true (sym c.at_names.ensures ∙ c.if-at_names.false) (known (bus_of _) c.bus_line.ensures c.in-Wrong.is) in record { text_value = both.0; sub_after = both.1.0; kv_after = both.1.1.0; xy_after = both.1.1.1 }
 
 pub overflow_add-result-then-at_names-2 : goal.overflow_add-result-then-at_names-2
 overflow_add-result-then-at_names-2 c = omega (arith, names_room c.args.text.now c.loop-n.i (sym c.at_names-2.ensures ∙ c.if-at_names-2.true), c.well_formed.0.0)
@@ -62,7 +62,7 @@ shape_of-xy-then-at_names-2 c = c.loop-n.invariant.xys.size
 pub returns-then-at_names-2 : goal.returns-then-at_names-2
 unfolding block_of
 returns-then-at_names-2 c =
-    let both = buses_ended _ _ _ _ _ c.loop-n.invariant (sym c.at_names-2.ensures ∙ c.if-at_names-2.true) in record { text_value = both.0; sub_after = both.1; kv_after = both.2; xy_after = both.3 }
+    let both = buses_ended _ _ _ _ _ c.loop-n.invariant (sym c.at_names-2.ensures ∙ c.if-at_names-2.true) in record { text_value = both.0; sub_after = both.1.0; kv_after = both.1.1.0; xy_after = both.1.1.1 }
 
 pub shape_of-sub : goal.shape_of-sub
 shape_of-sub c = c.loop-n.invariant.subs.size
@@ -76,4 +76,4 @@ shape_of-xy c = c.loop-n.invariant.xys.size
 pub returns : goal.returns
 unfolding block_of
 returns c =
-    let both = buses_over _ _ _ _ _ c.loop-n.invariant c.loop-n-test.false (sym c.at_names-2.ensures ∙ c.if-at_names-2.false) in record { text_value = both.0; sub_after = both.1; kv_after = both.2; xy_after = both.3 }
+    let both = buses_over _ _ _ _ _ c.loop-n.invariant c.loop-n-test.false (sym c.at_names-2.ensures ∙ c.if-at_names-2.false) in record { text_value = both.0; sub_after = both.1.0; kv_after = both.1.1.0; xy_after = both.1.1.1 }

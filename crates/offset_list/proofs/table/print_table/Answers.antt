@@ -5,4 +5,4 @@ use Rattle.offset_list.proofs.table.print_table.Goals as goal
 
 pub returns : goal.returns
 returns c =
-    let both = let p = c.print in printed _ _ _ _ _ generated_text p.ensures.0 p.ensures.1 in record { value = both.0; out_after = both.1 }
+    let both = printed _ _ _ _ _ generated_text c.print.ensures.value c.print.ensures.out_after in record { value = both.0; out_after = both.1 }

@@ -25,15 +25,14 @@ place_station-most-requires-clause-holds c = let h : get_or c.args.stations.now 
 
 pub loop-p-preserved : goal.loop-p-preserved
 loop-p-preserved c =
-            let t = c.place_station-most in
-    let h : c.loop-p.p < length (order_in c.args.r c.args.stations.now) = rw (length_strided 2 1 0 c.args.r c.args.stations.now) (omega (arith, c.loop-p-test.true)) in (
+                let h : c.loop-p.p < length (order_in c.args.r c.args.stations.now) = rw (length_strided 2 1 0 c.args.r c.args.stations.now) (omega (arith, c.loop-p-test.true)) in (
       omega (arith, c.loop-p-test.true),
-      omega (arith, t.auto, c.loop-p.invariant.1),
-      omega (arith, t.auto, c.loop-p.invariant.2),
-      omega (arith, t.auto, c.loop-p.invariant.3),
-      omega (arith, t.auto, c.loop-p.invariant.4),
+      omega (arith, c.place_station-most.auto, c.loop-p.invariant.1),
+      omega (arith, c.place_station-most.auto, c.loop-p.invariant.2),
+      omega (arith, c.place_station-most.auto, c.loop-p.invariant.3),
+      omega (arith, c.place_station-most.auto, c.loop-p.invariant.4),
       placed_more c.args.m c.args.k c.args.blocks.now _ _ _ c.requires.turns c.loop-p.p _ h (sym (get_d_strided 2 1 0 c.args.r c.loop-p.p c.args.stations.now 0 (omega (arith, c.loop-p-test.true))))
-          _ _ _ _ _ _ _ _ _ _ (omega (arith, c.requires.search_bound, c.loop-p.invariant.1)) (omega (arith, c.requires.search_bound, c.loop-p.invariant.2)) t.ensures c.loop-p.invariant.5,
+          _ _ _ _ _ _ _ _ _ _ (omega (arith, c.requires.search_bound, c.loop-p.invariant.1)) (omega (arith, c.requires.search_bound, c.loop-p.invariant.2)) c.place_station-most.ensures c.loop-p.invariant.5,
     )
 
 pub returns : goal.returns

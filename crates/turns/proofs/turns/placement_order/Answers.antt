@@ -30,4 +30,4 @@ put_order-requires c =
 
 pub returns : goal.returns
 returns c =
-    let both = order_found c.args.sub.now c.args.kv.now c.args.k c.args.stations.now _ c.list_occupied-r.new.keys c.top_keys.new.keys _ _ _ _ c.requires.stations_value c.list_occupied-r.ensures c.sort_part.ensures.order_after c.top_keys.ensures c.sort_part-2.ensures.order_after c.put_order.ensures.stations_after c.put_order.ensures.by_index in record { value = both.0; stations_after = both.1; turns = both.2; stations_after_2 = both.3 }
+    let both = order_found c.args.sub.now c.args.kv.now c.args.k c.args.stations.now _ c.list_occupied-r.new.keys c.top_keys.new.keys _ _ _ _ c.requires.stations_value c.list_occupied-r.ensures c.sort_part.ensures.order_after c.top_keys.ensures c.sort_part-2.ensures.order_after c.put_order.ensures.stations_after c.put_order.ensures.by_index in record { value = both.0; stations_after = both.1.0; turns = both.1.1.0; stations_after_2 = both.1.1.1 }
