@@ -99,4 +99,4 @@ pub shape_of-crossing_ways : goal.shape_of-crossing_ways
 shape_of-crossing_ways c = c.clear_crossings.auto.ways ∙ c.chart-c.auto.ways
 
 pub returns : goal.returns
-returns c = call_late_lem c.args.o (network c.args.sub.now c.args.kv.now c.args.from.now c.args.to.now c.args.service.now c.args.xy.now c.args.corners.now c.args.twins.now) (lists c.args.positions.now c.args.bars.now c.args.boxes.now c.args.scales.now c.args.roles.now c.args.pieces.now c.args.branches.now) _ (work c.args.stations.now c.args.buses.now c.args.ends.now c.args.sorted.now c.args.spare.now c.args.keys.now c.args.places.now c.args.blocks.now c.args.frames.now c.args.path.now) _ _ (crossings c.args.crossing-numbers.now c.args.crossing-places.now c.args.crossing-ways.now) _ _ _ (sym c.if-r-ne0.false ∙ c.refusal_of_input-r.ensures) c.finish-a.ensures c.clear_work.ensures (record { stations = c.chart-c.auto.stations; buses = c.chart-c.auto.buses; ends = c.chart-c.auto.ends; sorted = c.chart-c.auto.sorted; spare = c.chart-c.auto.spare; keys = c.chart-c.auto.keys; places = c.chart-c.auto.places; blocks = c.chart-c.auto.blocks; frames = c.chart-c.auto.frames; path = c.finish-a.auto.path ∙ c.chart-c.auto.path }) c.clear_crossings.ensures (record { numbers = c.chart-c.auto.numbers; places = c.chart-c.auto.along; ways = c.chart-c.auto.ways })
+returns c = call_late_lem c.args.o (network c.args.sub.now c.args.kv.now c.args.from.now c.args.to.now c.args.service.now c.args.xy.now c.args.corners.now c.args.twins.now) (lists c.args.positions.now c.args.bars.now c.args.boxes.now c.args.scales.now c.args.roles.now c.args.pieces.now c.args.branches.now) _ (work c.args.stations.now c.args.buses.now c.args.ends.now c.args.sorted.now c.args.spare.now c.args.keys.now c.args.places.now c.args.blocks.now c.args.frames.now c.args.path.now) _ _ (crossings c.args.crossing_numbers.now c.args.crossing_places.now c.args.crossing_ways.now) _ _ _ (sym c.if-r-ne0.false ∙ c.refusal_of_input-r.ensures) c.finish-a.ensures c.clear_work.ensures (record { stations = c.chart-c.auto.stations; buses = c.chart-c.auto.buses; ends = c.chart-c.auto.ends; sorted = c.chart-c.auto.sorted; spare = c.chart-c.auto.spare; keys = c.chart-c.auto.keys; places = c.chart-c.auto.places; blocks = c.chart-c.auto.blocks; frames = c.chart-c.auto.frames; path = c.finish-a.auto.path ∙ c.chart-c.auto.path }) c.clear_crossings.ensures (record { numbers = c.chart-c.auto.numbers; places = c.chart-c.auto.along; ways = c.chart-c.auto.ways })

@@ -10,7 +10,7 @@ pub piece_line-p-requires : goal.piece_line-p-requires
 piece_line-p-requires c = omega (arith, c.loop-i.invariant.room, c.loop-i.invariant.size, c.requires, c.well_formed)
 
 pub loop-i-preserved : goal.loop-i-preserved
-loop-i-preserved c = listed_more _ _ _ _ _ _ _ _ _ _ c.loop-i.invariant c.loop-i-test.true c.piece_line-p.auto.out c.piece_line-p.ensures.upper_bound c.piece_line-p.ensures.1
+loop-i-preserved c = listed_more _ _ _ _ _ _ _ _ _ _ c.loop-i.invariant c.loop-i-test.true c.piece_line-p.auto.out c.piece_line-p.ensures.upper_bound (c.piece_line-p.ensures.value, c.piece_line-p.ensures.out_after)
 
 pub shape_of-out : goal.shape_of-out
 shape_of-out c = c.loop-i.invariant.size

@@ -9,4 +9,4 @@ float_field-requires c = omega (arith, c.float_field-p.ensures.value, float_leng
 
 pub returns : goal.returns
 returns c =
-    let both = wrote_point _ _ _ _ _ _ _ _ _ _ _ c.number_at.ensures c.number_at-2.ensures c.float_field-p.ensures c.float_field.ensures in record { value = both.0; out_after = both.1 }
+    let both = wrote_point _ _ _ _ _ _ _ _ _ _ _ c.number_at.ensures c.number_at-2.ensures (c.float_field-p.ensures.value, c.float_field-p.ensures.out_after) (c.float_field.ensures.value, c.float_field.ensures.out_after) in record { value = both.0; out_after = both.1 }

@@ -7,4 +7,4 @@ use Rattle.listing.proofs.output.print_refusal.Goals as goal
 pub returns : goal.returns
 unfolding refusal
 returns c =
-    let both = wrote_text _ _ _ _ _ _ _ c.word-at.ensures c.number_field.ensures (omega (arith, c.word-at.ensures.value, c.number_field.ensures.value, number_room 10 c.args.number c.ranges.number.fits, c.requires)) in record { value = both.0; out_after = both.1 }
+    let both = wrote_text _ _ _ _ _ _ _ (c.word-at.ensures.value, c.word-at.ensures.out_after) (c.number_field.ensures.value, c.number_field.ensures.out_after) (omega (arith, c.word-at.ensures.value, c.number_field.ensures.value, number_room 10 c.args.number c.ranges.number.fits, c.requires)) in record { value = both.0; out_after = both.1 }

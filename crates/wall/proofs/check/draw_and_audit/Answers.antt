@@ -69,4 +69,4 @@ pub shape_of-crossing_ways : goal.shape_of-crossing_ways
 shape_of-crossing_ways c = c.audit_answer.auto.relative ∙ c.tx_schematic_layout-a.auto.crossing_ways
 
 pub returns : goal.returns
-returns c = claim_both c.args.o (network c.args.sub.now c.args.kv.now c.args.from.now c.args.to.now c.args.service.now c.args.xy.now c.args.corners.now c.args.twins.now) (lists c.args.positions.now c.args.bars.now c.args.boxes.now c.args.scales.now c.args.roles.now c.args.pieces.now c.args.branches.now) (work c.args.stations.now c.args.buses.now c.args.ends.now c.args.sorted.now c.args.spare.now c.args.keys.now c.args.places.now c.args.blocks.now c.args.frames.now c.args.path.now) (crossings c.args.crossing-numbers.now c.args.crossing-places.now c.args.crossing-ways.now) (λ i. (c.shared_slice_known-2-1.given i).fits) _ (lists c.tx_schematic_layout-a.new.positions c.tx_schematic_layout-a.new.bars c.tx_schematic_layout-a.new.boxes c.tx_schematic_layout-a.new.scales c.tx_schematic_layout-a.new.roles c.tx_schematic_layout-a.new.pieces c.tx_schematic_layout-a.new.branches) (work c.tx_schematic_layout-a.new.stations c.tx_schematic_layout-a.new.buses c.tx_schematic_layout-a.new.ends c.tx_schematic_layout-a.new.sorted c.tx_schematic_layout-a.new.spare c.tx_schematic_layout-a.new.keys c.tx_schematic_layout-a.new.places c.tx_schematic_layout-a.new.blocks c.tx_schematic_layout-a.new.frames c.tx_schematic_layout-a.new.path) (crossings c.tx_schematic_layout-a.new.crossing_numbers c.tx_schematic_layout-a.new.crossing_places c.tx_schematic_layout-a.new.crossing_ways) c.tx_schematic_layout-a.ensures _ c.audit_answer.ensures
+returns c = claim_both c.args.o (network c.args.sub.now c.args.kv.now c.args.from.now c.args.to.now c.args.service.now c.args.xy.now c.args.corners.now c.args.twins.now) (lists c.args.positions.now c.args.bars.now c.args.boxes.now c.args.scales.now c.args.roles.now c.args.pieces.now c.args.branches.now) (work c.args.stations.now c.args.buses.now c.args.ends.now c.args.sorted.now c.args.spare.now c.args.keys.now c.args.places.now c.args.blocks.now c.args.frames.now c.args.path.now) (crossings c.args.crossing_numbers.now c.args.crossing_places.now c.args.crossing_ways.now) (λ i. (c.shared_slice_known-2-1.given i).fits) _ (lists c.tx_schematic_layout-a.new.positions c.tx_schematic_layout-a.new.bars c.tx_schematic_layout-a.new.boxes c.tx_schematic_layout-a.new.scales c.tx_schematic_layout-a.new.roles c.tx_schematic_layout-a.new.pieces c.tx_schematic_layout-a.new.branches) (work c.tx_schematic_layout-a.new.stations c.tx_schematic_layout-a.new.buses c.tx_schematic_layout-a.new.ends c.tx_schematic_layout-a.new.sorted c.tx_schematic_layout-a.new.spare c.tx_schematic_layout-a.new.keys c.tx_schematic_layout-a.new.places c.tx_schematic_layout-a.new.blocks c.tx_schematic_layout-a.new.frames c.tx_schematic_layout-a.new.path) (crossings c.tx_schematic_layout-a.new.crossing_numbers c.tx_schematic_layout-a.new.crossing_places c.tx_schematic_layout-a.new.crossing_ways) c.tx_schematic_layout-a.ensures _ c.audit_answer.ensures
