@@ -1,4 +1,5 @@
 -- Answers for `listing::input::branch_lines`.
+use borrow.Author.Rules.{rules}
 use mathlib.Core.Path.{◌∙◌}
 use native.Mathlib.Omega.{arith}
 use Rattle.listing.specs.LinePlaces.{branch_of, block_of}
@@ -29,7 +30,7 @@ put_branch-requires c = (omega (arith, c.loop-n.invariant.froms.size, c.requires
 
 pub loop-n-preserved : goal.loop-n-preserved
 unfolding branch_of
-loop-n-preserved c = one_branch _ _ _ _ _ c.loop-n.invariant c.requires c.loop-n-test.true c.if-text-i.false _ _ (known (branch_of _) c.branch_line.ensures c.in-Branch.is) (c.put_branch.ensures.from_after ∙ set_exact c.loop-n.from c.loop-n.n c.in-Branch.f ?) (c.put_branch.ensures.to_after ∙ set_exact c.loop-n.to c.loop-n.n c.in-Branch.t ?) c.put_branch.ensures.live_after
+loop-n-preserved c = one_branch _ _ _ _ _ c.loop-n.invariant c.requires c.loop-n-test.true c.if-text-i.false _ _ (known (branch_of _) c.branch_line.ensures c.in-Branch.is) (c.put_branch.ensures.from_after ∙ set_exact c.loop-n.from c.loop-n.n c.in-Branch.f (search rules)) (c.put_branch.ensures.to_after ∙ set_exact c.loop-n.to c.loop-n.n c.in-Branch.t (search rules)) c.put_branch.ensures.live_after
 
 pub shape_of-from-in-Wrong : goal.shape_of-from-in-Wrong
 shape_of-from-in-Wrong c = c.loop-n.invariant.froms.size

@@ -1,4 +1,5 @@
 -- Answers for `listing::line::branch_line`.
+use borrow.Author.Rules.{rules}
 use mathlib.Core.Path.{◌∙◌}
 use Prim.Native.Nat.{◌^◌, ◌-◌}
 use native.Mathlib.Omega.{arith}
@@ -28,4 +29,4 @@ overflow_cast-result c = omega (arith, whole_most 10 (2 ^ 8 - 1) _ _ _ (known (f
 
 pub returns : goal.returns
 unfolding branch_line branch_of field_of signed_of
-returns c = then_got _ (known (signed_of _) c.bus_number.ensures c.in-Number.is) ∙ then_got _ (known (signed_of _) c.bus_number-2.ensures c.in-Number-bus_number.is) ∙ then_got _ (known (field_of _) c.whole.ensures c.in-Value.is) ∙ branch_exact _ _ _ _ ? ?
+returns c = then_got _ (known (signed_of _) c.bus_number.ensures c.in-Number.is) ∙ then_got _ (known (signed_of _) c.bus_number-2.ensures c.in-Number-bus_number.is) ∙ then_got _ (known (field_of _) c.whole.ensures c.in-Value.is) ∙ branch_exact _ _ _ _ (search rules) (search rules)
