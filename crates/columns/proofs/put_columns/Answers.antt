@@ -13,10 +13,10 @@ loop-i-init c = (omega arith, refl, side_zero _ _ _ _)
 
 pub loop-i-preserved : goal.loop-i-preserved
 loop-i-preserved c =
-        (omega arith, simp length-set c.loop-i.invariant.1, side_next _ _ _ _ _ _ _ (omega arith) (omega arith) (omega arith) refl c.loop-i.invariant.2)
+    (omega arith, simp length-set c.loop-i.invariant.1, side_next _ _ _ _ _ _ _ (omega arith) (omega arith) (omega arith) refl c.loop-i.invariant.2)
 
 pub returns : goal.returns
 returns c =
-        let e : c.loop-i.i ≡ c.args.n = omega arith in
+    let e : c.loop-i.i ≡ c.args.n = omega arith in
     subst (λ (j : ℕ). strided 3 0 0 j c.loop-i.buses ≡ table (key_at c.args.places.now) j) e c.loop-i.invariant.2
     ∙ sym (front_table c.args.n c.args.places.now (omega (arith, c.requires)))

@@ -9,4 +9,4 @@ returns-then-parallel c = simp (← c.parallel.ensures, c.if-parallel.true)
 pub returns : goal.returns
 unfolding param
 returns c =
-        simp (c.clamp.ensures, ← c.parallel.ensures, c.if-parallel.false)
+    simp (c.clamp.ensures, ← c.parallel.ensures, c.if-parallel.false)

@@ -31,7 +31,7 @@ overflow_add-j c = omega (arith, c.loop-j-test.true, c.well_formed, c.ranges)
 
 pub loop-j-preserved-then-is_inside : goal.loop-j-preserved-then-is_inside
 loop-j-preserved-then-is_inside c =
-        let l = c.loop-j in (
+    let l = c.loop-j in (
       omega (arith, c.loop-j-test.true),
       simp length-set l.invariant.1,
       simp length-set l.invariant.2,

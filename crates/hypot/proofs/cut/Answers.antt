@@ -12,5 +12,5 @@ overflow_sub-result c =
 
 pub returns : goal.returns
 returns c =
-        let d : 2 * c.args.d ≤ 54 = omega arith in
+    let d : 2 * c.args.d ≤ 54 = omega arith in
     cut_is c.square-b.result.hi c.square-b.result.lo (c.args.y * c.args.y) (2 * c.args.d) c.square-b.ensures d

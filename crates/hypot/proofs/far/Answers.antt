@@ -8,13 +8,13 @@ use Rattle.hypot.proofs.far.Goals as goal
 
 pub rounded-requires : goal.rounded-requires
 rounded-requires c =
-        let f : c.args.x.m < 2 ^ 53 = c.requires.sides.first in
+    let f : c.args.x.m < 2 ^ 53 = c.requires.sides.first in
     let g : c.args.y.m < 2 ^ 53 = c.requires.sides.second in
     (omega arith, lt_of_lt_of_le g (lit≤ tt), c.requires.sides.finite, (λ h. let n : 2 ^ 52 ≤ c.args.x.m = c.requires.sides.normal h in omega arith))
 
 pub returns : goal.returns
 returns c =
-        let p : 0 < c.args.x.e = omega (arith, c.requires.e_bound) in
+    let p : 0 < c.args.x.e = omega (arith, c.requires.e_bound) in
     record {
       number = c.rounded.ensures.number;
       value = c.rounded.ensures.value _ (far_close c.args.x.m c.args.x.e c.args.y.m c.args.y.e c.requires.e_bound (c.requires.sides.normal p) c.requires.sides.second);

@@ -11,46 +11,46 @@ float_from_bits-i c = inf_no_nan
 
 pub returns-then-a-i : goal.returns-then-a-i
 returns-then-a-i c =
-            at_inf c.args.x c.args.y c.abs-a.result c.abs-b.result c.abs-a.ensures c.abs-b.ensures c.if-a-i.true
+    at_inf c.args.x c.args.y c.abs-a.result c.abs-b.result c.abs-a.ensures c.abs-b.ensures c.if-a-i.true
 
 pub returns-then-b-i : goal.returns-then-b-i
 returns-then-b-i c =
-            at_inf_2 c.args.x c.args.y c.abs-a.result c.abs-b.result c.abs-a.ensures c.abs-b.ensures c.if-b-i.true
+    at_inf_2 c.args.x c.args.y c.abs-a.result c.abs-b.result c.abs-a.ensures c.abs-b.ensures c.if-b-i.true
 
 pub returns-then-a : goal.returns-then-a
 returns-then-a c =
-            at_nan c.args.x c.args.y c.abs-a.result c.abs-b.result c.abs-a.ensures c.abs-b.ensures c.if-b-i.false c.if-a.true
+    at_nan c.args.x c.args.y c.abs-a.result c.abs-b.result c.abs-a.ensures c.abs-b.ensures c.if-b-i.false c.if-a.true
 
 pub returns-then-b : goal.returns-then-b
 returns-then-b c =
-            at_nan_2 c.args.x c.args.y c.abs-a.result c.abs-b.result c.abs-a.ensures c.abs-b.ensures c.if-a-i.false c.if-b.true
+    at_nan_2 c.args.x c.args.y c.abs-a.result c.abs-b.result c.abs-a.ensures c.abs-b.ensures c.if-a-i.false c.if-b.true
 
 pub float_to_bits-p : goal.float_to_bits-p
 float_to_bits-p c =
-            no_nan_at c.args.x c.abs-a.result c.abs-a.ensures ((subst T (sym c.well_formed.0.1) tt)) c.if-a.false
+    no_nan_at c.args.x c.abs-a.result c.abs-a.ensures ((subst T (sym c.well_formed.0.1) tt)) c.if-a.false
 
 pub float_to_bits-q : goal.float_to_bits-q
 float_to_bits-q c =
-            no_nan_at c.args.y c.abs-b.result c.abs-b.ensures ((subst T (sym c.well_formed.1.0.1) tt)) c.if-b.false
+    no_nan_at c.args.y c.abs-b.result c.abs-b.ensures ((subst T (sym c.well_formed.1.0.1) tt)) c.if-b.false
 
 pub bits_of-requires : goal.bits_of-requires
 bits_of-requires c =
-            (c.if-q-p.true, bits_at c.args.x c.abs-a.result c.abs-a.ensures ((subst T (sym c.well_formed.0.1) tt)) ((finite_at c.args.x c.abs-a.result c.abs-a.ensures ((subst T (sym c.well_formed.0.1) tt)) c.if-a-i.false c.if-a.false)))
+    (c.if-q-p.true, bits_at c.args.x c.abs-a.result c.abs-a.ensures ((subst T (sym c.well_formed.0.1) tt)) ((finite_at c.args.x c.abs-a.result c.abs-a.ensures ((subst T (sym c.well_formed.0.1) tt)) c.if-a-i.false c.if-a.false)))
 
 pub float_from_bits-result : goal.float_from_bits-result
 float_from_bits-result c = no_nan_bits c.bits_of.result _ _ c.bits_of.ensures
 
 pub returns-then-q-p : goal.returns-then-q-p
 returns-then-q-p c =
-            at_last c.args.x c.args.y c.bits_of.result _ _ c.bits_of.ensures (grains_back c.args.x c.abs-a.result c.abs-a.ensures ((subst T (sym c.well_formed.0.1) tt))) (grains_back c.args.y c.abs-b.result c.abs-b.ensures ((subst T (sym c.well_formed.1.0.1) tt))) ((finite_at c.args.x c.abs-a.result c.abs-a.ensures ((subst T (sym c.well_formed.0.1) tt)) c.if-a-i.false c.if-a.false)) ((finite_at c.args.y c.abs-b.result c.abs-b.ensures ((subst T (sym c.well_formed.1.0.1) tt)) c.if-b-i.false c.if-b.false))
+    at_last c.args.x c.args.y c.bits_of.result _ _ c.bits_of.ensures (grains_back c.args.x c.abs-a.result c.abs-a.ensures ((subst T (sym c.well_formed.0.1) tt))) (grains_back c.args.y c.abs-b.result c.abs-b.ensures ((subst T (sym c.well_formed.1.0.1) tt))) ((finite_at c.args.x c.abs-a.result c.abs-a.ensures ((subst T (sym c.well_formed.0.1) tt)) c.if-a-i.false c.if-a.false)) ((finite_at c.args.y c.abs-b.result c.abs-b.ensures ((subst T (sym c.well_formed.1.0.1) tt)) c.if-b-i.false c.if-b.false))
 
 pub bits_of-requires-2 : goal.bits_of-requires-2
 bits_of-requires-2 c =
-            (le_of_lt c.if-q-p.false, bits_at c.args.y c.abs-b.result c.abs-b.ensures ((subst T (sym c.well_formed.1.0.1) tt)) ((finite_at c.args.y c.abs-b.result c.abs-b.ensures ((subst T (sym c.well_formed.1.0.1) tt)) c.if-b-i.false c.if-b.false)))
+    (le_of_lt c.if-q-p.false, bits_at c.args.y c.abs-b.result c.abs-b.ensures ((subst T (sym c.well_formed.1.0.1) tt)) ((finite_at c.args.y c.abs-b.result c.abs-b.ensures ((subst T (sym c.well_formed.1.0.1) tt)) c.if-b-i.false c.if-b.false)))
 
 pub float_from_bits-result-2 : goal.float_from_bits-result-2
 float_from_bits-result-2 c = no_nan_bits c.bits_of-2.result _ _ c.bits_of-2.ensures
 
 pub returns : goal.returns
 returns c =
-            at_last_2 c.args.x c.args.y c.bits_of-2.result _ _ c.bits_of-2.ensures (grains_back c.args.x c.abs-a.result c.abs-a.ensures ((subst T (sym c.well_formed.0.1) tt))) (grains_back c.args.y c.abs-b.result c.abs-b.ensures ((subst T (sym c.well_formed.1.0.1) tt))) ((finite_at c.args.x c.abs-a.result c.abs-a.ensures ((subst T (sym c.well_formed.0.1) tt)) c.if-a-i.false c.if-a.false)) ((finite_at c.args.y c.abs-b.result c.abs-b.ensures ((subst T (sym c.well_formed.1.0.1) tt)) c.if-b-i.false c.if-b.false))
+    at_last_2 c.args.x c.args.y c.bits_of-2.result _ _ c.bits_of-2.ensures (grains_back c.args.x c.abs-a.result c.abs-a.ensures ((subst T (sym c.well_formed.0.1) tt))) (grains_back c.args.y c.abs-b.result c.abs-b.ensures ((subst T (sym c.well_formed.1.0.1) tt))) ((finite_at c.args.x c.abs-a.result c.abs-a.ensures ((subst T (sym c.well_formed.0.1) tt)) c.if-a-i.false c.if-a.false)) ((finite_at c.args.y c.abs-b.result c.abs-b.ensures ((subst T (sym c.well_formed.1.0.1) tt)) c.if-b-i.false c.if-b.false))

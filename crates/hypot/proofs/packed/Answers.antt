@@ -13,8 +13,8 @@ overflow_add-b c = let h = (subst (λ (a : ℕ). a ≤ 1) (sym c.up.ensures) (up
 
 pub returns-then-b-lt9218868437227405312 : goal.returns-then-b-lt9218868437227405312
 returns-then-b-lt9218868437227405312 c =
-        packed_under c.args.r c.args.x c.args.e c.up.result c.requires.0 c.requires.2 c.up.ensures c.if-b-lt9218868437227405312.true
+    packed_under c.args.r c.args.x c.args.e c.up.result c.requires.0 c.requires.2 c.up.ensures c.if-b-lt9218868437227405312.true
 
 pub returns : goal.returns
 returns c =
-        packed_over c.args.r c.args.x c.args.e c.up.result c.requires.0 c.requires.2 c.up.ensures c.if-b-lt9218868437227405312.false
+    packed_over c.args.r c.args.x c.args.e c.up.result c.requires.0 c.requires.2 c.up.ensures c.if-b-lt9218868437227405312.false

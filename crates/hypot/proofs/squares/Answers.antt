@@ -7,12 +7,12 @@ use Rattle.hypot.proofs.squares.Goals as goal
 
 pub shifted-c-requires : goal.shifted-c-requires
 shifted-c-requires c =
-        let w = c.square-b.ensures in
+    let w = c.square-b.ensures in
     (high_lt c.square-b.result.hi c.square-b.result.lo (c.args.y * c.args.y) w (square_lt (2 ^ 54) c.args.y c.requires.1), w.small, omega arith)
 
 pub sum-requires : goal.sum-requires
 sum-requires c =
-        let a = c.square-a in
+    let a = c.square-a in
     let b = c.square-b in (
       high_lt a.result.hi a.result.lo (c.args.x * c.args.x) a.ensures (square_lt (2 ^ 54) c.args.x c.requires.0),
       a.ensures.small,
@@ -23,7 +23,7 @@ sum-requires c =
 
 pub returns : goal.returns
 returns c =
-        let a = c.square-a in
+    let a = c.square-a in
     let b = c.square-b in
     let d = c.shifted-c in
     record {

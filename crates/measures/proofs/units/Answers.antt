@@ -13,12 +13,12 @@ pub coordinates-n-requires : goal.coordinates-n-requires
 coordinates-n-requires c = (c.requires.1, c.requires.2, c.requires.5)
 
 pub spacing-spacing-requires : goal.spacing-spacing-requires
-spacing-spacing-requires c =         let m : c.coordinates-n.result ≤ c.args.k = c.coordinates-n.ensures.upper_bound in
+spacing-spacing-requires c = let m : c.coordinates-n.result ≤ c.args.k = c.coordinates-n.ensures.upper_bound in
     let p : length c.coordinates-n.new.path ≡ length c.args.path.now = c.coordinates-n.auto.path in
     (omega (arith, m, c.requires.0), omega (arith, m, p, c.requires.5), omega (arith, m, c.requires.4), omega (arith, m, c.requires.6), omega (arith, m, c.requires.7), omega (arith, m, c.requires.8))
 
 pub typical-side-requires : goal.typical-side-requires
-typical-side-requires c =             let b : length c.sizes.new.blocks ≡ length c.args.blocks.now = c.sizes.auto.blocks in
+typical-side-requires c = let b : length c.sizes.new.blocks ≡ length c.args.blocks.now = c.sizes.auto.blocks in
     let f : length c.spacing-spacing.new.frames ≡ length c.args.frames.now = c.spacing-spacing.auto.frames in
     let x : length c.spacing-spacing.new.keys ≡ length c.args.keys.now = c.spacing-spacing.auto.keys in
     let y : length c.spacing-spacing.new.sorted ≡ length c.args.sorted.now = c.spacing-spacing.auto.sorted in
@@ -26,7 +26,7 @@ typical-side-requires c =             let b : length c.sizes.new.blocks ≡ leng
     (omega (arith, c.requires.0), c.requires.1, omega (arith, b, c.requires.3), omega (arith, f, c.requires.4), omega (arith, x, c.requires.6), omega (arith, y, c.requires.7), omega (arith, w, c.requires.8))
 
 pub scales-requires : goal.scales-requires
-scales-requires c =                     let m : c.coordinates-n.result ≤ c.args.k = c.coordinates-n.ensures.upper_bound in
+scales-requires c = let m : c.coordinates-n.result ≤ c.args.k = c.coordinates-n.ensures.upper_bound in
     let p : length c.coordinates-n.new.path ≡ length c.args.path.now = c.coordinates-n.auto.path in
     let q : length c.sizes.new.blocks ≡ length c.args.blocks.now = c.sizes.auto.blocks in
     let x : length c.typical-side.new.keys ≡ length c.args.keys.now = cc (c.spacing-spacing.auto.keys, c.typical-side.auto.keys) in

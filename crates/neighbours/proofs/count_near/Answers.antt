@@ -16,11 +16,11 @@ loop-j-preserved-then-j-i c =
 
 pub loop-j-preserved-then-is_near : goal.loop-j-preserved-then-is_near
 loop-j-preserved-then-is_near c =
-        (omega arith, omega arith, near_more _ _ _ c.loop-j.j c.loop-j.count c.is_near.result c.loop-j.invariant.2 c.if-j-i.false c.is_near.ensures c.if-is_near.true)
+    (omega arith, omega arith, near_more _ _ _ c.loop-j.j c.loop-j.count c.is_near.result c.loop-j.invariant.2 c.if-j-i.false c.is_near.ensures c.if-is_near.true)
 
 pub loop-j-preserved : goal.loop-j-preserved
 loop-j-preserved c =
-        (omega arith, omega arith, near_less _ _ _ c.loop-j.j c.loop-j.count c.is_near.result c.loop-j.invariant.2 c.if-j-i.false c.is_near.ensures c.if-is_near.false)
+    (omega arith, omega arith, near_less _ _ _ c.loop-j.j c.loop-j.count c.is_near.result c.loop-j.invariant.2 c.if-j-i.false c.is_near.ensures c.if-is_near.false)
 
 pub returns : goal.returns
 unfolding within

@@ -19,7 +19,7 @@ loop-j-preserved-then-j-i c =
 
 pub loop-j-preserved : goal.loop-j-preserved
 loop-j-preserved c =
-        (omega arith, nearest_other _ _ c.loop-j.j c.loop-j.best c.closer-best.result c.loop-j.invariant.1 c.if-j-i.false c.closer-best.ensures)
+    (omega arith, nearest_other _ _ c.loop-j.j c.loop-j.best c.closer-best.result c.loop-j.invariant.1 c.if-j-i.false c.closer-best.ensures)
 
 pub returns : goal.returns
 unfolding nearest

@@ -12,7 +12,7 @@ loop-i-init c = (omega arith, refl, fill_none _ _)
 
 pub loop-i-preserved : goal.loop-i-preserved
 loop-i-preserved c =
-        let v = c.loop-i.invariant in
+    let v = c.loop-i.invariant in
     let h : c.loop-i.i < length c.args.out.now = omega arith in
     (omega arith, simp length-set v.1, cc (c.nearest_distance.ensures, v.2, fill_more (nearest _ _) _ c.loop-i.i h))
 

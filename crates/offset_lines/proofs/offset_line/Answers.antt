@@ -9,7 +9,7 @@ use Rattle.offset_lines.proofs.offset_line.Goals as goal
 
 pub signed_field-requires : goal.signed_field-requires
 signed_field-requires c =
-            omega (arith, c.signed_field-p.ensures.upper_bound, c.signed_field-p.auto.out, c.requires)
+    omega (arith, c.signed_field-p.ensures.upper_bound, c.signed_field-p.auto.out, c.requires)
 
 pub returns : goal.returns
 returns c =

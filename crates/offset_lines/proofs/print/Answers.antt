@@ -8,7 +8,7 @@ use Rattle.offset_lines.proofs.print.Goals as goal
 
 pub offset_lines-requires : goal.offset_lines-requires
 offset_lines-requires c =
-                omega (arith, side_square (suc (2 * c.args.search)) (omega arith), c.offset_order-count.ensures.0, c.word-at.ensures.value, c.word-at.auto.out, c.requires)
+    omega (arith, side_square (suc (2 * c.args.search)) (omega arith), c.offset_order-count.ensures.0, c.word-at.ensures.value, c.word-at.auto.out, c.requires)
 
 pub returns : goal.returns
 unfolding offset_names

@@ -23,12 +23,12 @@ returns-then-p-b-clause-value c = let v = c.loop-q.invariant in found_stop _ _ _
 
 pub loop-q-preserved-then-paired : goal.loop-q-preserved-then-paired
 loop-q-preserved-then-paired c = let v = c.loop-q.invariant in
-        let h = c.loop-q-test.true in
+    let h = c.loop-q-test.true in
     (omega arith, omega arith, omega arith, found_yes _ _ _ _ c.requires.k_in_bounds.1 c.args.c _ _ _ _ h (either_paired _ _ _ _ _ _ _ (c.requires.sorted.below _ c.requires.k_in_bounds.2) (c.requires.sorted.below _ h) c.box_at-p.ensures c.box_at-b.ensures c.paired.ensures) c.if-paired.true v.3)
 
 pub loop-q-preserved : goal.loop-q-preserved
 loop-q-preserved c = let v = c.loop-q.invariant in
-        let h = c.loop-q-test.true in
+    let h = c.loop-q-test.true in
     (omega arith, omega arith, omega arith, found_no _ _ _ _ c.requires.k_in_bounds.1 c.args.c _ _ _ _ h (either_paired _ _ _ _ _ _ _ (c.requires.sorted.below _ c.requires.k_in_bounds.2) (c.requires.sorted.below _ h) c.box_at-p.ensures c.box_at-b.ensures c.paired.ensures) c.if-paired.false v.3)
 
 pub returns-clause-value : goal.returns-clause-value

@@ -16,7 +16,7 @@ pub order_key-requires : goal.order_key-requires
 order_key-requires c = finite_no_nan _ (c.requires.2.at _ (omega arith))
 
 pub loop-s-preserved : goal.loop-s-preserved
-loop-s-preserved c =     let v = c.loop-s.invariant in
+loop-s-preserved c = let v = c.loop-s.invariant in
     let h : c.loop-s.s < length c.args.keys.now = omega arith in
     (omega arith, simp length-set v.1, cc (c.order_key.ensures, v.2, fill_more (λ t. order_key (left_at c.args.boxes.now t)) _ c.loop-s.s h))
 

@@ -17,8 +17,8 @@ place_by_table-requires-clause-turns c = c.placement_order-r.ensures.turns
 
 pub station_boxes-requires : goal.station_boxes-requires
 station_boxes-requires c =
-                (omega (arith, c.placement_order-r.auto.stations, c.requires.k_in_bounds.0), c.requires.k_in_bounds.4, omega (arith, c.place_by_table.auto.places, c.requires.k_in_bounds.5), omega (arith, c.place_by_table.auto.boxes, c.requires.k_in_bounds.6))
+    (omega (arith, c.placement_order-r.auto.stations, c.requires.k_in_bounds.0), c.requires.k_in_bounds.4, omega (arith, c.place_by_table.auto.places, c.requires.k_in_bounds.5), omega (arith, c.place_by_table.auto.boxes, c.requires.k_in_bounds.6))
 
 pub returns : goal.returns
 returns c =
-        settled_joined _ _ _ _ _ _ _ _ _ _ _ c.placement_order-r.ensures.stations_after_2 c.placement_order-r.ensures.stations_after c.place_by_table.ensures c.station_boxes.ensures
+    settled_joined _ _ _ _ _ _ _ _ _ _ _ c.placement_order-r.ensures.stations_after_2 c.placement_order-r.ensures.stations_after c.place_by_table.ensures c.station_boxes.ensures

@@ -13,4 +13,4 @@ number-requires c = omega (arith, c.requires, length-take-le c.args.c c.args.sor
 
 pub returns : goal.returns
 returns c =
-        sorted_front _ _ _ _ _ (omega (arith, c.requires)) c.number.ensures c.sort_part.ensures.order_after
+    sorted_front _ _ _ _ _ (omega (arith, c.requires)) c.number.ensures c.sort_part.ensures.order_after

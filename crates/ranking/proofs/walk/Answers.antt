@@ -28,11 +28,11 @@ bounds-places-x c = omega (arith, (c.requires.by_index.0 c.loop-p.p (omega arith
 
 pub overflow_add-stations : goal.overflow_add-stations
 overflow_add-stations c =
-            omega (arith, walk_fits _ _ _ _ _ _ (omega arith) (omega arith) (omega arith) _ _ _ c.loop-p.invariant (omega arith) _ refl ((c.requires.by_index.0 c.loop-p.p (omega arith))) (omega arith))
+    omega (arith, walk_fits _ _ _ _ _ _ (omega arith) (omega arith) (omega arith) _ _ _ c.loop-p.invariant (omega arith) _ refl ((c.requires.by_index.0 c.loop-p.p (omega arith))) (omega arith))
 
 pub loop-p-preserved-then-s-k : goal.loop-p-preserved-then-s-k
 loop-p-preserved-then-s-k c =
-            walk_in _ _ _ _ _ _ (omega arith) (omega arith) (omega arith) _ _ _ c.loop-p.invariant (omega arith) _ refl ((c.requires.by_index.0 c.loop-p.p (omega arith))) (omega arith)
+    walk_in _ _ _ _ _ _ (omega arith) (omega arith) (omega arith) _ _ _ c.loop-p.invariant (omega arith) _ refl ((c.requires.by_index.0 c.loop-p.p (omega arith))) (omega arith)
 
 pub offset_bounds-places-x-else-s-k : goal.offset_bounds-places-x-else-s-k
 offset_bounds-places-x-else-s-k c = omega (arith, (c.requires.by_index.0 c.loop-p.p (omega arith)))
@@ -42,7 +42,7 @@ bounds-places-x-else-s-k c = omega (arith, (c.requires.by_index.0 c.loop-p.p (om
 
 pub loop-p-preserved : goal.loop-p-preserved
 loop-p-preserved c =
-            walk_past _ _ _ _ _ _ (omega arith) (omega arith) (omega arith) _ _ _ c.loop-p.invariant (omega arith) _ refl ((c.requires.by_index.0 c.loop-p.p (omega arith))) (omega arith)
+    walk_past _ _ _ _ _ _ (omega arith) (omega arith) (omega arith) _ _ _ c.loop-p.invariant (omega arith) _ refl ((c.requires.by_index.0 c.loop-p.p (omega arith))) (omega arith)
 
 pub returns-clause-by_index_2 : goal.returns-clause-by_index_2
 returns-clause-by_index_2 c = walk_places _ _ _ _ _ _ (omega arith) (omega arith) (omega arith) _ _ _ c.loop-p.invariant (omega arith)

@@ -21,20 +21,20 @@ returns-in-Internal c = by_kind (end_key c.args.sub.now (points_in (station_coun
 
 pub seed_key-requires : goal.seed_key-requires
 seed_key-requires c =
-        omega (arith, c.station_of.ensures.value, (line_buses _ _ _ _ c.kind_of.ensures.safe c.in-Line.is).1, c.requires)
+    omega (arith, c.station_of.ensures.value, (line_buses _ _ _ _ c.kind_of.ensures.safe c.in-Line.is).1, c.requires)
 
 pub returns-then-x-eq0 : goal.returns-then-x-eq0
 unfolding end_key
 returns-then-x-eq0 c =
-                by_kind (end_key c.args.sub.now (points_in (station_count c.args.sub.now) c.args.places.now)) c.args.x _ _ _ _ _ c.kind_of.ensures.value c.in-Line.is (from_side _ c.if-x-eq0.true)
+    by_kind (end_key c.args.sub.now (points_in (station_count c.args.sub.now) c.args.places.now)) c.args.x _ _ _ _ _ c.kind_of.ensures.value c.in-Line.is (from_side _ c.if-x-eq0.true)
     (seed_at _ _ _ _ _ (line_buses _ _ _ _ c.kind_of.ensures.safe c.in-Line.is).1 c.station_of.ensures.value c.seed_key.ensures)
 
 pub seed_key-requires-in-Line : goal.seed_key-requires-in-Line
 seed_key-requires-in-Line c =
-        omega (arith, c.station_of-in-Line.ensures.value, (line_buses _ _ _ _ c.kind_of.ensures.safe c.in-Line.is).0, c.requires)
+    omega (arith, c.station_of-in-Line.ensures.value, (line_buses _ _ _ _ c.kind_of.ensures.safe c.in-Line.is).0, c.requires)
 
 pub returns-in-Line : goal.returns-in-Line
 unfolding end_key
 returns-in-Line c =
-                by_kind (end_key c.args.sub.now (points_in (station_count c.args.sub.now) c.args.places.now)) c.args.x _ _ _ _ _ c.kind_of.ensures.value c.in-Line.is (to_side _ c.if-x-eq0.false)
+    by_kind (end_key c.args.sub.now (points_in (station_count c.args.sub.now) c.args.places.now)) c.args.x _ _ _ _ _ c.kind_of.ensures.value c.in-Line.is (to_side _ c.if-x-eq0.false)
     (seed_at _ _ _ _ _ (line_buses _ _ _ _ c.kind_of.ensures.safe c.in-Line.is).0 c.station_of-in-Line.ensures.value c.seed_key-in-Line.ensures)

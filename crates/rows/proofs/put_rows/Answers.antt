@@ -17,7 +17,7 @@ bounds-ends-e-in-loop-e c = simp length-set (omega arith)
 
 pub loop-e-preserved : goal.loop-e-preserved
 loop-e-preserved c =
-            let t = two_next _ _ _ _ _ _ (omega arith) c.at.ensures (c.at-in-loop-e.ensures ∙ ap (λ (j : ℕ). get_or c.args.rows.now j 0) c.to_entry.ensures) c.loop-e.invariant.3 c.loop-e.invariant.4 in
+    let t = two_next _ _ _ _ _ _ (omega arith) c.at.ensures (c.at-in-loop-e.ensures ∙ ap (λ (j : ℕ). get_or c.args.rows.now j 0) c.to_entry.ensures) c.loop-e.invariant.3 c.loop-e.invariant.4 in
     (omega arith, c.loop-e.invariant.1, simp length-set c.loop-e.invariant.2, t.0, t.1)
 
 pub returns-clause-ends_after : goal.returns-clause-ends_after

@@ -7,7 +7,7 @@ use Rattle.rows.proofs.rows.Goals as goal
 
 pub put_rows-requires : goal.put_rows-requires
 put_rows-requires c =
-                let e : length c.rank_in_stations.new.places ≡ length c.args.spare.now = c.rank_in_stations.auto.places in
+    let e : length c.rank_in_stations.new.places ≡ length c.args.spare.now = c.rank_in_stations.auto.places in
     let f : length c.fill_entries.new.own ≡ length c.args.ends.now = c.fill_entries.auto.own in
     (omega (arith, c.requires), omega (arith, c.requires, e), omega (arith, c.requires, f))
 

@@ -13,7 +13,7 @@ loop-s-init c = (omega arith, refl, omega arith, sides_none _ _ _)
 
 pub loop-s-preserved-then-stations-s-gt0 : goal.loop-s-preserved-then-stations-s-gt0
 loop-s-preserved-then-stations-s-gt0 c =
-        let v = c.loop-s.invariant in
+    let v = c.loop-s.invariant in
     let h : c.loop-s.s < c.args.k = omega arith in
     let l : c.loop-s.r < length c.loop-s.frames = omega arith in
     let g = c.if-stations-s-gt0.true in
@@ -21,7 +21,7 @@ loop-s-preserved-then-stations-s-gt0 c =
 
 pub loop-s-preserved : goal.loop-s-preserved
 loop-s-preserved c =
-        let v = c.loop-s.invariant in
+    let v = c.loop-s.invariant in
     let h : c.loop-s.s < c.args.k = omega arith in
     (omega arith, v.1, omega arith, v.3 ∙ ap (sides _) (passed_no _ _ _ h c.if-stations-s-gt0.false))
 

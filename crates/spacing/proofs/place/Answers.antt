@@ -12,11 +12,11 @@ returns-then-n-eq0 c = spaced_none _ _ c.if-n-eq0.true
 
 pub returns-then-crowded : goal.returns-then-crowded
 returns-then-crowded c =
-        c.spread.ensures
+    c.spread.ensures
     ∙ spaced_even c.args.c c.args.list.now (length c.args.list.now - 1) (omega arith) (sym c.if-crowded.true ∙ c.crowded.ensures)
 
 pub returns-else-crowded : goal.returns-else-crowded
 returns-else-crowded c =
-        c.backward_pass.ensures
+    c.backward_pass.ensures
     ∙ ap (backward c.args.c) c.forward_pass.ensures
     ∙ spaced_passed c.args.c c.args.list.now (length c.args.list.now - 1) (omega arith) (sym c.if-crowded.false ∙ c.crowded.ensures)

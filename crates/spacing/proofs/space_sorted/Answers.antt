@@ -22,7 +22,7 @@ slice_bounds-space_all-end-8 c = sym (length-take-le c.args.n c.args.spare.now (
 
 pub space_all-requires : goal.space_all-requires
 space_all-requires c =
-        let n = c.args.n in
+    let n = c.args.n in
     let w : length (take n c.args.wish.now) ≡ n = length-take-le n c.args.wish.now (omega (arith, c.requires)) in (
       omega (arith, c.requires),
       length-take-le n c.args.keys.now (omega (arith, c.requires)) ∙ sym w,

@@ -18,7 +18,7 @@ bounds-list-i c = omega (arith, length_up 0 (c.args.last + 1))
 
 pub loop-i-preserved : goal.loop-i-preserved
 loop-i-preserved c =
-        let n = c.args.last + 1 in
+    let n = c.args.last + 1 in
     let long : length (up_from 0 n) ≡ n = length_up 0 n in
     let h : c.loop-i.i < n = omega arith in
     fill_step _ _ _ (omega arith) _ _ _ 0 (omega arith) (c.even_at.ensures ∙ ap (even_at _ _) (sym (get_d_up 0 n c.loop-i.i h ∙ zero-add _))) c.loop-i.invariant

@@ -16,12 +16,12 @@ loop-s-init c = (omega arith, refl, omega arith, sym (how_many_zero _), coordina
 
 pub bounds-path-r-then-stations-s-gt0 : goal.bounds-path-r-then-stations-s-gt0
 bounds-path-r-then-stations-s-gt0 c =
-        let h : 2 * c.loop-s.r + 1 < length c.loop-s.path = omega arith in
+    let h : 2 * c.loop-s.r + 1 < length c.loop-s.path = omega arith in
     lt-length-set c.loop-s.path (2 * c.loop-s.r) (get_or c.args.places.now (2 * c.loop-s.s) nan) h
 
 pub loop-s-preserved-then-stations-s-gt0 : goal.loop-s-preserved-then-stations-s-gt0
 loop-s-preserved-then-stations-s-gt0 c =
-        let v = c.loop-s.invariant in
+    let v = c.loop-s.invariant in
     let h : c.loop-s.s < c.args.k = omega arith in
     let l : 2 * c.loop-s.r + 1 < length c.loop-s.path = omega arith in
     let g = c.if-stations-s-gt0.true in
@@ -29,7 +29,7 @@ loop-s-preserved-then-stations-s-gt0 c =
 
 pub loop-s-preserved : goal.loop-s-preserved
 loop-s-preserved c =
-        let v = c.loop-s.invariant in
+    let v = c.loop-s.invariant in
     let h : c.loop-s.s < c.args.k = omega arith in
     (omega arith, v.1, omega arith, count_no _ _ _ h _ c.if-stations-s-gt0.false v.3, v.4 ∙ ap (coordinates _) (passed_no _ _ _ h c.if-stations-s-gt0.false))
 

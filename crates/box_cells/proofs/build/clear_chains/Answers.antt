@@ -14,7 +14,7 @@ bounds-index-c c = omega (arith, c.loop-c.invariant.1, c.requires.0, c.loop-c-te
 pub loop-c-preserved : goal.loop-c-preserved
 loop-c-preserved c =
     let i = c.loop-c.invariant in
-        (omega arith, simp length-set i.1, empty_more _ _ (omega (arith, i.1, c.requires.0, c.loop-c-test.true)) i.2, same_set _ _ _ _ (omega arith) i.3)
+    (omega arith, simp length-set i.1, empty_more _ _ (omega (arith, i.1, c.requires.0, c.loop-c-test.true)) i.2, same_set _ _ _ _ (omega arith) i.3)
 
 pub returns : goal.returns
 returns c = (empty_end _ _ _ c.loop-c-test.false c.loop-c.invariant.2, c.loop-c.invariant.3)

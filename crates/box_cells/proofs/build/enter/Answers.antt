@@ -12,15 +12,15 @@ loop-s-init c = (omega arith, refl, put_start _ _ _ _ _ c.requires.le_columns.3,
 
 pub chain_of-requires : goal.chain_of-requires
 chain_of-requires c =
-        (c.requires.le_columns.0, c.requires.le_columns.1, few_columns _ _ _ c.requires.le_columns.1 (omega (arith, c.requires.le_columns.2, c.requires.k_in_bounds.2)), few_rows _ _ _ c.requires.le_columns.0 (omega (arith, c.requires.le_columns.2, c.requires.k_in_bounds.2)))
+    (c.requires.le_columns.0, c.requires.le_columns.1, few_columns _ _ _ c.requires.le_columns.1 (omega (arith, c.requires.le_columns.2, c.requires.k_in_bounds.2)), few_rows _ _ _ c.requires.le_columns.0 (omega (arith, c.requires.le_columns.2, c.requires.k_in_bounds.2)))
 
 pub link-requires : goal.link-requires
 link-requires c =
-        (c.loop-s-test.true, c.requires.k_in_bounds.2, omega (arith, c.chain_of.ensures.1, c.requires.le_columns.2), omega (arith, c.loop-s.invariant.1, c.requires.k_in_bounds.3))
+    (c.loop-s-test.true, c.requires.k_in_bounds.2, omega (arith, c.chain_of.ensures.1, c.requires.le_columns.2), omega (arith, c.loop-s.invariant.1, c.requires.k_in_bounds.3))
 
 pub loop-s-preserved-then-stations-s-gt0 : goal.loop-s-preserved-then-stations-s-gt0
 loop-s-preserved-then-stations-s-gt0 c =
-        let i = c.loop-s.invariant in
+    let i = c.loop-s.invariant in
     let e = c.link.ensures in
     let t = c.loop-s-test.true in (
       omega arith,

@@ -11,7 +11,7 @@ returns-then-k-most c = none_set _ _ c.args.index.now c.requires.k_in_bounds.3
 
 pub put_grid-requires : goal.put_grid-requires
 put_grid-requires c =
-                (omega (arith, c.requires.k_in_bounds.4, c.if-k-most.false), c.extent_of-e.ensures.0, c.extent_of-e.ensures.1, c.extent_of-e.ensures.2, c.extent_of-e.ensures.3, few_columns _ _ _ c.counts_for-c.ensures.1 (omega (arith, c.counts_for-c.ensures.2, c.extent_of-e.ensures.4, c.requires.k_in_bounds.2)), few_rows _ _ _ c.counts_for-c.ensures.0 (omega (arith, c.counts_for-c.ensures.2, c.extent_of-e.ensures.4, c.requires.k_in_bounds.2)))
+    (omega (arith, c.requires.k_in_bounds.4, c.if-k-most.false), c.extent_of-e.ensures.0, c.extent_of-e.ensures.1, c.extent_of-e.ensures.2, c.extent_of-e.ensures.3, few_columns _ _ _ c.counts_for-c.ensures.1 (omega (arith, c.counts_for-c.ensures.2, c.extent_of-e.ensures.4, c.requires.k_in_bounds.2)), few_rows _ _ _ c.counts_for-c.ensures.0 (omega (arith, c.counts_for-c.ensures.2, c.extent_of-e.ensures.4, c.requires.k_in_bounds.2)))
 
 pub fill-requires-clause-k_in_bounds : goal.fill-requires-clause-k_in_bounds
 fill-requires-clause-k_in_bounds c = (c.requires.k_in_bounds.0, c.requires.k_in_bounds.1, c.requires.k_in_bounds.2, omega (arith, c.put_grid.auto.index, c.requires.k_in_bounds.4))

@@ -15,7 +15,7 @@ loop-h-preserved-then-is_apart c = (
   omega arith,
   chain_apart _ _ _ _ _ _ _ _ _ _ _ _ _ (omega arith) refl c.behind-h.ensures c.loop-h.invariant.1
       (ap (is_apart _) (sym c.box_in.ensures) ∙ sym c.is_apart.ensures ∙ c.if-is_apart.true),
-  )
+)
 
 pub loop-h-preserved : goal.loop-h-preserved
 loop-h-preserved c = (
@@ -23,7 +23,7 @@ loop-h-preserved c = (
   chain_near _ _ _ _ _ _ _ _ _ _ _ _ _ (omega arith) refl c.behind-h-else-is_apart.ensures c.loop-h.invariant.1
       (ap (is_apart _) (sym c.box_in.ensures) ∙ sym c.is_apart.ensures ∙ c.if-is_apart.false)
       _ c.entry_at.ensures _ c.closer-n.ensures,
-  )
+)
 
 pub returns : goal.returns
 returns c = chain_end _ _ _ _ _ _ _ _ _ _ _ (omega arith) c.loop-h.invariant.1

@@ -21,7 +21,7 @@ int_to_float-result c = in_float_lem c.size_down.result c.size_down.ensures.1
 
 pub returns-then-x-4 : goal.returns-then-x-4
 returns-then-x-4 c =
-        floor_down c.args.x c.size_down.result (down_requires c.args.x c.if-x-4.true c.if-x-2.false) c.size_down.ensures.0
+    floor_down c.args.x c.size_down.result (down_requires c.args.x c.if-x-4.true c.if-x-2.false) c.size_down.ensures.0
 
 pub size_up-requires : goal.size_up-requires
 size_up-requires c =
@@ -32,7 +32,7 @@ int_to_float-result-then-x-5 c = in_float_lem c.size_up.result c.size_up.ensures
 
 pub returns-then-x-5 : goal.returns-then-x-5
 returns-then-x-5 c =
-        floor_up c.args.x c.size_up.result (up_requires c.args.x c.if-x-5.true c.if-x-3.false) c.size_up.ensures.0
+    floor_up c.args.x c.size_up.result (up_requires c.args.x c.if-x-5.true c.if-x-3.false) c.size_up.ensures.0
 
 pub returns : goal.returns
 returns c = floor_zero c.args.x ((subst T (sym c.well_formed.0.1) tt)) c.if-x-4.false c.if-x-5.false

@@ -7,8 +7,8 @@ int_to_float-n c = in_float_lem c.size_down-n.result c.size_down-n.ensures.1
 
 pub returns-then-n-x : goal.returns-then-n-x
 returns-then-n-x c =
-        size_up_more c.args.x c.size_down-n.result c.requires.fact_1 c.requires.fact_2 c.size_down-n.ensures c.if-n-x.true
+    size_up_more c.args.x c.size_down-n.result c.requires.fact_1 c.requires.fact_2 c.size_down-n.ensures c.if-n-x.true
 
 pub returns : goal.returns
 returns c =
-        size_up_same c.args.x c.size_down-n.result c.requires.fact_1 c.requires.fact_2 c.size_down-n.ensures c.if-n-x.false
+    size_up_same c.args.x c.size_down-n.result c.requires.fact_1 c.requires.fact_2 c.size_down-n.ensures c.if-n-x.false

@@ -10,7 +10,7 @@ pub loop-x-init : goal.loop-x-init
 loop-x-init c = (omega arith, table_start _ _)
 
 pub loop-x-preserved : goal.loop-x-preserved
-loop-x-preserved c =     (omega arith, table_step _ _ _ _ _ (omega arith) (c.at.ensures ∙ rw (add-zero)) c.loop-x.invariant.1)
+loop-x-preserved c = (omega arith, table_step _ _ _ _ _ (omega arith) (c.at.ensures ∙ rw (add-zero)) c.loop-x.invariant.1)
 
 pub returns : goal.returns
 unfolding strided

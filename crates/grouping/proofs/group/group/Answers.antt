@@ -18,7 +18,7 @@ slice_bounds-group_all-end-6 c = sym (length-take-le c.args.n c.args.keys.now (o
 
 pub group_all-requires : goal.group_all-requires
 group_all-requires c =
-        let n = c.args.n in
+    let n = c.args.n in
     let w : length (take n c.args.keys.now) ≡ n = length-take-le n c.args.keys.now (omega (arith, c.requires)) in (
       c.requires.0,
       c.requires.1,
@@ -31,6 +31,6 @@ group_all-requires c =
 
 pub returns : goal.returns
 returns c =
-        let n = c.args.n in
+    let n = c.args.n in
     let w : length (take n c.args.keys.now) ≡ n = length-take-le n c.args.keys.now (omega (arith, c.requires)) in
     subst (λ (k : ℕ). Grouped c.args.m c.args.channels k c.args.ends.now c.args.numbers.now c.group_all.new.ends c.group_all.new.numbers) w c.group_all.ensures

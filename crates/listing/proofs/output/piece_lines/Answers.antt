@@ -17,4 +17,4 @@ shape_of-out c = c.loop-i.invariant.size
 
 pub returns : goal.returns
 returns c =
-     let both = listed_all _ _ _ _ _ _ _ _ c.loop-i.invariant c.loop-i-test.false in record { upper_bound = omega (arith, c.loop-i.invariant.room, c.loop-i.invariant.below, c.loop-i-test.false); value = both.0; out_after = both.1 }
+    let both = listed_all _ _ _ _ _ _ _ _ c.loop-i.invariant c.loop-i-test.false in record { upper_bound = omega (arith, c.loop-i.invariant.room, c.loop-i.invariant.below, c.loop-i-test.false); value = both.0; out_after = both.1 }

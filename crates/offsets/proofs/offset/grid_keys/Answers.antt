@@ -24,14 +24,13 @@ pub offset_number-requires : goal.offset_number-requires
 offset_number-requires c = (omega (arith, row_below c.loop-i.i c.args.side (omega arith) c.loop-i-test.true), omega (arith, mod-lt c.loop-i.i {m = c.args.side} (omega arith)))
 
 pub loop-i-preserved : goal.loop-i-preserved
-loop-i-preserved c =
-        (
-      omega arith,
-      simp length-set (omega arith),
-      grid_more _ _ _ _ _ _ c.requires.1 (omega arith) c.loop-i.invariant.2 c.offset_number.ensures,
-    )
+loop-i-preserved c = (
+  omega arith,
+  simp length-set (omega arith),
+  grid_more _ _ _ _ _ _ c.requires.1 (omega arith) c.loop-i.invariant.2 c.offset_number.ensures,
+)
 
 pub returns : goal.returns
 returns c =
-            let e : c.loop-i.i ≡ c.args.side * c.args.side = omega arith in
+    let e : c.loop-i.i ≡ c.args.side * c.args.side = omega arith in
     rw (← e) c.loop-i.invariant.2

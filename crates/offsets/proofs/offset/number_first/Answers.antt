@@ -8,6 +8,6 @@ use Rattle.offsets.proofs.offset.number_first.Goals as goal
 
 pub returns : goal.returns
 returns c =
-            let z : c.args.c - 0 ≡ c.args.c = omega arith in
+    let z : c.args.c - 0 ≡ c.args.c = omega arith in
     let e : c.number.new.list ≡ up_from 0 c.args.c = c.number.ensures ∙ ap (up_from 0) (mid_len 0 c.args.c c.args.list.now c.requires.0 ∙ z) in
     cc (e, z)

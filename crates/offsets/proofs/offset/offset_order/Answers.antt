@@ -12,19 +12,19 @@ overflow_mul-count c = omega (arith, side_square (2 * c.args.search + 1) (omega 
 
 pub grid_keys-requires : goal.grid_keys-requires
 grid_keys-requires c =
-        (omega arith, omega arith, omega (arith, c.requires, side_square (2 * c.args.search + 1) (omega arith)))
+    (omega arith, omega arith, omega (arith, c.requires, side_square (2 * c.args.search + 1) (omega arith)))
 
 pub number_first-requires : goal.number_first-requires
 number_first-requires c =
-        (omega (arith, c.requires, side_square (2 * c.args.search + 1) (omega arith)), omega (arith, c.requires, side_square (2 * c.args.search + 1) (omega arith)))
+    (omega (arith, c.requires, side_square (2 * c.args.search + 1) (omega arith)), omega (arith, c.requires, side_square (2 * c.args.search + 1) (omega arith)))
 
 pub sort_part-requires : goal.sort_part-requires
 sort_part-requires c =
-        let h = side_square (2 * c.args.search + 1) (omega arith) in
+    let h = side_square (2 * c.args.search + 1) (omega arith) in
     (omega arith, omega (arith, c.requires, h, c.number_first.auto), omega (arith, c.requires, h))
 
 pub returns : goal.returns
 returns c =
-        let e : (2 * c.args.search + 1) * (2 * c.args.search + 1) ≡ suc (2 * c.args.search) * suc (2 * c.args.search) = omega arith in
+    let e : (2 * c.args.search + 1) * (2 * c.args.search + 1) ≡ suc (2 * c.args.search) * suc (2 * c.args.search) = omega arith in
     let g = grid_offsets _ _ _ _ _ _ _ e c.grid_keys.ensures c.number_first.ensures c.sort_part.ensures.order_after in
     (e, g, subst (Complete c.args.search) (sym g) (offsets_complete c.args.search c.requires.0))

@@ -15,7 +15,7 @@ keep_box-requires-clause-kept c = (kept_on _ _ _ _ _ _ _ _ _ c.put_box.ensures c
 pub returns : goal.returns
 unfolding frame_for
 returns c =
-        record {
+    record {
       at = c.place_for-c.result;
       chosen = c.place_for-c.ensures;
       placed = refl;

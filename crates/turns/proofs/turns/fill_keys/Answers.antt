@@ -12,13 +12,12 @@ loop-s-init c = (omega arith, refl, λ t h. absurd (omega arith))
 
 pub loop-s-preserved : goal.loop-s-preserved
 unfolding falling
-loop-s-preserved c =
-    (
-      omega arith,
-      simp length-set (omega arith),
-      below_more _ _ (λ t h. get_or-set_other c.loop-s.keys c.loop-s.s t _ 0 (λ e. omega arith) ∙ c.loop-s.invariant.2 t h) (get_or-set_same c.loop-s.keys c.loop-s.s _ 0 (omega arith)),
-    )
+loop-s-preserved c = (
+  omega arith,
+  simp length-set (omega arith),
+  below_more _ _ (λ t h. get_or-set_other c.loop-s.keys c.loop-s.s t _ 0 (λ e. omega arith) ∙ c.loop-s.invariant.2 t h) (get_or-set_same c.loop-s.keys c.loop-s.s _ 0 (omega arith)),
+)
 
 pub returns : goal.returns
 returns c =
-        λ t h. c.loop-s.invariant.2 t (omega arith)
+    λ t h. c.loop-s.invariant.2 t (omega arith)

@@ -15,26 +15,24 @@ pub overflow_cast-count : goal.overflow_cast-count
 overflow_cast-count c = omega (arith, c.shared_slice_known-in-loop-s-1.given (2 * c.loop-s.s))
 
 pub loop-s-preserved-then-count-gt0 : goal.loop-s-preserved-then-count-gt0
-loop-s-preserved-then-count-gt0 c =
-    (
-      omega arith,
-      omega arith,
-      simp length-set (omega arith),
-      simp length-set (omega arith),
-      counted_yes _ _ _ _ _ _ _ c.loop-s.invariant.4 c.loop-s-test.true c.falling.ensures (omega arith) (omega arith) c.if-count-gt0.true,
-    )
+loop-s-preserved-then-count-gt0 c = (
+  omega arith,
+  omega arith,
+  simp length-set (omega arith),
+  simp length-set (omega arith),
+  counted_yes _ _ _ _ _ _ _ c.loop-s.invariant.4 c.loop-s-test.true c.falling.ensures (omega arith) (omega arith) c.if-count-gt0.true,
+)
 
 pub loop-s-preserved : goal.loop-s-preserved
-loop-s-preserved c =
-    (
-      omega arith,
-      omega arith,
-      simp length-set (omega arith),
-      omega arith,
-      counted_no _ _ _ _ _ _ _ c.loop-s.invariant.4 c.loop-s-test.true c.falling.ensures (omega arith) c.if-count-gt0.false,
-    )
+loop-s-preserved c = (
+  omega arith,
+  omega arith,
+  simp length-set (omega arith),
+  omega arith,
+  counted_no _ _ _ _ _ _ _ c.loop-s.invariant.4 c.loop-s-test.true c.falling.ensures (omega arith) c.if-count-gt0.false,
+)
 
 pub returns : goal.returns
 returns c =
-            let e : c.loop-s.s ≡ c.args.k = omega arith in
+    let e : c.loop-s.s ≡ c.args.k = omega arith in
     subst (λ (n : ℕ). Listed (counts_in c.args.k c.args.stations.now) n c.loop-s.keys c.loop-s.sorted c.loop-s.r) e c.loop-s.invariant.4

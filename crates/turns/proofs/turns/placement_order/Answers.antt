@@ -6,7 +6,7 @@ use Rattle.turns.proofs.turns.placement_order.Goals as goal
 
 pub sort_part-requires : goal.sort_part-requires
 sort_part-requires c =
-            let h : c.list_occupied-r.result ≤ c.args.k = listed_le _ _ _ _ _ c.list_occupied-r.ensures in
+    let h : c.list_occupied-r.result ≤ c.args.k = listed_le _ _ _ _ _ c.list_occupied-r.ensures in
     (omega arith, omega (arith, h, c.requires.kv_len, c.list_occupied-r.auto), omega (arith, h, c.requires.kv_len))
 
 pub top_keys-requires-clause-kv_len : goal.top_keys-requires-clause-kv_len
@@ -20,12 +20,12 @@ top_keys-requires-clause-by_index_2 c = c.fill_keys.ensures
 
 pub sort_part-requires-2 : goal.sort_part-requires-2
 sort_part-requires-2 c =
-                let h : c.list_occupied-r.result ≤ c.args.k = listed_le _ _ _ _ _ c.list_occupied-r.ensures in
+    let h : c.list_occupied-r.result ≤ c.args.k = listed_le _ _ _ _ _ c.list_occupied-r.ensures in
     (omega arith, omega (arith, h, c.requires.kv_len, c.list_occupied-r.auto, c.sort_part.auto), omega (arith, h, c.requires.kv_len, c.sort_part.auto))
 
 pub put_order-requires : goal.put_order-requires
 put_order-requires c =
-            let h : c.list_occupied-r.result ≤ c.args.k = listed_le _ _ _ _ _ c.list_occupied-r.ensures in
+    let h : c.list_occupied-r.result ≤ c.args.k = listed_le _ _ _ _ _ c.list_occupied-r.ensures in
     (omega (arith, h, c.requires.kv_len, c.list_occupied-r.auto, c.sort_part.auto, c.sort_part-2.auto), omega (arith, h, c.requires.kv_len))
 
 pub returns : goal.returns
