@@ -1,6 +1,5 @@
 -- Answers for `audit::inside::audited`.
 use native.Mathlib.Omega.{arith}
-use borrow.Author.Tests.{not-true, not-false}
 use Rattle.findings.proofs.Lates.{fit_lengths, fit_finite, late_unfit, late_ill, late_none, inner_refused, inner_figured}
 use Rattle.audit.proofs.inside.audited.Goals as goal
 
@@ -8,25 +7,25 @@ pub fits-requires : goal.fits-requires
 fits-requires c = c.requires.sub_len_bound.0
 
 pub returns-then-not-fits : goal.returns-then-not-fits
-returns-then-not-fits c = inner_refused _ _ 13 (λ e. omega (arith, e)) (late_unfit _ _ c.fits2.ensures (not-true _ c.if-not-fits.true-raw))
+returns-then-not-fits c = inner_refused _ _ 13 (λ e. omega (arith, e)) (late_unfit _ _ c.fits.ensures c.if-not-fits.true)
 
 pub bus_counts-requires : goal.bus_counts-requires
 bus_counts-requires c = (c.station_count-k.ensures.value, c.requires.sub_len_bound.0, omega (arith, c.station_count-k.ensures.value, c.requires.sub_len_bound))
 
 pub ill_drawn-requires : goal.ill_drawn-requires
-ill_drawn-requires c = (omega (arith, c.station_count-k.ensures.value, c.requires.sub_len_bound, c.bus_counts.auto.stations), omega (arith, (fit_lengths _ _ _ _ _ _ _ _ c.fits2.ensures (not-false _ c.if-not-fits.false-raw)).0, c.station_count-k.ensures.value))
+ill_drawn-requires c = (omega (arith, c.station_count-k.ensures.value, c.requires.sub_len_bound, c.bus_counts.auto.stations), omega (arith, (fit_lengths _ _ _ _ _ _ _ _ c.fits.ensures c.if-not-fits.false).0, c.station_count-k.ensures.value))
 
 pub shape_of-stations-then-ill_drawn : goal.shape_of-stations-then-ill_drawn
 shape_of-stations-then-ill_drawn c = c.bus_counts.auto.stations
 
 pub returns-then-ill_drawn : goal.returns-then-ill_drawn
-returns-then-ill_drawn c = inner_refused _ _ 8 (λ e. omega (arith, e)) (late_ill _ _ c.fits2.ensures (not-false _ c.if-not-fits.false-raw) _ _ c.station_count-k.ensures.value c.bus_counts.ensures _ c.ill_drawn.ensures c.if-ill_drawn.true)
+returns-then-ill_drawn c = inner_refused _ _ 8 (λ e. omega (arith, e)) (late_ill _ _ c.fits.ensures c.if-not-fits.false _ _ c.station_count-k.ensures.value c.bus_counts.ensures _ c.ill_drawn.ensures c.if-ill_drawn.true)
 
 pub figures_of-f-requires-clause-k_value : goal.figures_of-f-requires-clause-k_value
 figures_of-f-requires-clause-k_value c = (c.station_count-k.ensures.value, c.requires.sub_len_bound.0, omega (arith, c.station_count-k.ensures.value, c.requires.sub_len_bound), c.bus_counts.ensures)
 
 pub figures_of-f-requires-clause-k_in_bounds : goal.figures_of-f-requires-clause-k_in_bounds
-figures_of-f-requires-clause-k_in_bounds c = (omega (arith, (fit_lengths _ _ _ _ _ _ _ _ c.fits2.ensures (not-false _ c.if-not-fits.false-raw)).0, c.station_count-k.ensures.value), (fit_lengths _ _ _ _ _ _ _ _ c.fits2.ensures (not-false _ c.if-not-fits.false-raw)).1, omega (arith, c.requires.sub_len_bound, c.bus_counts.auto.stations), fit_finite _ _ _ _ _ _ _ _ c.fits2.ensures (not-false _ c.if-not-fits.false-raw))
+figures_of-f-requires-clause-k_in_bounds c = (omega (arith, (fit_lengths _ _ _ _ _ _ _ _ c.fits.ensures c.if-not-fits.false).0, c.station_count-k.ensures.value), (fit_lengths _ _ _ _ _ _ _ _ c.fits.ensures c.if-not-fits.false).1, omega (arith, c.requires.sub_len_bound, c.bus_counts.auto.stations), fit_finite _ _ _ _ _ _ _ _ c.fits.ensures c.if-not-fits.false)
 
 pub figures_of-f-requires-clause-k_in_bounds_2 : goal.figures_of-f-requires-clause-k_in_bounds_2
 figures_of-f-requires-clause-k_in_bounds_2 c = (omega (arith, c.station_count-k.ensures.value, c.requires.sub_in_bounds), omega (arith, c.station_count-k.ensures.value, c.requires.sub_in_bounds), c.requires.sub_in_bounds.2, c.requires.sub_in_bounds.3, c.requires.sub_in_bounds.4)
@@ -62,4 +61,4 @@ pub shape_of-path : goal.shape_of-path
 shape_of-path c = c.figures_of-f.auto.path
 
 pub returns : goal.returns
-returns c = inner_figured _ _ _ _ (late_none _ _ c.fits2.ensures (not-false _ c.if-not-fits.false-raw) _ _ c.station_count-k.ensures.value c.bus_counts.ensures _ c.ill_drawn.ensures c.if-ill_drawn.false) c.figures_of-f.ensures
+returns c = inner_figured _ _ _ _ (late_none _ _ c.fits.ensures c.if-not-fits.false _ _ c.station_count-k.ensures.value c.bus_counts.ensures _ c.ill_drawn.ensures c.if-ill_drawn.false) c.figures_of-f.ensures
