@@ -1,11 +1,9 @@
 -- Answers for `through::through::count_hits`.
-use Rattle.network.specs.Words.{occupied}
-use Rattle.network.specs.Views.{counts_in, boxes_in}
 use Rattle.through.proofs.Crossing.{counting_start, counting_next, counting_end}
 use Rattle.through.proofs.through.count_hits.Goals as goal
 
 pub loop-s-init : goal.loop-s-init
-loop-s-init c = counting_start c.args.sub.now c.args.from.now c.args.to.now c.args.roles.now c.args.pieces.now c.args.branches.now (boxes_in c.args.k c.args.boxes.boxes.now) (occupied (counts_in c.args.k c.args.stations.now)) c.args.start c.requires.begins
+loop-s-init c = counting_start _ _ _ _ _ _ _ _ _ c.requires.begins
 
 pub next_piece-s-requires : goal.next_piece-s-requires
 next_piece-s-requires c =
@@ -13,10 +11,12 @@ next_piece-s-requires c =
     ((i.line c.loop-s-test.true).0, i.few, c.requires.begins.fit)
 
 pub loop-s-smaller : goal.loop-s-smaller
-loop-s-smaller c = (counting_next c.args.sub.now c.args.from.now c.args.to.now c.args.roles.now c.args.pieces.now c.args.branches.now (boxes_in c.args.k c.args.boxes.boxes.now) (occupied (counts_in c.args.k c.args.stations.now)) c.loop-s.s c.loop-s-test.true c.loop-s.invariant c.first_hit-h.result c.first_hit-h.ensures c.next_piece-s.result c.next_piece-s.ensures).1
+loop-s-smaller c =
+    (counting_next _ _ _ _ _ _ _ _ _ c.loop-s-test.true c.loop-s.invariant _ c.first_hit-h.ensures _ c.next_piece-s.ensures).1
 
 pub loop-s-preserved : goal.loop-s-preserved
-loop-s-preserved c = (counting_next c.args.sub.now c.args.from.now c.args.to.now c.args.roles.now c.args.pieces.now c.args.branches.now (boxes_in c.args.k c.args.boxes.boxes.now) (occupied (counts_in c.args.k c.args.stations.now)) c.loop-s.s c.loop-s-test.true c.loop-s.invariant c.first_hit-h.result c.first_hit-h.ensures c.next_piece-s.result c.next_piece-s.ensures).0
+loop-s-preserved c =
+    (counting_next _ _ _ _ _ _ _ _ _ c.loop-s-test.true c.loop-s.invariant _ c.first_hit-h.ensures _ c.next_piece-s.ensures).0
 
 pub returns : goal.returns
-returns c = counting_end c.args.sub.now c.args.from.now c.args.to.now c.args.roles.now c.args.pieces.now c.args.branches.now (boxes_in c.args.k c.args.boxes.boxes.now) (occupied (counts_in c.args.k c.args.stations.now)) c.loop-s.s c.loop-s-test.false c.loop-s.invariant
+returns c = counting_end _ _ _ _ _ _ _ _ _ c.loop-s-test.false c.loop-s.invariant
