@@ -1,12 +1,11 @@
 -- Lists of requests: leading them one after the other, and the requests of branches.
 -- Assumes nothing.
-use mathlib.Core.Path.{◌≡◌, refl, sym, ap, ◌∙◌, subst}
+use mathlib.Core.Path.{◌≡◌, refl, sym, ap, ◌∙◌}
 use mathlib.Core.Logic.{◌≢◌}
 use mathlib.Core.Bool.{Bool}
 use mathlib.Core.List.{List, []}
-use Prim.Native.Nat.{ℕ, suc, ◌^◌, ◌≤◌, ◌<◌}
+use Prim.Native.Nat.{ℕ, ◌+◌, ◌^◌, ◌≤◌, ◌<◌}
 use native.Mathlib.Omega.{arith}
-use native.Mathlib.Numerals.{add-one}
 use borrow.Author.Tests.{eq-eqb, ne_eqb}
 use lib.ListN.{length, get_or}
 use lib.Ieee.{Float}
@@ -46,9 +45,8 @@ module _ (L : Lead) (frames : List Float) (ends : List ℕ) (list : List LineReq
 
     pub along_more : {r : ℕ} {path'' n'' : List Float} {b'' : List ℕ} → i < length list
         → Passed w s r (request_pieces L frames ends (get_or list i (nothing_at 0))) n' n'' b' b''
-        → length path'' ≡ length path' → length n'' ≡ length n' → length b'' ≡ length b' → Along (suc i) r path'' n'' b''
-    along_more {r} {path''} {n''} {b''} l P d e f =
-        subst (λ (j : ℕ). Along j r path'' n'' b'') (add-one i) (record { going = go_more w _ (length list) at n b I.going l P e f; sized = d ∙ I.sized })
+        → length path'' ≡ length path' → length n'' ≡ length n' → length b'' ≡ length b' → Along (i + 1) r path'' n'' b''
+    along_more {r} {path''} {n''} {b''} l P d e f = record { going = go_more w _ (length list) at n b I.going l P e f; sized = d ∙ I.sized }
 
     pub along_end : length list ≤ i → Passed w at s (list_pieces L frames ends list) n n' b b'
     unfolding list_pieces

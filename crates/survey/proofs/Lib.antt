@@ -2,4 +2,3 @@
 pub mod Adding
 pub mod Leading
 pub mod Passes
-pub mod ArrayLent
