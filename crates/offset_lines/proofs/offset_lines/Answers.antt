@@ -15,7 +15,7 @@ offset_line-p-requires c =
 
 pub loop-i-preserved : goal.loop-i-preserved
 loop-i-preserved c =
-    listed_more _ _ _ _ _ _ _ _ _ _ c.loop-i.invariant c.loop-i-test.true c.offset_line-p.auto.out c.offset_line-p.ensures.upper_bound (wrote_same _ _ _ _ _ _ c.offset_at.ensures c.offset_line-p.ensures.1)
+    listed_more _ _ _ _ _ _ _ _ _ _ c.loop-i.invariant c.loop-i-test.true c.offset_line-p.auto.out c.offset_line-p.ensures.upper_bound (wrote_same _ _ _ _ _ _ c.offset_at.ensures (c.offset_line-p.ensures.value, c.offset_line-p.ensures.out_after))
 
 pub shape_of-out : goal.shape_of-out
 shape_of-out c = c.loop-i.invariant.size

@@ -13,4 +13,4 @@ offset_lines-requires c =
 pub returns : goal.returns
 unfolding offset_names
 returns c =
-    let both = wrote_offsets _ _ _ _ _ _ _ c.offset_order-count.ensures.1 c.word-at.ensures c.offset_lines.ensures.1 (omega (arith, side_square (suc (2 * c.args.search)) (omega arith), c.offset_order-count.ensures.0, c.word-at.ensures.value, c.offset_lines.ensures.upper_bound, c.requires)) in record { value = both.0; out_after = both.1 }
+    let both = wrote_offsets _ _ _ _ _ _ _ c.offset_order-count.ensures.1 (c.word-at.ensures.value, c.word-at.ensures.out_after) (c.offset_lines.ensures.value, c.offset_lines.ensures.out_after) (omega (arith, side_square (suc (2 * c.args.search)) (omega arith), c.offset_order-count.ensures.0, c.word-at.ensures.value, c.offset_lines.ensures.upper_bound, c.requires)) in record { value = both.0; out_after = both.1 }
