@@ -1,6 +1,6 @@
 /* Draws a small network through include/tansygate.h, and audits the drawing.
  *
- *   rt staticlib exports && cc -O2 -Wall -Iinclude -o target/draw examples/draw.c target/staticlib/libexports.a && target/draw
+ *   reference/library && cc -O2 -Wall -Iinclude -o target/draw examples/draw.c target/staticlib/libexports.a && target/draw
  *
  * An intake at 66 and 11 kV (station 0) feeds a mill (1) and a dock (2) over two lines each; a tie from mill to dock is open.
  */

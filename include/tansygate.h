@@ -10,7 +10,7 @@
  * n buses, m branches, k = highest station number + 1 (0 without buses),
  * L = mesh length = corners_len, counted as at most 24,576.
  *
- * Link with target/staticlib/libexports.a (`rt staticlib exports`), x86-64 Linux.
+ * Link with target/staticlib/libexports.a, which reference/library builds, x86-64 Linux.
  */
 #ifndef TANSYGATE_H
 #define TANSYGATE_H
