@@ -2,9 +2,8 @@
 ghost use Rattle.std.specs.Prelude.{◌≡◌};
 ghost use Rattle.findings.specs.Answer.{cleared};
 
-use results::clears::{zero_f, zero_u32, zero_u64};
-
 // All work lists hold zeros.
+#[tactic(auto, unfolding(findings::specs::Answer::cleared))]
 pub(crate) fn clear_work(
     stations: &mut [u32],
     index: &mut [u32],
@@ -15,10 +14,10 @@ pub(crate) fn clear_work(
 )
     ensures { record { stations = stations.new; index = index.new; spare = spare.new; keys = keys.new; points = points.new; path = path.new } ≡ cleared (record { stations = stations.old; index = index.old; spare = spare.old; keys = keys.old; points = points.old; path = path.old }) }
 {
-    zero_u32(stations);
-    zero_u32(index);
-    zero_u32(spare);
-    zero_u64(keys);
-    zero_f(points);
-    zero_f(path);
+    stations.fill(0);
+    index.fill(0);
+    spare.fill(0);
+    keys.fill(0);
+    points.fill(0.0);
+    path.fill(0.0);
 }

@@ -5,10 +5,11 @@ ghost use Rattle.findings.specs.Drawn.{drawn};
 ghost use Rattle.findings.specs.Answer.{Inner};
 
 use audit_figures::stages::figures_of;
-use findings::answer::Audit;
+use findings::answer::Figures;
 use fit::fit::fits;
 use fit::scale::ill_drawn;
 use network::words::{bus_counts, station_count};
+use refusals::Refusal;
 
 // 13 or 8, or the figures.
 pub(crate) fn audited(
@@ -30,7 +31,7 @@ pub(crate) fn audited(
     keys: &mut [u64],
     points: &mut [f64],
     path: &mut [f64],
-) -> Audit
+) -> Result<Figures, Refusal>
     requires sub_len_bound { (length sub.now ≤ 4096) × (station_count sub.now ≤ length sub.now) × (2 * length sub.now ≤ length stations.old) }
     requires sub_in_bounds { (station_count sub.now ≤ length displacement.old) × (station_count sub.now ≤ length spacing.old) × (length branches.now ≤ length relative.old) × (2 * length sub.now ≤ length points.old) × (2 * length sub.now ≤ length path.old) }
     requires sub_in_bounds_2 { (length sub.now ≤ length index.old) × (length sub.now ≤ length spare.old) × (length sub.now ≤ length keys.old) }
@@ -38,14 +39,14 @@ pub(crate) fn audited(
         (record { displacement = displacement.old; spacing = spacing.old; relative = relative.old }) result (record { displacement = displacement.new; spacing = spacing.new; relative = relative.new }) }
 {
     if !fits(sub, from, to, boxes, roles, pieces, branches) {
-        return Audit::Refused(13);
+        return Err(Refusal::NoFit);
     }
     let k = station_count(sub);
     bus_counts(sub, k, stations);
     if ill_drawn(k, stations, boxes, pieces) {
-        return Audit::Refused(8);
+        return Err(Refusal::IllSized);
     }
-    let f = figures_of(
+    Ok(figures_of(
         sub,
         kv,
         from,
@@ -65,6 +66,5 @@ pub(crate) fn audited(
         keys,
         points,
         path,
-    );
-    Audit::Audited(f)
+    ))
 }

@@ -3,9 +3,10 @@ ghost use Rattle.findings.specs.Answer.{call, Answered};
 
 use crate::clear::clear_work;
 use crate::inside::audited;
-use audit_limits::refuse::refusal_of_input;
-use findings::answer::Audit;
+use audit_limits::refuse::check_input;
+use findings::answer::Figures;
 use findings::room::Room;
+use refusals::Refusal;
 
 // Audits a drawing: the figures of each station and line in the result lists, the others in the answer.
 pub fn tx_layout_quality(
@@ -27,7 +28,7 @@ pub fn tx_layout_quality(
     roles: &[u8],
     pieces: &[f64],
     branches: &[u32],
-) -> Audit
+) -> Result<Figures, Refusal>
     ensures { Answered
         (record { station = sub.now; kv = kv.now; from = from.now; to = to.now; xy = xy.now; boxes = boxes.now; roles = roles.now; pieces = pieces.now; branches = branches.now })
         (record { displacement = displacement.old; spacing = spacing.old; relative = relative.old }) (record { stations = stations.old; index = index.old; spare = spare.old; keys = keys.old; points = points.old; path = path.old })
@@ -44,10 +45,7 @@ pub fn tx_layout_quality(
         points: points.len(),
         path: path.len(),
     };
-    let r = refusal_of_input(sub, kv, from, to, xy, boxes, roles, pieces, branches, room);
-    if r != 0 {
-        return Audit::Refused(r);
-    }
+    check_input(sub, kv, from, to, xy, boxes, roles, pieces, branches, room)?;
     let a = audited(
         sub,
         kv,

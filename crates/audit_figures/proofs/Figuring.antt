@@ -11,6 +11,7 @@ use Rattle.seeds.specs.Seed.{seeds}
 use Rattle.network.specs.Views.{counts_in, points_in, boxes_in}
 use Rattle.units.specs.Unit.{coordinates}
 use Rattle.order.specs.Over.{over}
+use Rattle.std.specs.Prelude.{None}
 use Rattle.runs.specs.Lists.{after}
 use Rattle.figures.specs.Figure.{middles, displacements, spacings_from, spacings}
 use Rattle.overlaps.specs.Overlaps.{overlaps}
@@ -43,14 +44,12 @@ module _ (D : Drawn) (k : ℕ) (st : List ℕ) (ke : k ≡ station_count D.stati
   moved f = ap (λ (x : List Box). f x ss) boxes_here ∙ ap (f (boxes_of D)) stations_here
 
   pub displaced : (d d' points : List Float) → points_in k points ≡ seeds D.station D.xy → d' ≡ over (displacements (points_in k points) bs ss) d
-      → d' ≡ after 0 (displacements (seeds D.station D.xy) (boxes_of D) (stations_of D)) d
-  unfolding after
+      → d' ≡ over (displacements (seeds D.station D.xy) (boxes_of D) (stations_of D)) d
   displaced d d' points e q =
       q ∙ ap (λ (x : List Point). over (displacements x bs ss) d) e ∙ ap (λ (x : List Float). over x d) (moved (displacements (seeds D.station D.xy)))
 
   pub spaced : (s s' points path : List Float) (n : ℕ) → points_in k points ≡ middles bs → take (2 * n) path ≡ coordinates (points_in k points) ss → n ≡ length ss
-      → s' ≡ over (spacings_from path n bs 0 ss) s → s' ≡ after 0 (spacings (boxes_of D) (stations_of D)) s
-  unfolding after
+      → s' ≡ over (spacings_from path n bs 0 ss) s → s' ≡ over (spacings (boxes_of D) (stations_of D)) s
   spaced s s' points path n m t e q =
       q ∙ ap (λ (x : List Float). over x s) (spacings_is path n bs ss (points_in k points) e m t ∙ moved spacings)
 
@@ -64,14 +63,14 @@ module _ (D : Drawn) (k : ℕ) (st : List ℕ) (ke : k ≡ station_count D.stati
       te ∙ moved (λ x y. through x y D.station D.from D.to D.roles D.pieces D.branches) in
       rw (a, b, c, le)
 
-  written : (d d' s s' r r' : List Float) → d' ≡ after 0 (displacements (seeds D.station D.xy) (boxes_of D) (stations_of D)) d
-      → s' ≡ after 0 (spacings (boxes_of D) (stations_of D)) s → r' ≡ over (relatives D.roles D.pieces D.branches) r
-      → lists d' s' r' ≡ lists_after 0 (lists_of D) (lists d s r)
+  written : (d d' s s' r r' : List Float) → d' ≡ over (displacements (seeds D.station D.xy) (boxes_of D) (stations_of D)) d
+      → s' ≡ over (spacings (boxes_of D) (stations_of D)) s → r' ≡ over (relatives D.roles D.pieces D.branches) r
+      → lists d' s' r' ≡ lists_after None (lists_of D) (lists d s r)
   unfolding lists_after lists_of after
   written d d' s s' r r' de se re = rw (de, se, re)
 
   pub figured : (d d' s s' r r' : List Float) (n o t l : ℕ)
-      → d' ≡ after 0 (displacements (seeds D.station D.xy) (boxes_of D) (stations_of D)) d → s' ≡ after 0 (spacings (boxes_of D) (stations_of D)) s
+      → d' ≡ over (displacements (seeds D.station D.xy) (boxes_of D) (stations_of D)) d → s' ≡ over (spacings (boxes_of D) (stations_of D)) s
       → n ≡ length ss → o ≡ overlaps bs ss → t ≡ through bs ss D.station D.from D.to D.roles D.pieces D.branches
       → r' ≡ over (relatives D.roles D.pieces D.branches) r → l ≡ length (relatives D.roles D.pieces D.branches)
       → Figured D (lists d s r) (record { stations = n; overlaps = o; through = t; relative = l }) (lists d' s' r')

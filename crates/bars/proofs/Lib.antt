@@ -1,4 +1,3 @@
 -- Laws that the functions' proofs use.
-pub mod Spans
 pub mod SpanLaw
 pub mod BarSizes

@@ -17,6 +17,7 @@ pub struct Bar {
 }
 
 // The x of a bar in the column of this number.
+#[tactic(auto, unfolding(crate::specs::Bar::bar_x))]
 fn bar_x(g: Gaps, b: Box, f: f64, column: u32) -> f64
     ensures { result ≡ bar_x g b f column }
 {
@@ -24,6 +25,7 @@ fn bar_x(g: Gaps, b: Box, f: f64, column: u32) -> f64
 }
 
 // The y of a row.
+#[tactic(auto, unfolding(crate::specs::Bar::row_y))]
 pub fn row_y(g: Gaps, b: Box, f: f64, row: u32) -> f64
     ensures { result ≡ row_y g b f row }
 {
@@ -31,6 +33,7 @@ pub fn row_y(g: Gaps, b: Box, f: f64, row: u32) -> f64
 }
 
 // A bar over its first to its last row.
+#[tactic(auto, unfolding(crate::specs::Bar::reach))]
 fn over_rows(g: Gaps, b: Box, f: f64, x: f64, first: u32, last: u32) -> Bar
     ensures { result ≡ reach g b f x (rows first last) }
 {
@@ -42,6 +45,7 @@ fn over_rows(g: Gaps, b: Box, f: f64, x: f64, first: u32, last: u32) -> Bar
 }
 
 // A bar without rows.
+#[tactic(auto, unfolding(crate::specs::Bar::reach))]
 fn at_top(g: Gaps, b: Box, f: f64, x: f64) -> Bar
     ensures { result ≡ reach g b f x bare }
 {
@@ -53,6 +57,7 @@ fn at_top(g: Gaps, b: Box, f: f64, x: f64) -> Bar
 }
 
 // A bar of at least the shortest length, about its middle.
+#[tactic(auto, unfolding(crate::specs::Bar::lengthened))]
 fn lengthened(g: Gaps, f: f64, b: Bar) -> Bar
     ensures { result ≡ lengthened g f b }
 {
@@ -68,6 +73,7 @@ fn lengthened(g: Gaps, f: f64, b: Bar) -> Bar
 }
 
 // A bar at x from its first row to before `past`; 0 for past: without rows.
+#[tactic(auto, unfolding(crate::specs::Bar::span_of))]
 fn reach(g: Gaps, b: Box, f: f64, x: f64, first: u32, past: u32) -> Bar
     ensures { result ≡ reach g b f x (span_of first past) }
 {
@@ -78,6 +84,7 @@ fn reach(g: Gaps, b: Box, f: f64, x: f64, first: u32, past: u32) -> Bar
 }
 
 // The bar of a bus in this column.
+#[tactic(auto, unfolding(crate::specs::Bar::bar_for))]
 pub fn bar_for(g: Gaps, b: Box, f: f64, column: u32, first: u32, past: u32) -> Bar
     ensures { result ≡ bar_for g b f column (span_of first past) }
 {
@@ -85,6 +92,7 @@ pub fn bar_for(g: Gaps, b: Box, f: f64, column: u32, first: u32, past: u32) -> B
 }
 
 // A bar's x and middle.
+#[tactic(auto, unfolding(crate::specs::Bar::position))]
 pub fn position(b: Bar) -> Point
     ensures { result ≡ position b }
 {
@@ -95,6 +103,7 @@ pub fn position(b: Bar) -> Point
 }
 
 // The x where a line leaves the box b at place p towards the place q: the right side unless q lies to the left.
+#[tactic(auto, unfolding(crate::specs::Exit::exit_x))]
 pub fn exit_x(b: Box, p: Point, q: Point) -> f64
     ensures { result ≡ exit_x b p q }
 {

@@ -37,10 +37,8 @@ fn clear_chains(n: usize, index: &mut [u32])
     requires { (7 + n ≤ length index.old) × (n ≤ 16384) }
     ensures { Empty n index.new × SameGrid index.old index.new }
 {
-    let mut c = 0;
-    while c < n {
+    for c in 0..n {
         index[7 + c] = 0;
-        c += 1;
     }
 }
 
@@ -51,13 +49,9 @@ fn enter(g: Grid, k: usize, stations: &[u32], frames: &[f64], index: &mut [u32])
     ensures chained { Chained g (boxes_in k frames.now) (occupied (counts_in k stations.now)) k index.new }
     ensures same_grid { SameGrid index.old index.new }
 {
-    let mut s = 0;
-    while s < k {
+    for s in 0..k {
         if 0 < stations[2 * s] {
             link(k, chain_of(g, box_in(k, frames, s)), s, index);
-            s += 1;
-        } else {
-            s += 1;
         }
     }
 }

@@ -63,13 +63,9 @@ pub(crate) fn extent_of(k: usize, stations: &[u32], frames: &[f64]) -> Extent
         height: 0.0,
         count: 0,
     };
-    let mut s = 0;
-    while s < k {
+    for s in 0..k {
         if 0 < stations[2 * s] {
             e = extended(k, frames, e, s);
-            s += 1;
-        } else {
-            s += 1;
         }
     }
     e
@@ -88,15 +84,13 @@ fn counts_over(x: f64, y: f64, w: f64, h: f64, most: usize) -> Counts
     ensures { (1 ≤ result.columns) × (1 ≤ result.rows) × (result.columns * result.rows ≤ most) }
 {
     let mut side = max(x, y) / (most as f64);
-    let mut i: usize = 0;
-    while i < 64 {
+    for _ in 0..64 {
         let columns = 1 + cell(max(side, w), 0.0, most, x);
         let rows = 1 + cell(max(side, h), 0.0, most, y);
         if columns * rows <= most {
             return Counts { columns, rows };
         }
         side = side * 1.25;
-        i += 1;
     }
     Counts {
         columns: 1,

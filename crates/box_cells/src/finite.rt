@@ -31,16 +31,11 @@ pub(crate) fn all_finite(k: usize, stations: &[u32], frames: &[f64]) -> bool
     requires { (2 * k ≤ length stations.now) × (4 * k ≤ length frames.now) }
     ensures { result ≡ true → All (λ s. finite_box (box_in (boxes_in k frames.now) s) ≡ true) (occupied (counts_in k stations.now)) }
 {
-    let mut s = 0;
-    while s < k {
+    for s in 0..k {
         if 0 < stations[2 * s] {
-            if finite_box(box_in(k, frames, s)) {
-                s += 1;
-            } else {
+            if !finite_box(box_in(k, frames, s)) {
                 return false;
             }
-        } else {
-            s += 1;
         }
     }
     true

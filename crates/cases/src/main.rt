@@ -8,77 +8,59 @@
 mod ieee;
 mod lists;
 mod plane;
-mod text;
 mod words;
 
 use std::io;
 use std::io::Read;
-use text::line_end;
 
 // How much of the input is read.
 const MOST_BYTES: u64 = 524288;
 
 // How many tests were compared, and how many of them differ.
-#[derive(Clone, Copy)]
-pub struct Tally {
-    pub compared: u64,
-    pub differ: u64,
+#[derive(Clone, Copy, Default)]
+struct Tally {
+    compared: u64,
+    differ: u64,
 }
 
 impl Tally {
-    // With one test more.
-    fn with(self, agrees: bool) -> Tally {
-        let compared = std::num::wrapping_add_u64(self.compared, 1);
-        if agrees {
-            return Tally {
-                compared,
-                differ: self.differ,
-            };
-        }
-        Tally {
-            compared,
-            differ: std::num::wrapping_add_u64(self.differ, 1),
-        }
+    // Counts one test more.
+    fn add(&mut self, agrees: bool) {
+        self.compared = self.compared.wrapping_add(1);
+        self.differ = self.differ.wrapping_add(u64::from(!agrees));
     }
 }
 
-// Whether a test agrees; one whose name is unknown does not.
-fn test_agrees(name: u64, count: usize, words: &[u64; 32]) -> bool {
-    if plane::has(name) {
-        return plane::agrees(name, words);
-    }
-    if lists::has(name) {
-        return lists::agrees(name, words);
-    }
-    ieee::agrees(name, count, words)
-}
-
-// Whether the test on one line agrees.
+// Whether the test on one line agrees; one whose name is unknown does not.
 fn agrees(line: &[u8]) -> bool {
-    let mut words = [0u64; 32];
-    let count = text::words(line, &mut words);
-    test_agrees(text::name(line), count, &words)
+    let mut w = [0; 32];
+    let count = stored::words(line.get(4..).unwrap_or(&[]), &mut w);
+    let name = line.get(..3).unwrap_or(&[]);
+    match name {
+        b"hit" => plane::hit_agrees(&w),
+        b"crs" => plane::cross_agrees(&w),
+        b"par" => plane::param_agrees(&w),
+        b"ovl" => plane::overlap_agrees(&w),
+        b"chn" => lists::channel_agrees(&w),
+        b"spa" => lists::space_agrees(&w),
+        b"nea" => lists::nearest_agrees(&w),
+        b"wit" => lists::within_agrees(&w),
+        b"med" => lists::median_agrees(&w),
+        b"flo" => count == 2 && ieee::floors(w[0], w[1]),
+        _ => count == 3 && ieee::agrees(name, w[0], w[1], w[2]),
+    }
 }
 
 fn run(text: &[u8]) -> Tally {
-    let mut tally = Tally {
-        compared: 0,
-        differ: 0,
-    };
-    let mut at = 0;
-    while at < text.len() {
-        let end = line_end(text, at);
-        let ok = agrees(&text[at..end]);
-        tally = tally.with(ok);
-        if end == text.len() {
-            return tally;
-        }
-        at = end + 1;
+    let mut tally = Tally::default();
+    for line in text.split_inclusive(|b| *b == b'\n') {
+        tally.add(agrees(line.strip_suffix(b"\n").unwrap_or(line)));
     }
     tally
 }
 
 fn main(rt: HostRuntime) -> io::Result<()> {
+    // all at once: `rt.lines` would allocate each line, and fail where one is no UTF-8
     let mut text = Vec::new(rt.alloc());
     rt.reader().take(MOST_BYTES).read_to_end(&mut text)?;
     let Tally { compared, differ } = run(&text);

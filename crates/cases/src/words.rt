@@ -1,43 +1,24 @@
-// Numbers of a test, taken from its words.
-
-// The word at i, 0 past the end.
-pub(crate) fn word_at(w: &[u64], i: usize) -> u64 {
-    if i < w.len() { w[i] } else { 0 }
-}
-
-pub(crate) fn float_at(w: &[u64], i: usize) -> f64 {
-    float::bits::of_bits(word_at(w, i))
-}
+// Numbers of a test, compared with its words and taken from them.
+use float::bits::of_bits;
+use stored::{float_at, word_at};
 
 // Whether x has the pattern `bits`, or both are NaNs.
 pub(crate) fn same(x: f64, bits: u64) -> bool {
-    if x != x {
-        return 0x7FF0_0000_0000_0000 < bits % 0x8000_0000_0000_0000;
-    }
-    f64::to_bits(x) == bits
-}
-
-// The floats from word `from` on, as many as the list holds.
-pub(crate) fn fill(w: &[u64], from: usize, list: &mut [f64]) {
-    let mut i = 0;
-    while i < list.len() {
-        list[i] = float_at(w, std::num::wrapping_add_usize(from, i));
-        i += 1;
+    if x.is_nan() {
+        of_bits(bits).is_nan()
+    } else {
+        x.to_bits() == bits
     }
 }
 
-// Whether the first n floats of a list have the patterns from word `from` on.
-pub(crate) fn all_same(list: &[f64], n: usize, w: &[u64], from: usize) -> bool {
-    let mut i = 0;
-    while i < n {
-        if i < list.len() {
-            if !same(list[i], word_at(w, std::num::wrapping_add_usize(from, i))) {
-                return false;
-            }
-        } else {
-            return false;
-        }
-        i += 1;
-    }
-    true
+// The floats from word `from` on.
+pub(crate) fn floats<const N: usize>(w: &[u64], from: usize) -> [f64; N] {
+    std::array::from_fn(|i| float_at(w, from.wrapping_add(i)))
+}
+
+// Whether a list's floats have the patterns from word `from` on.
+pub(crate) fn all_same(list: &[f64], w: &[u64], from: usize) -> bool {
+    list.iter()
+        .enumerate()
+        .all(|(i, x)| same(*x, word_at(w, from.wrapping_add(i))))
 }

@@ -6,18 +6,17 @@ use Prim.Native.Nat.{ℕ, zero, suc, ◌+◌, ◌-◌, ◌*◌, ◌/◌, ◌^◌
 use native.Mathlib.Nat.{div-lt_iff_lt-mul}
 use native.Mathlib.Omega.{arith}
 use borrow.Author.Tests.{ltb-true, ltb-false, le-ltb}
-use lib.Dec.{T}
 use lib.IntN.{ℤ, pos, negsuc, neg_ℤ, nat_abs, ◌+ℤ◌}
-use lib.Signed.{non_neg, mag}
+use lib.Signed.{mag}
 use lib.Ieee.{Float, nan, inf, fin, binary64, up, down, lt, neg, of_bits, of_fields, odd}
 use lib.Ieee.Fits.{down_pos}
 use mir.Syntax.{w64}
-use mir.Val.{Fits, SFits, to_z, of_z}
+use mir.Val.{SFits, to_z, of_z}
 use mir.Facts.{to_z-of_z}
 use Rattle.float.specs.Floor.{size_down, size_up, floor_int}
-use Rattle.float.specs.Ops.{f0, ◌⊘◌}
+use Rattle.float.specs.Ops.{f0}
 use Rattle.order.proofs.Merging.{le_or_lt}
-use Rattle.cells.specs.Stages.Cells.{held, cell_number, cell_of, shifted, cell_key}
+use Rattle.cells.specs.Stages.Cells.{held, cell_number, shifted}
 
 -- ---- a cell plus 2^52
 plus_is : (z : ℤ) → nat_abs z ≤ 2 ^ 52 → z +ℤ pos 4503599627370496 ≡ pos (shifted z)
@@ -38,9 +37,6 @@ module _ (z z' : ℤ) (e : z' ≡ z) (h : nat_abs z ≤ 2 ^ 52) where
   shift_fits = subst (SFits w64) (sym read) (record { sfits = omega (arith, shifted_small z h) })
 
   module _ (d : ℤ) (g : d ≡ z' +ℤ pos 4503599627370496) where
-    pub shift_cast : T (non_neg d) × Fits w64 (nat_abs d)
-    shift_cast = subst (λ (x : ℤ). T (non_neg x) × Fits w64 (nat_abs x)) (sym (g ∙ read)) (tt, record { fits = omega (arith, shifted_small z h) })
-
     pub shift_is : nat_abs d ≡ shifted z
     shift_is = ap nat_abs (g ∙ read)
 
@@ -174,15 +170,6 @@ module _ (t : Float) where
   pub key_neither : lt (neg high) t ≡ false → lt t f0 ≡ false → 4503599627370496 ≡ shifted (cell_number t)
   unfolding shifted
   key_neither h k = ap shifted (sym (neither t h k))
-
-module _ (unit edge : Float) where
-  pub key_unit : (r : ℕ) → lt f0 unit ≡ true → r ≡ shifted (cell_number (edge ⊘ unit)) → r ≡ cell_key unit edge
-  unfolding cell_key cell_of
-  key_unit r e f = f ∙ sym (ap (λ (t : Bool). shifted (cond t (cell_number (edge ⊘ unit)) (pos 0))) e)
-
-  pub key_flat : lt f0 unit ≡ false → 4503599627370496 ≡ cell_key unit edge
-  unfolding cell_key cell_of shifted
-  key_flat e = sym (ap (λ (t : Bool). shifted (cond t (cell_number (edge ⊘ unit)) (pos 0))) e)
 
 pub floor_requires : (z : ℤ) (t : Float) → z ≡ floor_int t → lt (neg high) t ≡ true → lt t high ≡ true → nat_abs z ≤ 2 ^ 52
 floor_requires z t e h k = subst (λ (x : ℤ). nat_abs x ≤ 2 ^ 52) (sym e) (floor_small t h k)

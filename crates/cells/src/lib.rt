@@ -31,6 +31,7 @@ fn number_key(t: f64) -> u64
 }
 
 // The cell of an edge, 0 for unit 0; plus 2^52.
+#[tactic(auto, unfolding(crate::specs::Stages::Cells::cell_key, crate::specs::Stages::Cells::cell_of, crate::specs::Stages::Cells::shifted))]
 pub fn cell_key(unit: f64, edge: f64) -> u64
     ensures { result ≡ cell_key unit edge }
 {

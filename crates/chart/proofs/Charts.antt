@@ -8,10 +8,14 @@ use native.Mathlib.Omega.{arith}
 use lib.Dec.{ltb}
 use lib.ListN.{length, get_or}
 use lib.Ieee.{Float}
+use Rattle.std.specs.Prelude.{Option, Some, None, Result, Err}
 use Rattle.order.specs.Table.{table}
 use Rattle.order.proofs.Tables.{length_table, get_d_table}
 use Rattle.geometry.specs.declared.Point.{Point}
 use Rattle.options.specs.declared.Options.{Options}
+use Rattle.refusals.specs.declared.Refusal.{Refusal}
+use Rattle.refusals.specs.declared.Refusal.TheVariants as Refusals
+use Rattle.refusals.specs.Refusal.{unless}
 use Rattle.network.specs.Words.{station_of, kinds, occupied}
 use Rattle.network.specs.Views.{counts_in, from_rows_in, to_rows_in, points_in, boxes_in}
 use Rattle.sized.specs.Sized.{ill_sized}
@@ -40,6 +44,9 @@ routed_cong S S' a a' b b' c c' d d' e e' p q r s t u = cc
 led_cong : (S S' : Scene) (l : Bool) (a a' : List ℕ) (b b' : Float) (w w' : List (List Point))
     → S ≡ S' → a ≡ a' → b ≡ b' → w ≡ w' → led_scene S l a b w ≡ led_scene S' l a' b' w'
 led_cong S S' l a a' b b' w w' p q r s = cc
+
+some_none : {r : Refusal} → Some r ≡ None → ⊥
+some_none e = cc
 
 module _ (o : Options) (N : Network) (k : ℕ) (unit : Float) (stations buses ends : List ℕ) (blocks places frames : List Float)
     (below : (i : ℕ) → i < length N.station → station_of N.station i < k)
@@ -92,7 +99,7 @@ module _ (o : Options) (N : Network) (k : ℕ) (unit : Float) (stations buses en
       ap (λ (S : Route.Scene). Route.waypoints S (Route.routing S) (crossings_of S its) e) routed_is
       ∙ sym (get_d_table (Route.waypoints (routed_of o N (planned o N)) (Route.routing (routed_of o N (planned o N))) (crossings_of (routed_of o N (planned o N)) its)) (length (routed_of o N (planned o N)).lines) e [] (rw ways_long h))
 
-  module _ (room l : ℕ) (stations' ends' : List ℕ) (path ways : List Float)
+  module _ (room : ℕ) (l : Option Refusal) (stations' ends' : List ℕ) (path ways : List Float)
       (R : Routes (grid_by ends) k stations N.corners N.twins its room l stations' ends' ways) where
     late_is : l ≡ route_refusal (drawing o N).mesh_fits (length (drawing o N).crossings) room
     unfolding drawing
@@ -101,7 +108,7 @@ module _ (o : Options) (N : Network) (k : ℕ) (unit : Float) (stations buses en
     counts_are : counts_in k stations' ≡ (planned o N).counts
     counts_are = R.counts ∙ G.counts ∙ G.holds.counts
 
-    runs_are : l ≡ 0
+    runs_are : l ≡ None
         → runs_in (held N.station (measures_of o unit) buses ends' blocks places frames (lead (ltb 0 its) (gap_of unit) k stations' ways)) N.from N.to N.service
         ≡ (drawing o N).runs
     unfolding drawing scene_of
@@ -118,40 +125,40 @@ module _ (o : Options) (N : Network) (k : ℕ) (unit : Float) (stations buses en
     -- The lists hold the drawing with its routes.
     pub charted : (ill : Bool) → ill ≡ ill_sized (boxes_in k frames) (occupied (counts_in k stations)) → ill ≡ false
         → 2 * k + 3 * min (length N.corners) 24576 + 16 ≤ length path
-        → Charted o N k room unit l stations' buses ends' blocks places frames path ways
+        → Charted o N k room (unless l unit) stations' buses ends' blocks places frames path ways
     unfolding drawing routed_late routed_by
     charted ill i e p =
         let ie : ill_sized (planned o N).boxes (occupied (planned o N).counts) ≡ false = cc (i, G.holds.boxes, occ_is) in
+        let routed : l ≡ routed_late o N room = late_is ∙ rw ie in
         record {
-          unit_is = G.holds.unit_is;
+          course_is = cc (routed, G.holds.unit_is);
           counts = counts_are;
           scales = G.holds.scales;
           boxes = G.holds.boxes;
-          bars = G.holds.bars;
-          late_is = late_is ∙ rw ie;
-          runs = runs_are;
-          fits = λ z e h. (omega (arith, (R.short z e h).0, p), (R.short z e h).1);
+          bars = (let b = G.holds.unit_is in cc (b)) ∙ G.holds.bars;
+          runs = λ z. (let b = G.holds.unit_is in cc (b)) ∙ runs_are (routed ∙ z);
+          fits = λ z e h. (omega (arith, (R.short (routed ∙ z) e h).0, p), (R.short (routed ∙ z) e h).1);
         }
 
   -- Where the sizes are ill nothing is routed.
   pub charted_ill : (ill : Bool) (room : ℕ) (path ways : List Float) → ill ≡ ill_sized (boxes_in k frames) (occupied (counts_in k stations)) → ill ≡ true
-      → Charted o N k room unit 8 stations buses ends blocks places frames path ways
+      → Charted o N k room (Err Refusals.IllSized) stations buses ends blocks places frames path ways
   unfolding drawing routed_late routed_by
   charted_ill ill room path ways i e =
       let ie : ill_sized (planned o N).boxes (occupied (planned o N).counts) ≡ true = cc (i, G.holds.boxes, occ_is) in
+      let routed : Some Refusals.IllSized ≡ routed_late o N room = rw ie in
       record {
-        unit_is = G.holds.unit_is;
+        course_is = rw ie;
         counts = G.counts ∙ G.holds.counts;
         scales = G.holds.scales;
         boxes = G.holds.boxes;
-        bars = G.holds.bars;
-        late_is = rw ie;
-        runs = λ z. absurd (omega (arith, z));
-        fits = λ z. absurd (omega (arith, z));
+        bars = (let b = G.holds.unit_is in cc (b)) ∙ G.holds.bars;
+        runs = λ z. absurd (some_none (routed ∙ z));
+        fits = λ z. absurd (some_none (routed ∙ z));
       }
 
 -- the same with an equal room for crossings
-pub charted_at : (o : Options) (N : Network) (k x y : ℕ) (unit : Float) (l : ℕ) (stations buses ends : List ℕ) (blocks places frames path ways : List Float)
-    → x ≡ y → Charted o N k x unit l stations buses ends blocks places frames path ways → Charted o N k y unit l stations buses ends blocks places frames path ways
-charted_at o N k x y unit l stations buses ends blocks places frames path ways e C =
-    subst (λ (z : ℕ). Charted o N k z unit l stations buses ends blocks places frames path ways) e C
+pub charted_at : (o : Options) (N : Network) (k x y : ℕ) (c : Result Float Refusal) (stations buses ends : List ℕ) (blocks places frames path ways : List Float)
+    → x ≡ y → Charted o N k x c stations buses ends blocks places frames path ways → Charted o N k y c stations buses ends blocks places frames path ways
+charted_at o N k x y c stations buses ends blocks places frames path ways e C =
+    subst (λ (z : ℕ). Charted o N k z c stations buses ends blocks places frames path ways) e C

@@ -17,17 +17,11 @@ use crate::lay::lay;
 use box_cells::build::index_boxes;
 use measures::Measures;
 use options::Options;
+use refusals::Refusal;
 use routes::route_lines;
 use sized::ill_sized;
 
-// The unit, and the late refusal so far, 8, 9 or 10, 0 for none.
-#[derive(Clone, Copy)]
-pub struct Course {
-    pub unit: f64,
-    pub late: u32,
-}
-
-// Routes the lines of a drawing that is laid out, unless its sizes are ill; the crossing list holds `room` crossings.
+// Routes the lines of a drawing that is laid out, unless its sizes are ill, and answers its unit; the crossing list holds `room` crossings.
 fn route(
     o: Options,
     ill: bool,
@@ -55,20 +49,20 @@ fn route(
     numbers: &mut [u32],
     along: &mut [f64],
     ways: &mut [f64],
-) -> Course
+) -> Result<f64, Refusal>
     requires k_value { (k ≡ station_count sub.now) × (length from.now ≤ 8192) × (k ≤ 4096) × (2 * k ≤ length stations.old) × (2 * k ≤ length places.now) × (4 * k ≤ length frames.now) × (2 * k ≤ length path.old) × (length sub.now ≤ 4096) }
     requires room_in_bounds { (3 * room ≤ length numbers.old) × (room ≤ length along.old) × (2 * room ≤ length ways.old) × (room ≤ length sorted.old) × (room ≤ length spare.old) × (room ≤ length keys.old) }
     requires corners_in_bounds { (4 * length from.now + 4 * min (length corners.now) 24576 + 4 ≤ length ends.old) × (min (length corners.now) 24576 ≤ length sorted.old) × (min (length corners.now) 24576 ≤ length spare.old) × (min (length corners.now) 24576 ≤ length keys.old) × (2 * k + 3 * min (length corners.now) 24576 + 16 ≤ length path.old) }
     requires ill_value { ill ≡ ill_sized (boxes_in k frames.now) (occupied (counts_in k stations.old)) }
     requires laid { Laid o (network sub.now kv.now from.now to.now service.now xy.now corners.now twins.now) k unit stations.old buses.now ends.old blocks.now places.now frames.now }
-    ensures { Charted o (network sub.now kv.now from.now to.now service.now xy.now corners.now twins.now) k room result.unit result.late stations.new buses.now ends.new blocks.now places.now frames.now path.new ways.new }
+    ensures { Charted o (network sub.now kv.now from.now to.now service.now xy.now corners.now twins.now) k room result stations.new buses.now ends.new blocks.now places.now frames.now path.new ways.new }
 {
     if ill {
-        return Course { unit, late: 8 };
+        return Err(Refusal::IllSized);
     }
     let gaps = o.gaps;
     let measures = Measures { unit, gaps };
-    let late = route_lines(
+    route_lines(
         o.route_iterations,
         room,
         sub,
@@ -91,11 +85,11 @@ fn route(
         numbers,
         along,
         ways,
-    );
-    Course { unit, late }
+    )?;
+    Ok(unit)
 }
 
-// Lays a drawing out, routes its lines, and enters its boxes in `sorted` where lines are led round them.
+// Lays a drawing out, routes its lines, and enters its boxes in `sorted` where lines are led round them. Answers the unit, or 8, 9 or 10.
 pub fn chart(
     o: Options,
     sub: &[u32],
@@ -121,13 +115,13 @@ pub fn chart(
     numbers: &mut [u32],
     along: &mut [f64],
     ways: &mut [f64],
-) -> Course
+) -> Result<f64, Refusal>
     requires k_value { (k ≡ station_count sub.now) × (length sub.now ≤ 4096) × (k ≤ length sub.now) × (length from.now ≤ 8192) × (length kv.now ≡ length sub.now) × (search_of o.search ≤ 20) }
     requires sub_in_bounds { (2 * length sub.now ≤ length stations.old) × (3 * length sub.now ≤ length buses.old) × (4 * length from.now ≤ length ends.old) × (2 * length sub.now + 4 * length from.now ≤ length places.old) × (3 * length sub.now ≤ length blocks.old) × (4 * length sub.now ≤ length frames.old) × (2 * length sub.now ≤ length path.old) }
     requires from_in_bounds { (length sub.now + 2 * length from.now ≤ length sorted.old) × (length sub.now + 2 * length from.now ≤ length spare.old) × (length sub.now + 2 * length from.now ≤ length keys.old) }
     requires room_in_bounds { (3 * room ≤ length numbers.old) × (room ≤ length along.old) × (2 * room ≤ length ways.old) × (room ≤ length sorted.old) × (room ≤ length spare.old) × (room ≤ length keys.old) }
     requires corners_in_bounds { (4 * length from.now + 4 * min (length corners.now) 24576 + 4 ≤ length ends.old) × (min (length corners.now) 24576 ≤ length sorted.old) × (min (length corners.now) 24576 ≤ length spare.old) × (min (length corners.now) 24576 ≤ length keys.old) × (2 * length sub.now + 3 * min (length corners.now) 24576 + 16 ≤ length path.old) }
-    ensures charted { Charted o (network sub.now kv.now from.now to.now service.now xy.now corners.now twins.now) k room result.unit result.late stations.new buses.new ends.new blocks.new places.new frames.new path.new ways.new }
+    ensures charted { Charted o (network sub.now kv.now from.now to.now service.now xy.now corners.now twins.now) k room result stations.new buses.new ends.new blocks.new places.new frames.new path.new ways.new }
     ensures indexed { Indexed (boxes_in k frames.new) (occupied (counts_in k stations.new)) sorted.new }
 {
     let unit = lay(

@@ -5,9 +5,8 @@ ghost use Rattle.std.specs.Prelude.{◌≡◌};
 ghost use Rattle.drawing.specs.Network.{crossings};
 ghost use Rattle.drawing.specs.Answer.{cleared_work, cleared_crossings};
 
-use results::clears::{zero_f, zero_u32, zero_u64};
-
 // All work lists of fixed needed length hold zeros.
+#[tactic(auto, unfolding(drawing::specs::Answer::cleared_work))]
 pub fn clear_work(
     stations: &mut [u32],
     buses: &mut [u32],
@@ -23,24 +22,25 @@ pub fn clear_work(
     ensures { record { stations = stations.new; buses = buses.new; ends = ends.new; sorted = sorted.new; spare = spare.new; keys = keys.new; places = places.new; blocks = blocks.new; frames = frames.new; path = path.new }
         ≡ cleared_work (record { stations = stations.old; buses = buses.old; ends = ends.old; sorted = sorted.old; spare = spare.old; keys = keys.old; places = places.old; blocks = blocks.old; frames = frames.old; path = path.old }) }
 {
-    zero_u32(stations);
-    zero_u32(buses);
-    zero_u32(ends);
-    zero_u32(sorted);
-    zero_u32(spare);
-    zero_u64(keys);
-    zero_f(places);
-    zero_f(blocks);
-    zero_f(frames);
-    zero_f(path);
+    stations.fill(0);
+    buses.fill(0);
+    ends.fill(0);
+    sorted.fill(0);
+    spare.fill(0);
+    keys.fill(0);
+    places.fill(0.0);
+    blocks.fill(0.0);
+    frames.fill(0.0);
+    path.fill(0.0);
 }
 
 // So do the crossing lists.
+#[tactic(auto, unfolding(drawing::specs::Answer::cleared_crossings))]
 pub fn clear_crossings(numbers: &mut [u32], places: &mut [f64], ways: &mut [f64])
     ensures { crossings numbers.new places.new ways.new
         ≡ cleared_crossings (crossings numbers.old places.old ways.old) }
 {
-    zero_u32(numbers);
-    zero_f(places);
-    zero_f(ways);
+    numbers.fill(0);
+    places.fill(0.0);
+    ways.fill(0.0);
 }

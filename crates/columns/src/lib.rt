@@ -15,10 +15,8 @@ fn falling_keys(kv: &[u64], keys: &mut [u64])
     requires { length kv.now ≤ length keys.old }
     ensures { take (length kv.now) keys.new ≡ table (λ i. falling (voltage kv.now i)) (length kv.now) }
 {
-    let mut i = 0;
-    while i < kv.len() {
+    for i in 0..kv.len() {
         keys[i] = 0xffff_ffff_ffff_ffff - key_of_bits(kv[i]);
-        i += 1;
     }
 }
 
@@ -26,10 +24,8 @@ fn put_columns(places: &[u32], n: usize, buses: &mut [u32])
     requires { (n ≤ length places.now) × (3 * n ≤ length buses.old) }
     ensures { columns_in n buses.new ≡ take n places.now }
 {
-    let mut i = 0;
-    while i < n {
+    for i in 0..n {
         buses[3 * i] = places[i];
-        i += 1;
     }
 }
 

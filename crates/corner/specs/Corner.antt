@@ -1,13 +1,11 @@
 -- 8. The corner by which a piece goes round a box: half a gap off it, the cheapest that clears it. Definitions only.
-use Rattle.std.specs.Prelude.{ℕ, Bool, not, cond, ◌&&◌, List, [], ◌∷◌, ltb, Float}
+use Rattle.std.specs.Prelude.{ℕ, Bool, not, cond, ◌&&◌, List, [], ◌∷◌, ltb, Float, Option, Some, None, unwrap_or}
 use Rattle.float.specs.Hypot.{hypot_of}
 use Rattle.float.specs.Ops.{f½, order_key, ◌⊕◌, ◌⊖◌, ◌⊗◌}
 use Rattle.geometry.specs.declared.Point.{Point}
 use Rattle.geometry.specs.declared.Box.{Box}
 use Rattle.geometry.specs.Plane.{point, shrunk}
 use Rattle.geometry.specs.Clip.{hits}
-use Rattle.corner.specs.declared.Choice.{Choice}
-use Rattle.corner.specs.declared.Choice.TheVariants.{Nowhere, Over}
 
 -- the four points g off a box's corners
 unfoldable pub corners_of : Box → Float → List Point
@@ -30,21 +28,17 @@ clearing p q b [] = []
 clearing p q b (c ∷ cs) = let rest = clearing p q b cs in cond (clears p q b c) (c ∷ rest) rest
 
 -- c in place of the cheapest so far where it costs strictly less
-unfoldable pub cheaper : Point → Point → Choice → Point → Choice
-cheaper p q Nowhere c = Over c
-cheaper p q (Over d) c = cond (ltb (cost_key p q c) (cost_key p q d)) (Over c) (Over d)
+unfoldable pub cheaper : Point → Point → Option Point → Point → Option Point
+cheaper p q None c = Some c
+cheaper p q (Some d) c = cond (ltb (cost_key p q c) (cost_key p q d)) (Some c) (Some d)
 
 -- `min_by`: the cheapest of one so far and these, the first of equals
-unfoldable pub cheapest : Point → Point → Choice → List Point → Choice
+unfoldable pub cheapest : Point → Point → Option Point → List Point → Option Point
 cheapest p q best [] = best
 cheapest p q best (c ∷ cs) = cheapest p q (cheaper p q best c) cs
-
-unfoldable pub or_else : Choice → Point → Point
-or_else Nowhere other = other
-or_else (Over c) other = c
 
 -- the point by which the piece p q goes round box b: the cheapest of the corners that clear it, else of all four
 unfoldable pub corner : Point → Point → Box → Float → Point
 corner p q b gap =
     let cs = corners_of b (gap ⊗ f½) in
-    or_else (cheapest p q Nowhere (clearing p q b cs)) (or_else (cheapest p q Nowhere cs) p)
+    unwrap_or (cheapest p q None (clearing p q b cs)) (unwrap_or (cheapest p q None cs) p)

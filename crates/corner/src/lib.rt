@@ -1,20 +1,12 @@
 // The point by which a piece goes round a box: a corner of it, half a gap off.
 #![tactic(auto)]
 
-ghost use Rattle.std.specs.Prelude.{◌≡◌, cond, [], ◌∷◌};
-ghost use Rattle.corner.specs.Corner.{cost, cost_key, clears, cheaper, cheapest, or_else, corner};
-ghost use Rattle.corner.specs.declared.Choice.TheVariants.{Nowhere};
+ghost use Rattle.std.specs.Prelude.{◌≡◌, cond, [], ◌∷◌, None, unwrap_or};
+ghost use Rattle.corner.specs.Corner.{cost, cost_key, clears, cheaper, cheapest, corner};
 
 use float::key::order_key;
 use geometry::{Box, Point, piece_hits, shrunk};
 use hypot::hypot;
-
-// The cheapest point so far, or none.
-#[derive(Clone, Copy)]
-pub enum Choice {
-    Nowhere,
-    Over(Point),
-}
 
 // How long the way from p over c to q is.
 fn cost(p: Point, q: Point, c: Point) -> f64
@@ -46,14 +38,14 @@ fn clears(p: Point, q: Point, b: Box, c: Point) -> bool
 }
 
 // c in place of the cheapest so far where it costs strictly less.
-fn cheaper(p: Point, q: Point, best: Choice, c: Point) -> Choice
+fn cheaper(p: Point, q: Point, best: Option<Point>, c: Point) -> Option<Point>
     ensures { result ≡ cheaper p q best c }
 {
     match best {
-        Choice::Nowhere => Choice::Over(c),
-        Choice::Over(d) => {
+        None => Some(c),
+        Some(d) => {
             if cost_key(p, q, c) < cost_key(p, q, d) {
-                Choice::Over(c)
+                Some(c)
             } else {
                 best
             }
@@ -62,7 +54,7 @@ fn cheaper(p: Point, q: Point, best: Choice, c: Point) -> Choice
 }
 
 // The same, but only where c's two pieces clear the box.
-fn cheaper_clear(p: Point, q: Point, b: Box, best: Choice, c: Point) -> Choice
+fn cheaper_clear(p: Point, q: Point, b: Box, best: Option<Point>, c: Point) -> Option<Point>
     ensures { result ≡ cond (clears p q b c) (cheaper p q best c) best }
 {
     if clears(p, q, b, c) {
@@ -71,24 +63,14 @@ fn cheaper_clear(p: Point, q: Point, b: Box, best: Choice, c: Point) -> Choice
     best
 }
 
-// The point chosen, or another where there is none.
-fn or_else(best: Choice, other: Point) -> Point
-    ensures { result ≡ or_else best other }
-{
-    match best {
-        Choice::Nowhere => other,
-        Choice::Over(c) => c,
-    }
-}
-
 // The cheapest of four points.
 fn cheapest_of(p: Point, q: Point, c0: Point, c1: Point, c2: Point, c3: Point) -> Point
-    ensures { result ≡ or_else (cheapest p q Nowhere (c0 ∷ c1 ∷ c2 ∷ c3 ∷ [])) p }
+    ensures { result ≡ unwrap_or (cheapest p q None (c0 ∷ c1 ∷ c2 ∷ c3 ∷ [])) p }
 {
-    let e1 = cheaper(p, q, Choice::Over(c0), c1);
+    let e1 = cheaper(p, q, Some(c0), c1);
     let e2 = cheaper(p, q, e1, c2);
     let e3 = cheaper(p, q, e2, c3);
-    or_else(e3, p)
+    e3.unwrap_or(p)
 }
 
 // The point by which the piece p q goes round box b: the cheapest of the corners that clear it, else of all four.
@@ -112,12 +94,9 @@ pub fn corner(p: Point, q: Point, b: Box, gap: f64) -> Point
         x: b.left - g,
         y: b.bottom + g,
     };
-    let d0 = cheaper_clear(p, q, b, Choice::Nowhere, c0);
+    let d0 = cheaper_clear(p, q, b, None, c0);
     let d1 = cheaper_clear(p, q, b, d0, c1);
     let d2 = cheaper_clear(p, q, b, d1, c2);
     let d3 = cheaper_clear(p, q, b, d2, c3);
-    match d3 {
-        Choice::Nowhere => cheapest_of(p, q, c0, c1, c2, c3),
-        Choice::Over(c) => c,
-    }
+    d3.unwrap_or_else(|| cheapest_of(p, q, c0, c1, c2, c3))
 }

@@ -1,15 +1,12 @@
 -- A place that `line_param` answers is held to 0..1. Assumes nothing.
 use mathlib.Core.Path.{◌≡◌, refl, ap, subst}
-use Prim.Native.Nat.{ℕ}
-use native.Mathlib.Omega.{arith}
 use mathlib.Core.Bool.{Bool, true, false, cond}
 use lib.Ieee.{Float, lt, of_bits}
 use Rattle.float.specs.Small.{clamp_of}
 use Rattle.float.specs.Ops.{f0, f1}
 use Rattle.geometry.specs.declared.Point.{Point}
-use Rattle.crossing.specs.declared.Param.{Param}
-use Rattle.crossing.specs.declared.Param.TheVariants.{At, Parallel}
-use Rattle.crossing.specs.Cross.{parallel, param, place_or}
+use Rattle.std.specs.Prelude.{Option, Some, None, unwrap_or}
+use Rattle.crossing.specs.Cross.{parallel, param}
 
 -- not below 0 and not above 1
 pub record InUnit (t : Float) : Type 0 where
@@ -26,10 +23,10 @@ clamp_held x = go (lt x f0) (lt f1 x) refl refl
     go false false d e = record { low = d; high = e }
 
 -- a place that is answered is held to 0..1
-pub place_held : (p q u w : Point) (t : Float) → param p q u w ≡ At t → InUnit t
-unfolding param place_or
+pub place_held : (p q u w : Point) (t : Float) → param p q u w ≡ Some t → InUnit t
+unfolding param
 place_held p q u w t = go (parallel _ _ _) _
   where
-    go : (b : Bool) (x : Float) → cond b Parallel (At (clamp_of x f0 f1)) ≡ At t → InUnit t
-    go true x h = let z : ◌≡◌ {A = ℕ} 0 1 = cc in let y : ⊥ = omega arith in absurd y
-    go false x h = subst InUnit (ap (λ (y : Param). place_or y f0) h) (clamp_held x)
+    go : (b : Bool) (x : Float) → cond b None (Some (clamp_of x f0 f1)) ≡ Some t → InUnit t
+    go true x h = absurd (cc)
+    go false x h = subst InUnit (ap (λ (y : Option Float). unwrap_or y f0) h) (clamp_held x)

@@ -1,13 +1,11 @@
 -- `segments_cross` and `line_param`. Definitions only.
-use Rattle.std.specs.Prelude.{Bool, cond, ◌&&◌, Float}
+use Rattle.std.specs.Prelude.{Bool, cond, ◌&&◌, Float, Option, Some, None}
 use Rattle.std.specs.Float.Ieee.{lt, of_bits}
 use Rattle.std.specs.Float.{binary64}
 use Rattle.float.specs.Small.{max_of, abs_of, clamp_of}
 use Rattle.float.specs.Hypot.{hypot_of}
 use Rattle.float.specs.Ops.{◌⊖◌, ◌⊗◌, ◌⊘◌, f0, f1, least_normal}
 use Rattle.geometry.specs.declared.Point.{Point}
-use Rattle.crossing.specs.declared.Param.{Param}
-use Rattle.crossing.specs.declared.Param.TheVariants.{At, Parallel}
 
 -- 1e-12
 abbrev pub tiny : Float
@@ -26,16 +24,11 @@ crosses p q a b = lt (orient a b p ⊗ orient a b q) f0 && lt (orient p q a ⊗ 
 unfoldable pub parallel : Float → Point → Point → Bool
 parallel denom r s = lt (abs_of denom) (tiny ⊗ max_of (hypot_of r.x r.y ⊗ hypot_of s.x s.y) least_normal)
 
--- where the line through p and q crosses u w, held to 0..1, or parallel
-unfoldable pub param : Point → Point → Point → Point → Param
+-- where the line through p and q crosses u w, held to 0..1; none where they are parallel
+unfoldable pub param : Point → Point → Point → Point → Option Float
 param p q u w =
     let r : Point = record { x = q.x ⊖ p.x; y = q.y ⊖ p.y } in
     let s : Point = record { x = w.x ⊖ u.x; y = w.y ⊖ u.y } in
     let denom = r.x ⊗ s.y ⊖ r.y ⊗ s.x in
     let t = ((u.x ⊖ p.x) ⊗ r.y ⊖ (u.y ⊖ p.y) ⊗ r.x) ⊘ denom in
-    cond (parallel denom r s) Parallel (At (clamp_of t f0 f1))
-
--- 01's value of each case: the place itself, another where the lines are parallel
-unfoldable pub place_or : Param → Float → Float
-place_or (At t) other = t
-place_or Parallel other = other
+    cond (parallel denom r s) None (Some (clamp_of t f0 f1))

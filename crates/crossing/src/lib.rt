@@ -9,14 +9,8 @@ use float::small::{abs, clamp, max};
 use geometry::Point;
 use hypot::hypot;
 
-// Where the line through two points crosses a segment, between its ends (0 and 1), or that they are parallel.
-#[derive(Clone, Copy)]
-pub enum Param {
-    At(f64),
-    Parallel,
-}
-
 // Twice the area of the triangle o, a, b, with its sense.
+#[tactic(auto, unfolding(crate::specs::Cross::orient))]
 fn orient(o: Point, a: Point, b: Point) -> f64
     ensures { result ≡ orient o a b }
 {
@@ -24,13 +18,11 @@ fn orient(o: Point, a: Point, b: Point) -> f64
 }
 
 // Whether p q and a b cross at a point inside both.
+#[tactic(auto, unfolding(crate::specs::Cross::crosses))]
 pub fn segments_cross(p: Point, q: Point, a: Point, b: Point) -> bool
     ensures { result ≡ crosses p q a b }
 {
-    if orient(a, b, p) * orient(a, b, q) < 0.0 {
-        return orient(p, q, a) * orient(p, q, b) < 0.0;
-    }
-    false
+    orient(a, b, p) * orient(a, b, q) < 0.0 && orient(p, q, a) * orient(p, q, b) < 0.0
 }
 
 // Whether two directions are so far from parallel that their lengths need not be found: each is at most the sum of its sides' sizes.
@@ -43,17 +35,16 @@ fn far_from_parallel(denom: f64, rx: f64, ry: f64, sx: f64, sy: f64) -> bool
 }
 
 // Whether the directions r and s are parallel, where denom is their cross product.
+#[tactic(auto, unfolding(crate::specs::Cross::parallel))]
 fn parallel(denom: f64, r: Point, s: Point) -> bool
     ensures { result ≡ parallel denom r s }
 {
-    if far_from_parallel(denom, r.x, r.y, s.x, s.y) {
-        return false;
-    }
-    abs(denom) < 1e-12 * max(hypot(r.x, r.y) * hypot(s.x, s.y), 2.2250738585072014e-308)
+    !far_from_parallel(denom, r.x, r.y, s.x, s.y)
+        && abs(denom) < 1e-12 * max(hypot(r.x, r.y) * hypot(s.x, s.y), 2.2250738585072014e-308)
 }
 
-// Where the line through p and q crosses the segment from u to w.
-pub fn line_param(p: Point, q: Point, u: Point, w: Point) -> Param
+// Where the line through p and q crosses the segment from u to w, between its ends (0 and 1); none where they are parallel.
+pub fn line_param(p: Point, q: Point, u: Point, w: Point) -> Option<f64>
     ensures { result ≡ param p q u w }
 {
     let r = Point {
@@ -66,8 +57,8 @@ pub fn line_param(p: Point, q: Point, u: Point, w: Point) -> Param
     };
     let denom = r.x * s.y - r.y * s.x;
     if parallel(denom, r, s) {
-        return Param::Parallel;
+        return None;
     }
     let t = ((u.x - p.x) * r.y - (u.y - p.y) * r.x) / denom;
-    Param::At(clamp(t, 0.0, 1.0))
+    Some(clamp(t, 0.0, 1.0))
 }

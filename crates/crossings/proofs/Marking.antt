@@ -34,7 +34,6 @@ module _ (corners : List ℕ) (m v w mark : ℕ) where
   -- the loop has come to place p
   pub record Marking (before now : List ℕ) (p : ℕ) : Type 0 where
     pub past : first_at corners v ≤ p
-    pub long : length now ≡ length before
     pub same : whole before ≡ stamp m mark (rest p) now
 
   pub mark_start : (l : List ℕ) (p : ℕ) → p ≡ first_at corners v → Marking l l p
@@ -42,7 +41,6 @@ module _ (corners : List ℕ) (m v w mark : ℕ) where
   mark_start l p e =
       record {
         past = omega arith;
-        long = refl;
         same = ap (λ (hs : List ℕ). stamp m mark (keep ends_there hs) l) (around_first corners v) ∙ ap (λ (n : ℕ). stamp m mark (rest n) l) (sym e);
       }
 
@@ -69,12 +67,11 @@ module _ (corners : List ℕ) (m v w mark : ℕ) where
             ap (keep (own corners v)) (drop-cons (round_of corners) p 0 (omega (arith, length_round corners)) ∙ ap (λ (x : ℕ). x ∷ drop (suc p) (round_of corners)) (sym here))
             ∙ keep_yes (own corners v) h (drop (suc p) (round_of corners)) (eq-eqb (at corners h) v (sym r ∙ t))
 
-        pub mark_yes : (behind : List ℕ) → length behind ≡ length now → behind ≡ set now (4 * (m + h) + 1) mark → g ≡ w → Marking before behind (p + 1)
+        pub mark_yes : (behind : List ℕ) → behind ≡ set now (4 * (m + h) + 1) mark → g ≡ w → Marking before behind (p + 1)
         unfolding stamp
-        mark_yes behind d b z =
+        mark_yes behind b z =
             record {
               past = omega (arith, s.past);
-              long = d ∙ s.long;
               same =
                   s.same
                   ∙ ap (λ (hs : List ℕ). stamp m mark hs now)
@@ -86,7 +83,6 @@ module _ (corners : List ℕ) (m v w mark : ℕ) where
         mark_no n =
             record {
               past = omega (arith, s.past);
-              long = s.long;
               same =
                   s.same
                   ∙ ap (λ (hs : List ℕ). stamp m mark hs now)

@@ -1,4 +1,4 @@
--- What one store or one call leaves, over plain lists: a new channel's marks, a branch's way, a branch's path. Assumes nothing.
+-- What one store or one call leaves, over plain lists: a channel's number and marks, the ways of branches, a branch's path. Assumes nothing.
 use mathlib.Core.Path.{◌≡◌, refl, sym, ap, ◌∙◌, subst}
 use mathlib.Core.Logic.{⊎_elim}
 use mathlib.Core.List.{List}
@@ -20,11 +20,6 @@ use Rattle.crossings.specs.declared.ways.Way.{Way}
 -- ---- channels
 
 module _ (corners : List ℕ) (m h k : ℕ) where
-  pub channel_made : (v w mark : ℕ) (l l1 l2 l3 : List ℕ) → v ≡ at corners h → w ≡ end_at corners h → mark ≡ k + 1 → l1 ≡ set l (4 * (m + k) + 2) h
-      → l2 ≡ stamp m mark (edges_from corners v w) l1 → l3 ≡ stamp m mark (edges_from corners w v) l2 → l3 ≡ with_marks corners m h k l
-  unfolding with_marks
-  channel_made v w mark l l1 l2 l3 p q r a b c = let z : mark ≡ suc k = r ∙ add-one k in cc
-
   pub channel_new : (x y : ℕ) (l behind : List ℕ) → x ≡ y → x ≡ 0 → behind ≡ with_marks corners m h k l → (k ≡ number_for k y) × (behind ≡ marks_for corners m h k y l)
   unfolding number_for marks_for
   channel_new x zero l behind e z b = (refl, b)
@@ -36,23 +31,6 @@ module _ (corners : List ℕ) (m h k : ℕ) where
   channel_old x (suc c) l e n = (omega arith, refl)
 
 -- ---- ways
-
-module _ (sub : List ℕ) (from to : List ℤ) (service occ : List ℕ) (e : ℕ) (x : Kind) (q : x ≡ kind_of sub from to service e) where
-  pub way_is : (y : Kind) (r : Way) → x ≡ y → r ≡ way_for sub occ y → r ≡ way_of sub from to service occ e
-  unfolding way_of
-  way_is y r z w = w ∙ ap (way_for sub occ) (sym z ∙ q)
-
-pub undrawn_way : (sub occ : List ℕ) → way 0 0 ≡ way_for sub occ Undrawn
-unfolding way_for
-undrawn_way sub occ = refl
-
-pub open_way : (sub occ : List ℕ) (a b : ℕ) → way 0 0 ≡ way_for sub occ (Open a b)
-unfolding way_for
-open_way sub occ a b = refl
-
-pub internal_way : (sub occ : List ℕ) (a b : ℕ) → way 0 0 ≡ way_for sub occ (Internal a b)
-unfolding way_for
-internal_way sub occ a b = refl
 
 -- the last two of branch e's four numbers stored
 abbrev pub put_pair : List ℕ → ℕ → ℕ → ℕ → List ℕ

@@ -1,5 +1,5 @@
 -- `route_lines`: the channels that lines cross, the crossings, the rounds of spacing, and a line's waypoints. Definitions only.
-use Rattle.std.specs.Prelude.{ℕ, zero, suc, ◌+◌, ◌-◌, Bool, true, false, cond, ◌&&◌, List, [], ◌∷◌, ◌++◌, map, ltb, eqb, length, get_or, Float}
+use Rattle.std.specs.Prelude.{ℕ, zero, suc, ◌+◌, ◌-◌, Bool, true, false, cond, ◌&&◌, List, [], ◌∷◌, ◌++◌, map, ltb, eqb, length, get_or, Float, unwrap_or}
 use Rattle.std.proofs.Math.Option.{Option, none, some}
 use Rattle.std.specs.Float.{nan, binary64}
 use Rattle.std.specs.Float.Ieee.{of_bits}
@@ -8,7 +8,7 @@ use Rattle.order.specs.Order.{up_from, keep}
 use Rattle.geometry.specs.declared.Point.{Point}
 use Rattle.geometry.specs.declared.Box.{Box}
 use Rattle.geometry.specs.Plane.{point, point_at, box_in}
-use Rattle.crossing.specs.Cross.{param, place_or}
+use Rattle.crossing.specs.Cross.{param}
 use Rattle.channel.specs.declared.Channel.{Channel}
 use Rattle.channel.specs.Channel.{channel_of}
 use Rattle.spacing.specs.Space.{wish_order, in_order, spaced, put_all}
@@ -120,7 +120,7 @@ module _ (S : Scene) where
         channel = number_of a b ks;
         branch = e;
         step = k;
-        place = place_or (param (centre_at va) (centre_at vb) (centre_at a) (centre_at b)) half;
+        place = unwrap_or (param (centre_at va) (centre_at vb) (centre_at a) (centre_at b)) half;
       }
 
   -- one crossing more
@@ -205,7 +205,7 @@ module _ (S : Scene) where
         let before = cond (eqb c.step 0) (exit_of false l) (point_of ps (x - 1)) in
         let behind = cond (eqb (suc c.step) n) (exit_of true l) (point_of ps (suc x)) in
         let k = channel_at c.channel in
-        cond (ltb c.step n) (place_or (param before behind (centre_at k.low) (centre_at k.high)) (get_or ps x nan)) (get_or ps x nan)
+        cond (ltb c.step n) (unwrap_or (param before behind (centre_at k.low) (centre_at k.high)) (get_or ps x nan)) (get_or ps x nan)
 
     -- channel c's crossings spaced: all its wishes are taken before any place changes
     unfoldable pub space_one : ℕ → List Float → List Float

@@ -30,22 +30,19 @@ fn mark_from(
     requires around_value { take (length corners.now) around.now ≡ round_of corners.now }
     ensures { ends.new ≡ stamp m mark (edges_from corners.now v w) ends.old }
 {
-    let mut p = first_at(corners, around, v);
-    while p < corners.len() {
+    for p in first_at(corners, around, v)..corners.len() {
         let h = at(around, p) as usize;
         if at(corners, h) as usize != v {
             return;
         }
         if end_at(corners, h) as usize == w {
             put(ends, 4 * (m + h) + 1, mark);
-            p += 1;
-        } else {
-            p += 1;
         }
     }
 }
 
 // Makes channel k of half-edge h: h is noted for it, and every half-edge between the two corners is marked.
+#[tactic(auto, unfolding(crate::specs::Stages::Store::with_marks))]
 fn make_channel(corners: &[u32], around: &[u32], m: usize, h: usize, k: usize, ends: &mut [u32])
     requires m_bound { (m ≤ 8192) × (length corners.now ≤ 24576) × (h < 0x1_0000_0000) × (k < 0xffff_ffff) }
     requires around_value { take (length corners.now) around.now ≡ round_of corners.now }
@@ -83,6 +80,7 @@ pub fn channel_for(
 }
 
 // How many channels there are when channel c has been crossed, k before.
+#[tactic(auto, unfolding(crate::specs::Stages::Store::count_with))]
 pub fn count_with(k: usize, c: usize) -> usize
     requires { k < 0xffff_ffff }
     ensures value { result ≡ count_with k c }

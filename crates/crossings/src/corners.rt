@@ -15,14 +15,10 @@ fn note_occupied(k: usize, stations: &mut [u32])
     ensures stations_after { order_in (length (occupied (counts_in k stations.old))) stations.new ≡ occupied (counts_in k stations.old) }
 {
     let mut r = 0;
-    let mut s = 0;
-    while s < k {
+    for s in 0..k {
         if stations[2 * s] > 0 {
             stations[2 * r + 1] = s as u32;
             r += 1;
-            s += 1;
-        } else {
-            s += 1;
         }
     }
 }
@@ -47,6 +43,7 @@ pub fn corner_of(c: usize, stations: &[u32], s: usize) -> usize
     ensures value { result ≡ vertex_of s (order_in c stations.now) }
     ensures upper_bound { result ≤ c }
 {
+    // no `partition_point`: the stations are every second number of the list
     let mut lo = 0;
     let mut hi = c;
     while lo < hi {
@@ -57,10 +54,9 @@ pub fn corner_of(c: usize, stations: &[u32], s: usize) -> usize
             hi = mid;
         }
     }
-    if lo < c {
-        if at(stations, 2 * lo + 1) as usize == s {
-            return lo;
-        }
+    if lo < c && at(stations, 2 * lo + 1) as usize == s {
+        lo
+    } else {
+        c
     }
-    c
 }

@@ -6,13 +6,14 @@ ghost use Rattle.crossings.specs.Route.{cross, cross_all};
 ghost use Rattle.crossings.specs.Stages.Store.{place_on, stock, Grown};
 
 use crate::channels::{channel_for, count_with};
-use crossing::{Param, line_param};
+use crossing::line_param;
 use geometry::point_at;
 use mesh::end_at;
 use order::at;
 
 // The lower corner of half-edge h.
-fn low_at(corners: &[u32], h: usize) -> usize
+#[tactic(auto, unfolding(mesh::specs::Mesh::low_at))]
+pub fn low_at(corners: &[u32], h: usize) -> usize
     requires { h < 0x1_0000_0000 }
     ensures value { result ≡ low_at corners.now h }
     ensures upper_bound { result < 0x1_0000_0000 }
@@ -23,7 +24,8 @@ fn low_at(corners: &[u32], h: usize) -> usize
 }
 
 // The higher corner of half-edge h.
-fn high_at(corners: &[u32], h: usize) -> usize
+#[tactic(auto, unfolding(mesh::specs::Mesh::high_at))]
+pub fn high_at(corners: &[u32], h: usize) -> usize
     requires { h < 0x1_0000_0000 }
     ensures value { result ≡ high_at corners.now h }
     ensures upper_bound { result < 0x1_0000_0000 }
@@ -40,15 +42,13 @@ fn place_on(corners: &[u32], points: &[f64], va: usize, vb: usize, h: usize) -> 
 {
     let a = low_at(corners, h);
     let b = high_at(corners, h);
-    match line_param(
+    line_param(
         point_at(points, va),
         point_at(points, vb),
         point_at(points, a),
         point_at(points, b),
-    ) {
-        Param::At(t) => t,
-        Param::Parallel => 0.5,
-    }
+    )
+    .unwrap_or(0.5)
 }
 
 // Writes crossing x: its channel, its branch and its place.
@@ -113,8 +113,7 @@ pub fn store_trail(
     ensures upper_bound { result ≤ x + n }
 {
     let mut known = k;
-    let mut i = 0;
-    while i < n {
+    for i in 0..n {
         let h = at(trail, i) as usize;
         known = store_crossing(
             corners,
@@ -131,7 +130,6 @@ pub fn store_trail(
             numbers,
             places,
         );
-        i += 1;
     }
     known
 }

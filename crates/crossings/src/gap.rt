@@ -3,6 +3,7 @@ ghost use Rattle.std.specs.Prelude.{◌≡◌};
 ghost use Rattle.crossings.specs.Gap.{gap_of};
 
 // The gap between lines, 0.8 × unit.
+#[tactic(auto, unfolding(crate::specs::Gap::gap_of))]
 pub fn gap_of(unit: f64) -> f64
     ensures { result ≡ gap_of unit }
 {

@@ -15,6 +15,7 @@ pub struct Way {
 }
 
 // The way of a line between two buses.
+#[tactic(auto, unfolding(crate::specs::Stages::Store::way_for))]
 fn way_between(sub: &[u32], c: usize, stations: &[u32], a: usize, b: usize) -> Way
     requires { (c ≤ 4096) × Rising (order_in c stations.now) }
     ensures { result ≡ way_for sub.now (order_in c stations.now) (Line a b) }
@@ -28,6 +29,7 @@ fn way_between(sub: &[u32], c: usize, stations: &[u32], a: usize, b: usize) -> W
 }
 
 // The way of branch e.
+#[tactic(auto, unfolding(crate::specs::Stages::Store::way_of, crate::specs::Stages::Store::way_for))]
 fn way_of(
     sub: &[u32],
     from: &[i64],
@@ -41,10 +43,8 @@ fn way_of(
     ensures { result ≡ way_of sub.now from.now to.now service.now (order_in c stations.now) e }
 {
     match kind_of(sub, from, to, service, e) {
-        Kind::Undrawn => Way { start: 0, end: 0 },
-        Kind::Open(_, _) => Way { start: 0, end: 0 },
-        Kind::Internal(_, _) => Way { start: 0, end: 0 },
         Kind::Line(a, b) => way_between(sub, c, stations, a, b),
+        _ => Way { start: 0, end: 0 },
     }
 }
 
@@ -61,11 +61,9 @@ pub fn write_ways(
     requires { (c ≤ 4096) × Rising (order_in c stations.now) × (length from.now ≤ 8192) × (4 * length from.now ≤ length ends.old) }
     ensures { Wayed (way_of sub.now from.now to.now service.now (order_in c stations.now)) (length from.now) (length from.now) ends.old ends.new }
 {
-    let mut e = 0;
-    while e < from.len() {
+    for e in 0..from.len() {
         let w = way_of(sub, from, to, service, c, stations, e);
         ends[4 * e + 2] = w.start;
         ends[4 * e + 3] = w.end;
-        e += 1;
     }
 }

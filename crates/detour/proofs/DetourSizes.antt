@@ -12,12 +12,9 @@ use Rattle.geometry.specs.declared.Point.{Point}
 use Rattle.geometry.specs.declared.Box.{Box}
 use Rattle.geometry.proofs.PointSizes.{Near, Edges}
 use Rattle.geometry.specs.Plane.{box_in}
-use Rattle.first_box.specs.declared.FirstHit.{FirstHit}
-use Rattle.first_box.specs.declared.FirstHit.TheVariants.{Free, At}
+use Rattle.std.specs.Prelude.{Option, Some, None, unwrap_or}
 use Rattle.first_box.specs.First.{first_hit}
-use Rattle.corner.specs.declared.Choice.{Choice}
-use Rattle.corner.specs.declared.Choice.TheVariants.{Nowhere, Over}
-use Rattle.corner.specs.Corner.{corners_of, cost_key, clears, clearing, cheaper, cheapest, or_else, corner}
+use Rattle.corner.specs.Corner.{corners_of, cost_key, clears, clearing, cheaper, cheapest, corner}
 use Rattle.detour.specs.Detour.{detour_on, detour_to, detour}
 
 -- every point of a list lies within 2 ^ (k - 1074)
@@ -51,36 +48,35 @@ module _ (k : ℕ) (K : 1074 + 71 ≤ k) (L : k ≤ 2097) where
       go true r = (h.0, r)
       go false r = r
 
-  abbrev Chosen : Choice → Type 0
-  Chosen Nowhere = Unit {0}
-  Chosen (Over c) = Near k c
+  abbrev Chosen : Option Point → Type 0
+  Chosen None = Unit {0}
+  Chosen (Some c) = Near k c
 
-  cheaper_near : (p q : Point) (best : Choice) (c : Point) → Chosen best → Near k c → Chosen (cheaper p q best c)
+  cheaper_near : (p q : Point) (best : Option Point) (c : Point) → Chosen best → Near k c → Chosen (cheaper p q best c)
   unfolding cheaper
-  cheaper_near p q Nowhere c h i = i
-  cheaper_near p q (Over d) c h i = go (ltb (cost_key p q c) (cost_key p q d))
+  cheaper_near p q None c h i = i
+  cheaper_near p q (Some d) c h i = go (ltb (cost_key p q c) (cost_key p q d))
     where
-      go : (t : Bool) → Chosen (cond t (Over c) (Over d))
+      go : (t : Bool) → Chosen (cond t (Some c) (Some d))
       go true = i
       go false = h
 
-  cheapest_near : (p q : Point) (best : Choice) (cs : List Point) → Chosen best → Points k cs → Chosen (cheapest p q best cs)
+  cheapest_near : (p q : Point) (best : Option Point) (cs : List Point) → Chosen best → Points k cs → Chosen (cheapest p q best cs)
   unfolding cheapest
   cheapest_near p q best [] h i = h
   cheapest_near p q best (c ∷ cs) h i = cheapest_near p q (cheaper p q best c) cs (cheaper_near p q best c h i.0) i.1
 
-  else_near : (c : Choice) (other : Point) → Chosen c → Near k other → Near k (or_else c other)
-  unfolding or_else
-  else_near Nowhere other h i = i
-  else_near (Over c) other h i = h
+  else_near : (c : Option Point) (other : Point) → Chosen c → Near k other → Near k (unwrap_or c other)
+  else_near None other h i = i
+  else_near (Some c) other h i = h
 
   corner_near : (p q : Point) (b : Box) (gap : Float) → Near k p → Edges (1074 + 70) b → AtMost (1074 + 46) gap → Near k (corner p q b gap)
   unfolding corner
   corner_near p q b gap P B G =
       let cs = corners_of b (gap ⊗ f½) in
       let C : Points k cs = corners_near b (gap ⊗ f½) B (mul_most (1074 + 46) (1074 - 1) (1074 + 46) gap f½ (lit≤ tt) (lit≤ tt) G f½_most) in
-      else_near (cheapest p q Nowhere (clearing p q b cs)) (or_else (cheapest p q Nowhere cs) p) (cheapest_near p q Nowhere (clearing p q b cs) tt (clearing_near p q b cs C))
-      (else_near (cheapest p q Nowhere cs) p (cheapest_near p q Nowhere cs tt C) P)
+      else_near (cheapest p q None (clearing p q b cs)) (unwrap_or (cheapest p q None cs) p) (cheapest_near p q None (clearing p q b cs) tt (clearing_near p q b cs C))
+      (else_near (cheapest p q None cs) p (cheapest_near p q None cs tt C) P)
 
   module _ (boxes : List Box) (occupied : List ℕ) (gap : Float) (a b : ℕ) (B : (s : ℕ) → Edges (1074 + 70) (box_in boxes s)) (G : AtMost (1074 + 46) gap) where
     on_near : (again : List Point → List Point) → ((l : List Point) → Points k l → Points k (again l)) → (p : Point) (rest : List Point) → Near k p → Points k rest
@@ -89,10 +85,10 @@ module _ (k : ℕ) (K : 1074 + 71 ≤ k) (L : k ≤ 2097) where
     on_near again f p [] P R = (P, tt)
     on_near again f p (q ∷ rest) P R = go (first_hit boxes occupied p q a b) (on_near again f q rest R.0 R.1)
       where
-        go : (x : FirstHit) → Points k (detour_on boxes occupied gap a b again q rest)
-            → Points k (elim x [ Free ↦ p ∷ detour_on boxes occupied gap a b again q rest | At s ↦ again (p ∷ corner p q (box_in boxes s) gap ∷ q ∷ rest) ])
-        go Free r = (P, r)
-        go (At s) r = f (p ∷ corner p q (box_in boxes s) gap ∷ q ∷ rest) (P, (corner_near p q (box_in boxes s) gap P (B s) G, (R.0, R.1)))
+        go : (x : Option ℕ) → Points k (detour_on boxes occupied gap a b again q rest)
+            → Points k (elim x [ None ↦ p ∷ detour_on boxes occupied gap a b again q rest | Some s ↦ again (p ∷ corner p q (box_in boxes s) gap ∷ q ∷ rest) ])
+        go None r = (P, r)
+        go (Some s) r = f (p ∷ corner p q (box_in boxes s) gap ∷ q ∷ rest) (P, (corner_near p q (box_in boxes s) gap P (B s) G, (R.0, R.1)))
 
     to_near : (n : ℕ) (l : List Point) → Points k l → Points k (detour_to boxes occupied gap a b n l)
     unfolding detour_to

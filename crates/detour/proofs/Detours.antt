@@ -8,8 +8,7 @@ use lib.Ieee.{Float}
 use Rattle.geometry.specs.declared.Point.{Point}
 use Rattle.geometry.specs.declared.Box.{Box}
 use Rattle.geometry.specs.Plane.{point_at, box_in}
-use Rattle.first_box.specs.declared.FirstHit.{FirstHit}
-use Rattle.first_box.specs.declared.FirstHit.TheVariants.{Free, At}
+use Rattle.std.specs.Prelude.{Option, Some, None}
 use Rattle.first_box.specs.First.{first_hit}
 use Rattle.corner.specs.Corner.{corner}
 use Rattle.detour.specs.Detour.{detour_on, detour_to, detour}
@@ -35,10 +34,10 @@ module _ (boxes : List Box) (occ : List ℕ) (gap : Float) (a b : ℕ) where
   on n again h p [] = record { tail = []; begins = refl; ends = refl; short = omega arith }
   on n again h p (q ∷ rest) = go (first_hit boxes occ p q a b) (on n again h q rest)
     where
-      go : (f : FirstHit) → Leads (suc n) q rest (detour_on boxes occ gap a b again q rest)
-          → Leads (suc n) p (q ∷ rest) (elim f [ Free ↦ p ∷ detour_on boxes occ gap a b again q rest | At s ↦ again (p ∷ corner p q (box_in boxes s) gap ∷ q ∷ rest) ])
-      go Free r = record { tail = q ∷ r.tail; begins = ap (λ l. p ∷ l) r.begins; ends = r.ends; short = omega arith }
-      go (At s) r = let t = h p (corner p q (box_in boxes s) gap ∷ q ∷ rest) in record { tail = t.tail; begins = t.begins; ends = t.ends; short = omega (arith, t.short) }
+      go : (f : Option ℕ) → Leads (suc n) q rest (detour_on boxes occ gap a b again q rest)
+          → Leads (suc n) p (q ∷ rest) (elim f [ None ↦ p ∷ detour_on boxes occ gap a b again q rest | Some s ↦ again (p ∷ corner p q (box_in boxes s) gap ∷ q ∷ rest) ])
+      go None r = record { tail = q ∷ r.tail; begins = ap (λ l. p ∷ l) r.begins; ends = r.ends; short = omega arith }
+      go (Some s) r = let t = h p (corner p q (box_in boxes s) gap ∷ q ∷ rest) in record { tail = t.tail; begins = t.begins; ends = t.ends; short = omega (arith, t.short) }
 
   to : (n : ℕ) (p : Point) (rest : List Point) → Leads n p rest (detour_to boxes occ gap a b n (p ∷ rest))
   unfolding detour_to
@@ -64,27 +63,27 @@ module _ (boxes : List Box) (occ : List ℕ) (gap : Float) (a b : ℕ) where
   going_start path = refl
 
   module _ (whole done rest : List Point) (p q : Point) where
-    free : (left : ℕ) (f : FirstHit) → f ≡ first_hit boxes occ p q a b → f ≡ Free
+    free : (left : ℕ) (f : Option ℕ) → f ≡ first_hit boxes occ p q a b → f ≡ None
         → detour_to boxes occ gap a b (suc left) (p ∷ q ∷ rest) ≡ p ∷ detour_to boxes occ gap a b (suc left) (q ∷ rest)
     unfolding detour_to detour_on
     free left f e h =
-        ap (λ (x : FirstHit). elim x as (λ _. List Point) [ Free ↦ p ∷ detour_on boxes occ gap a b (detour_to boxes occ gap a b left) q rest | At s ↦ detour_to boxes occ gap a b left (p ∷ corner p q (box_in boxes s) gap ∷ q ∷ rest) ])
+        ap (λ (x : Option ℕ). elim x as (λ _. List Point) [ None ↦ p ∷ detour_on boxes occ gap a b (detour_to boxes occ gap a b left) q rest | Some s ↦ detour_to boxes occ gap a b left (p ∷ corner p q (box_in boxes s) gap ∷ q ∷ rest) ])
         (sym e ∙ h)
 
-    put : (left s : ℕ) (f : FirstHit) → f ≡ first_hit boxes occ p q a b → f ≡ At s
+    put : (left s : ℕ) (f : Option ℕ) → f ≡ first_hit boxes occ p q a b → f ≡ Some s
         → detour_to boxes occ gap a b (suc left) (p ∷ q ∷ rest) ≡ detour_to boxes occ gap a b left (p ∷ corner p q (box_in boxes s) gap ∷ q ∷ rest)
     unfolding detour_to detour_on
     put left s f e h =
-        ap (λ (x : FirstHit). elim x as (λ _. List Point) [ Free ↦ p ∷ detour_on boxes occ gap a b (detour_to boxes occ gap a b left) q rest | At t ↦ detour_to boxes occ gap a b left (p ∷ corner p q (box_in boxes t) gap ∷ q ∷ rest) ])
+        ap (λ (x : Option ℕ). elim x as (λ _. List Point) [ None ↦ p ∷ detour_on boxes occ gap a b (detour_to boxes occ gap a b left) q rest | Some t ↦ detour_to boxes occ gap a b left (p ∷ corner p q (box_in boxes t) gap ∷ q ∷ rest) ])
         (sym e ∙ h)
 
-    pub going_free : (left : ℕ) (f : FirstHit) → (left ≡ 0 → ⊥) → f ≡ first_hit boxes occ p q a b → f ≡ Free
+    pub going_free : (left : ℕ) (f : Option ℕ) → (left ≡ 0 → ⊥) → f ≡ first_hit boxes occ p q a b → f ≡ None
         → Going whole left done (p ∷ q ∷ rest) → Going whole left (done ++ (p ∷ [])) (q ∷ rest)
     going_free zero f n e h i = absurd (n refl)
     going_free (suc left) f n e h i =
         append_assoc done (p ∷ []) (detour_to boxes occ gap a b (suc left) (q ∷ rest)) ∙ ap (λ (l : List Point). done ++ l) (sym (free left f e h)) ∙ i
 
-    pub going_put : (left s : ℕ) (f : FirstHit) (c : Point) (box : Box) → (left ≡ 0 → ⊥) → f ≡ first_hit boxes occ p q a b → f ≡ At s → box ≡ box_in boxes s → c ≡ corner p q box gap
+    pub going_put : (left s : ℕ) (f : Option ℕ) (c : Point) (box : Box) → (left ≡ 0 → ⊥) → f ≡ first_hit boxes occ p q a b → f ≡ Some s → box ≡ box_in boxes s → c ≡ corner p q box gap
         → Going whole left done (p ∷ q ∷ rest) → Going whole (left - 1) done (p ∷ c ∷ q ∷ rest)
     going_put zero s f c box n e h g k i = absurd (n refl)
     going_put (suc left) s f c box n e h g k i =
@@ -109,7 +108,7 @@ module _ (boxes : List Box) (occ : List ℕ) (gap : Float) (a b : ℕ) where
   going_end whole done path left h i = ap (λ (l : List Point). done ++ l) (sym (short_path path left h)) ∙ i
 
   -- ---- the same of a path in a list: i of its n points, from point `first` on, are passed
-  module _ (whole : List Point) (first i n left : ℕ) (path : List Float) (f : FirstHit) (p q : Point) (l : i + 1 < n) (some : left ≡ 0 → ⊥)
+  module _ (whole : List Point) (first i n left : ℕ) (path : List Float) (f : Option ℕ) (p q : Point) (l : i + 1 < n) (some : left ≡ 0 → ⊥)
       (x : p ≡ point_at path (first + i)) (y : q ≡ point_at path (first + i + 1)) (e : f ≡ first_hit boxes occ p q a b)
       (g : Going whole left (path_in first i path) (path_in (first + i) (n - i) path)) where
     abbrev rest : List Point
@@ -124,14 +123,14 @@ module _ (boxes : List Box) (occ : List ℕ) (gap : Float) (a b : ℕ) where
     going : Going whole left (path_in first i path) (p ∷ q ∷ rest)
     going = ap (λ (t : List Point). path_in first i path ++ detour_to boxes occ gap a b left t) (sym from_first) ∙ g
 
-    pub turn_free : f ≡ Free → Going whole left (path_in first (i + 1) path) (path_in (first + (i + 1)) (n - (i + 1)) path)
+    pub turn_free : f ≡ None → Going whole left (path_in first (i + 1) path) (path_in (first + (i + 1)) (n - (i + 1)) path)
     turn_free h =
         let z : first + (i + 1) ≡ first + i + 1 = omega arith in
         ap (λ (t : List Point). t ++ detour_to boxes occ gap a b left (path_in (first + (i + 1)) (n - (i + 1)) path)) (path_more first i path ∙ ap (λ (t : Point). path_in first i path ++ (t ∷ [])) (sym x))
         ∙ ap (λ (t : List Point). (path_in first i path ++ (p ∷ [])) ++ detour_to boxes occ gap a b left t) (ap (λ (m : ℕ). path_in m (n - (i + 1)) path) z ∙ from_second (n - (i + 1)) (omega arith))
         ∙ going_free whole (path_in first i path) rest p q left f some e h going
 
-    pub turn_put : (s : ℕ) (c : Point) (box : Box) (next : List Float) → f ≡ At s → box ≡ box_in boxes s → c ≡ corner p q box gap → PutIn (first + i + 1) (first + n) c path next
+    pub turn_put : (s : ℕ) (c : Point) (box : Box) (next : List Float) → f ≡ Some s → box ≡ box_in boxes s → c ≡ corner p q box gap → PutIn (first + i + 1) (first + n) c path next
         → Going whole (left - 1) (path_in first i next) (path_in (first + i) (n + 1 - i) next)
     turn_put s c box next h k m P =
         ap (λ (t : List Point). t ++ detour_to boxes occ gap a b (left - 1) (path_in (first + i) (n + 1 - i) next)) (path_kept _ _ c path next P first i (omega arith))

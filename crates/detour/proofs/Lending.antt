@@ -14,7 +14,7 @@ use lib.Ieee.{Float}
 use Rattle.geometry.specs.declared.Point.{Point}
 use Rattle.network.specs.Words.{occupied}
 use Rattle.network.specs.Views.{counts_in, boxes_in}
-use Rattle.first_box.specs.declared.FirstHit.{FirstHit}
+use Rattle.std.specs.Prelude.{Option}
 use Rattle.first_box.specs.First.{first_hit}
 use Rattle.grid.specs.Stages.Cells.{Indexed}
 
@@ -25,7 +25,7 @@ Long stations boxes k = (2 * k ≤ length stations) × (4 * k ≤ length boxes) 
 abbrev pub Entered : List ℕ → List Float → ℕ → List ℕ → Type 0
 Entered stations boxes k list = Indexed (boxes_in k boxes) (occupied (counts_in k stations)) list
 
-abbrev pub hit_in : List ℕ → List Float → ℕ → Point → Point → ℕ → ℕ → FirstHit
+abbrev pub hit_in : List ℕ → List Float → ℕ → Point → Point → ℕ → ℕ → Option ℕ
 hit_in stations boxes k p q a b = first_hit (boxes_in k boxes) (occupied (counts_in k stations)) p q a b
 
 -- three lifetimes, and their shares, with the first two in the other order

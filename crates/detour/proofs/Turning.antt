@@ -11,8 +11,7 @@ use lib.Ieee.{Float}
 use Rattle.geometry.specs.declared.Point.{Point}
 use Rattle.geometry.specs.declared.Box.{Box}
 use Rattle.geometry.specs.Plane.{point_at, box_in}
-use Rattle.first_box.specs.declared.FirstHit.{FirstHit}
-use Rattle.first_box.specs.declared.FirstHit.TheVariants.{Free, At}
+use Rattle.std.specs.Prelude.{Option, Some, None, unwrap_or}
 use Rattle.first_box.specs.First.{first_hit}
 use Rattle.detour.specs.declared.path.Turn.{Turn}
 use Rattle.corner.specs.Corner.{corner}
@@ -23,19 +22,9 @@ use Rattle.detour.proofs.Detours.{Going, led_start, turn_free, turn_put, led_spe
 use Rattle.detour.proofs.Shifting.{start_kept}
 
 -- ---- the box hit
-abbrev station_of : FirstHit → ℕ
-station_of Free = 0
-station_of (At s) = s
-
-abbrev IsAt : FirstHit → Type 0
-IsAt Free = ⊥
-IsAt (At s) = Unit {0}
-
-pub hit_none : (boxes : List Box) (h : FirstHit) (r : Box) → h ≡ Free → BoxHit boxes h r
-hit_none boxes h r e = record { here = λ s z. absurd (subst IsAt (sym z ∙ e) tt) }
-
-pub hit_at : (boxes : List Box) (h : FirstHit) (r : Box) (t : ℕ) → h ≡ At t → r ≡ box_in boxes t → BoxHit boxes h r
-hit_at boxes h r t e g = record { here = λ s z. g ∙ ap (box_in boxes) (ap station_of (sym e ∙ z)) }
+-- what stands at k is any box: only where a station is hit its box is told
+pub hit_box : (boxes : List Box) (h : Option ℕ) (r : Box) (k : ℕ) → r ≡ box_in boxes (unwrap_or h k) → BoxHit boxes h r
+hit_box boxes h r k e = record { here = λ s z. e ∙ ap (λ (x : Option ℕ). box_in boxes (unwrap_or x k)) z }
 
 -- ---- a turn, and the turn after it
 module _ (first n i left : ℕ) (path : List Float) (p q : Point) where
@@ -45,13 +34,13 @@ module _ (first n i left : ℕ) (path : List Float) (p q : Point) where
   pub look_on : i + 1 < n → (left ≡ 0 → ⊥) → p ≡ point_at path (first + i) → q ≡ point_at path (first + i + 1) → Looking first path (record { n = n; i = i; left = left; on = true; p = p; q = q })
   look_on h k x y = record { piece = λ _. (h, k, x, y); ended = λ e. absurd (subst T e tt) }
 
-module _ (gap : Float) (first : ℕ) (s r : Turn) (h : FirstHit) (b : Box) (was now : List Float) where
-  pub turned_free : h ≡ Free → now ≡ was → (r.n ≡ s.n) × (r.i ≡ s.i + 1) × (r.left ≡ s.left) × Looking first was r → Turned gap first s h b was now r
-  turned_free e m g = record { free = λ _. (m, g.0, g.1, g.2); put = λ t z. absurd (subst IsAt (sym z ∙ e) tt); looking = subst (λ (l : List Float). Looking first l r) (sym m) g.3 }
+module _ (gap : Float) (first : ℕ) (s r : Turn) (h : Option ℕ) (b : Box) (was now : List Float) where
+  pub turned_free : h ≡ None → now ≡ was → (r.n ≡ s.n) × (r.i ≡ s.i + 1) × (r.left ≡ s.left) × Looking first was r → Turned gap first s h b was now r
+  turned_free e m g = record { free = λ _. (m, g.0, g.1, g.2); put = λ t z. absurd (cc); looking = subst (λ (l : List Float). Looking first l r) (sym m) g.3 }
 
-  pub turned_put : (t : ℕ) (c : Point) → h ≡ At t → c ≡ corner s.p s.q b gap → PutIn (first + s.i + 1) (first + s.n) c was now → (r.n ≡ s.n + 1) × (r.i ≡ s.i) × (r.left ≡ s.left - 1) × Looking first now r → Turned gap first s h b was now r
+  pub turned_put : (t : ℕ) (c : Point) → h ≡ Some t → c ≡ corner s.p s.q b gap → PutIn (first + s.i + 1) (first + s.n) c was now → (r.n ≡ s.n + 1) × (r.i ≡ s.i) × (r.left ≡ s.left - 1) × Looking first now r → Turned gap first s h b was now r
   turned_put t c e k m g = record {
-    free = λ z. absurd (subst IsAt (sym e ∙ z) tt);
+    free = λ z. absurd (cc);
     put = λ _ _. (subst (λ (x : Point). PutIn (first + s.i + 1) (first + s.n) x was now) k m, g.0, g.1, g.2);
     looking = g.3;
   }
@@ -111,7 +100,7 @@ module _ (boxes : List Box) (occ : List ℕ) (gap : Float) (a b first count : �
     pub fits : 2 * (first + count + 4) ≤ length was → 2 * (first + s.n + s.left) ≤ length path
     fits h = omega (arith, h, L.room, L.size)
 
-    module _ (h : FirstHit) (f : Box) (e : h ≡ first_hit boxes occ s.p s.q a b) (B : BoxHit boxes h f) (next : List Float) (r : Turn) (T : Turned gap first s h f path next r) (len : length next ≡ length path) where
+    module _ (h : Option ℕ) (f : Box) (e : h ≡ first_hit boxes occ s.p s.q a b) (B : BoxHit boxes h f) (next : List Float) (r : Turn) (T : Turned gap first s h f path next r) (len : length next ≡ length path) where
       abbrev Whole : List Point
       Whole = detour boxes occ gap a b (path_in first count was)
 
@@ -125,7 +114,7 @@ module _ (boxes : List Box) (occ : List ℕ) (gap : Float) (a b first count : �
       abbrev Brought : Type 0
       Brought = Leading next r × (turns_left r < turns_left s)
 
-      passed : h ≡ Free → Brought
+      passed : h ≡ None → Brought
       passed z =
           let t = T.free z in
           let g = turn_free boxes occ gap a b Whole first s.i s.n s.left path h s.p s.q more some (L.looking.piece on).2 (L.looking.piece on).3 e L.going z in (
@@ -140,7 +129,7 @@ module _ (boxes : List Box) (occ : List ℕ) (gap : Float) (a b first count : �
             omega (arith, t.1, t.2, t.3, more),
           )
 
-      put : (u : ℕ) → h ≡ At u → Brought
+      put : (u : ℕ) → h ≡ Some u → Brought
       put u z =
           let t = T.put u z in
           let g = turn_put boxes occ gap a b Whole first s.i s.n s.left path h s.p s.q more some (L.looking.piece on).2 (L.looking.piece on).3 e L.going u _ f next z (B.here u z) refl t.0 in (
@@ -159,6 +148,6 @@ module _ (boxes : List Box) (occ : List ℕ) (gap : Float) (a b first count : �
       pub brought : Brought
       brought = go h refl
         where
-          go : (x : FirstHit) → h ≡ x → Brought
-          go Free z = passed z
-          go (At u) z = put u z
+          go : (x : Option ℕ) → h ≡ x → Brought
+          go None z = passed z
+          go (Some u) z = put u z

@@ -1,5 +1,5 @@
 -- Calls of `first_hit` (02, change 9) and `detour`, which antt computes. Floats stand by their bits, every zero as +0.
-use Rattle.std.specs.Prelude.{◌≡◌, refl, ℕ, suc, ◌+◌, ◌*◌, ◌/◌, cond, List, [], ◌∷◌, map, eqb, length, get_or, drop}
+use Rattle.std.specs.Prelude.{◌≡◌, refl, ℕ, suc, ◌+◌, ◌*◌, ◌/◌, cond, List, [], ◌∷◌, map, eqb, length, get_or, drop, Some, None}
 use Rattle.std.specs.Float.{binary64}
 use Rattle.std.specs.Float.Ieee.{of_bits, to_bits, round, lt, eq, neg, add, sub, mul, div}
 use Rattle.float.specs.Hypot.{hypot_of}
@@ -9,12 +9,11 @@ use Rattle.order.specs.Order.{up_from}
 use Rattle.order.specs.Table.{table_from}
 use Rattle.geometry.specs.declared.Point.{Point}
 use Rattle.geometry.specs.Plane.{point}
-use Rattle.geometry.specs.Clip.{part, cut, clip_by, met, clipped, hits}
-use Rattle.geometry.specs.Entry.{entry_of, enters}
+use Rattle.geometry.specs.Clip.{part, cut, clip_by, clipped, hits}
+use Rattle.geometry.specs.Entry.{enters}
 use Rattle.network.specs.Views.{boxes_in}
-use Rattle.first_box.specs.declared.FirstHit.TheVariants.{Free, At}
-use Rattle.first_box.specs.First.{entry_at, comes_first, sooner, look, found, first_hit}
-use Rattle.corner.specs.Corner.{corners_of, cost, cost_key, clears, clearing, cheaper, cheapest, or_else, corner}
+use Rattle.first_box.specs.First.{entry_at, comes_first, sooner, look, first_hit}
+use Rattle.corner.specs.Corner.{corners_of, cost, cost_key, clears, clearing, cheaper, cheapest, corner}
 use Rattle.detour.specs.Detour.{detour_on, detour_to, detour}
 
 -- point i of a list
@@ -31,7 +30,7 @@ hit l =
     let k = length (drop 4 l) / 4 in
     let boxes = boxes_in k (map (of_bits binary64) (drop 4 l)) in
     let all = up_from 0 k in
-    elim (first_hit boxes all (at l 0) (at l 1) none none) [ Free ↦ 0 | At s ↦ suc s ]
+    elim (first_hit boxes all (at l 0) (at l 1) none none) [ None ↦ 0 | Some s ↦ suc s ]
 
 unfoldable numbers : List Point → List ℕ
 numbers [] = []
@@ -48,7 +47,7 @@ led l =
 
 -- unfolds all that a call computes with
 unfoldable opened : ℕ
-unfolding hit numbers led of_bits to_bits round lt eq neg add sub mul div hypot_of key_of abs_of max_of min_of up_from table_from part cut clip_by met clipped hits boxes_in entry_of enters entry_at comes_first sooner look found first_hit corners_of cost cost_key clears clearing cheaper cheapest or_else corner detour_on detour_to detour
+unfolding hit numbers led of_bits to_bits round lt eq neg add sub mul div hypot_of key_of abs_of max_of min_of up_from table_from part cut clip_by clipped hits boxes_in enters entry_at comes_first sooner look first_hit corners_of cost cost_key clears clearing cheaper cheapest corner detour_on detour_to detour
 opened = 0
 
 -- The last four: a box touched at its corner only; the box entered first though the other's middle is nearer; two boxes entered at one place; two boxes that the piece begins in.

@@ -1,9 +1,8 @@
 -- 8. `detour`: at most four points put into a path, each beside a box that a piece of it hits. Definitions only.
-use Rattle.std.specs.Prelude.{ℕ, zero, suc, List, [], ◌∷◌, Float}
+use Rattle.std.specs.Prelude.{ℕ, zero, suc, List, [], ◌∷◌, Float, Some, None}
 use Rattle.geometry.specs.declared.Point.{Point}
 use Rattle.geometry.specs.declared.Box.{Box}
 use Rattle.geometry.specs.Plane.{box_in}
-use Rattle.first_box.specs.declared.FirstHit.TheVariants.{Free, At}
 use Rattle.first_box.specs.First.{first_hit}
 use Rattle.corner.specs.Corner.{corner}
 
@@ -13,8 +12,8 @@ module _ (boxes : List Box) (occupied : List ℕ) (gap : Float) (a b : ℕ) wher
   detour_on again p [] = p ∷ []
   detour_on again p (q ∷ rest) =
       elim (first_hit boxes occupied p q a b) [
-        | Free ↦ p ∷ detour_on again q rest
-        | At s ↦ again (p ∷ corner p q (box_in boxes s) gap ∷ q ∷ rest)
+        | None ↦ p ∷ detour_on again q rest
+        | Some s ↦ again (p ∷ corner p q (box_in boxes s) gap ∷ q ∷ rest)
       ]
 
   -- with at most n points put in

@@ -6,7 +6,7 @@ ghost use Rattle.first_box.specs.First.{first_hit};
 ghost use Rattle.grid.specs.Stages.Cells.{Indexed};
 ghost use Rattle.detour.specs.Stages.Turns.{BoxHit};
 
-use first_box::{FirstHit, box_in};
+use first_box::box_in;
 use geometry::{Box, Point};
 
 // The lent boxes, four numbers each.
@@ -32,7 +32,7 @@ pub fn first_hit<'a>(
     q: Point,
     a: usize,
     b: usize,
-) -> FirstHit
+) -> Option<usize>
     requires k_in_bounds { (2 * k ≤ length stations.now) × (4 * k ≤ length index.boxes.now) × (k ≤ 4096) }
     requires indexed { Indexed (boxes_in k index.boxes.now) (occupied (counts_in k stations.now)) list.now }
     ensures { result ≡ first_hit (boxes_in k index.entry.boxes.now) (occupied (counts_in k stations.now)) p q a b }
@@ -41,20 +41,9 @@ pub fn first_hit<'a>(
 }
 
 // The box that a piece enters, zeros where it enters none.
-fn hit_box(k: usize, frames: &[f64], h: FirstHit) -> Box
-    requires { 4 * k ≤ length frames.now }
-    ensures { BoxHit (boxes_in k frames.now) h result }
-{
-    match h {
-        FirstHit::Free => box_in(k, frames, k),
-        FirstHit::At(s) => box_in(k, frames, s),
-    }
-}
-
-// The same of the index.
-pub(crate) fn box_of<'a>(index: BoxIndex<'a>, k: usize, h: FirstHit) -> Box
+pub(crate) fn box_of<'a>(index: BoxIndex<'a>, k: usize, h: Option<usize>) -> Box
     requires { 4 * k ≤ length index.boxes.now }
     ensures { BoxHit (boxes_in k index.entry.boxes.now) h result }
 {
-    hit_box(k, index.boxes, h)
+    box_in(k, index.boxes, h.unwrap_or(k))
 }

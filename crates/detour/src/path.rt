@@ -10,7 +10,6 @@ ghost use Rattle.detour.specs.Stages.Turns.{Looking, Turned, Starts};
 
 use crate::boxes::{BoxIndex, box_index, box_of, first_hit};
 use corner::corner;
-use first_box::FirstHit;
 use geometry::{Box, Point};
 
 // Point i of a list of coordinates.
@@ -99,13 +98,13 @@ fn look_at(path: &[f64], first: usize, n: usize, i: usize, left: usize) -> Turn
 }
 
 // The turn after s, whose piece enters b or none: a point is put in beside b, or the next piece is looked at.
-fn next_turn(path: &mut [f64], first: usize, gap: f64, s: Turn, h: FirstHit, b: Box) -> Turn
+fn next_turn(path: &mut [f64], first: usize, gap: f64, s: Turn, h: Option<usize>, b: Box) -> Turn
     requires { (s.i + 1 < s.n) × (s.left ≡ 0 → ⊥) × (2 * (first + s.n + s.left) ≤ length path.old) }
     ensures { Turned gap first s h b path.old path.new result }
 {
     match h {
-        FirstHit::Free => look_at(path, first, s.n, s.i + 1, s.left),
-        FirstHit::At(_) => {
+        None => look_at(path, first, s.n, s.i + 1, s.left),
+        Some(_) => {
             let c = corner(s.p, s.q, b, gap);
             put_in(path, first + s.i + 1, first + s.n, c);
             look_at(path, first, s.n + 1, s.i, s.left - 1)

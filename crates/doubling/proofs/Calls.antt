@@ -17,12 +17,14 @@ use Rattle.bars.specs.Bar.{bars, position}
 use Rattle.runs.specs.Run.{Piece, role}
 use Rattle.runs.specs.Lists.{flat, point_numbers, box_numbers, bar_numbers, piece_numbers, after}
 use Rattle.order.specs.Over.{over}
+use Rattle.std.specs.Prelude.{Option, Some, None, Result, Ok, Err}
+use Rattle.refusals.specs.declared.Refusal.{Refusal}
+use Rattle.refusals.specs.Refusal.{number_of}
 use Rattle.drawing.specs.declared.room.Room.{Room}
 use Rattle.drawing.specs.declared.answer.Plot.{Plot}
-use Rattle.drawing.specs.declared.answer.Answer.TheVariants.{Drawn, Refused}
 use Rattle.drawing.specs.Network.{Network, Lists, Work, Crossings}
 use Rattle.drawing.specs.Drawing.{Drawing, planned, drawing}
-use Rattle.drawing.specs.Answer.{number_of, room_of, early, late, lists_of, lists_after, answer_by, answer_for, call_late, call_early, layout_of}
+use Rattle.drawing.specs.Answer.{room_of, early, late, lists_of, lists_after, plot_of, answer_for, call_late, call_early, layout_of}
 use Rattle.doubling.specs.Doubling.{Asked, ScaledMap, ScaledList, SameList, ScaledDrawing, ScaledCalls, with_map}
 use Rattle.doubling.proofs.Stage.{counts_length}
 use Rattle.doubling.proofs.Passed.{Passed}
@@ -48,8 +50,8 @@ pub record Written {A : Type 0} (n : ℕ) (new before l : List A) : Type 0 where
   pub front : take n l ≡ new
   pub kept : drop n l ≡ drop n before
 
-written : {A : Type 0} (n : ℕ) (new before : List A) → length new ≡ n → Written n new before (after 0 new before)
-unfolding after over
+written : {A : Type 0} (n : ℕ) (new before : List A) → length new ≡ n → Written n new before (over new before)
+unfolding over
 written n new before e = record {
   filled = long n (length new) (length (drop (length new) before)) e (length-append new (drop (length new) before));
   front = take_at new (drop (length new) before) n e;
@@ -94,54 +96,54 @@ module _ (O : Options) (N : Network) (L : Lists) where
   times_length : {a b : ℕ} (n : ℕ) → a ≡ n * b → {c : ℕ} → b ≡ c → a ≡ n * c
   times_length n e f = e ∙ ap (λ (k : ℕ). n * k) f
 
-  positions_written : Written (2 * length N.station) (lists_of (drawing O N)).positions L.positions (lists_after 0 (lists_of (drawing O N)) L).positions
-  unfolding lists_after lists_of
+  positions_written : Written (2 * length N.station) (lists_of (drawing O N)).positions L.positions (lists_after None (lists_of (drawing O N)) L).positions
+  unfolding lists_after lists_of after
   positions_written = written _ (flat (λ b. point_numbers (position b)) (drawing O N).bars) L.positions (times_length 2 (flat_length (λ b. point_numbers (position b)) 2 (λ b. refl) (drawing O N).bars) (bars_length O N))
 
-  bars_written : Written (4 * length N.station) (lists_of (drawing O N)).bars L.bars (lists_after 0 (lists_of (drawing O N)) L).bars
-  unfolding lists_after lists_of
+  bars_written : Written (4 * length N.station) (lists_of (drawing O N)).bars L.bars (lists_after None (lists_of (drawing O N)) L).bars
+  unfolding lists_after lists_of after
   bars_written = written _ (flat bar_numbers (drawing O N).bars) L.bars (times_length 4 (flat_length bar_numbers 4 (λ b. refl) (drawing O N).bars) (bars_length O N))
 
-  boxes_written : Written (4 * station_count N.station) (lists_of (drawing O N)).boxes L.boxes (lists_after 0 (lists_of (drawing O N)) L).boxes
-  unfolding lists_after lists_of
+  boxes_written : Written (4 * station_count N.station) (lists_of (drawing O N)).boxes L.boxes (lists_after None (lists_of (drawing O N)) L).boxes
+  unfolding lists_after lists_of after
   boxes_written = written _ (flat box_numbers (drawing O N).boxes) L.boxes (times_length 4 (flat_length box_numbers 4 (λ b. refl) (drawing O N).boxes) (boxes_length O N))
 
-  scales_written : Written (station_count N.station) (lists_of (drawing O N)).scales L.scales (lists_after 0 (lists_of (drawing O N)) L).scales
-  unfolding lists_after lists_of
+  scales_written : Written (station_count N.station) (lists_of (drawing O N)).scales L.scales (lists_after None (lists_of (drawing O N)) L).scales
+  unfolding lists_after lists_of after
   scales_written = written _ (drawing O N).scales L.scales (scales_length O N)
 
-  roles_written : Written (length N.from) (lists_of (drawing O N)).roles L.roles (lists_after 0 (lists_of (drawing O N)) L).roles
-  unfolding lists_after lists_of
+  roles_written : Written (length N.from) (lists_of (drawing O N)).roles L.roles (lists_after None (lists_of (drawing O N)) L).roles
+  unfolding lists_after lists_of after
   roles_written = written _ (drawing O N).roles L.roles (roles_length O N)
 
-  pieces_written : (p : ℕ) → length (drawing O N).pieces ≡ p → Written (4 * p) (lists_of (drawing O N)).pieces L.pieces (lists_after 0 (lists_of (drawing O N)) L).pieces
-  unfolding lists_after lists_of
+  pieces_written : (p : ℕ) → length (drawing O N).pieces ≡ p → Written (4 * p) (lists_of (drawing O N)).pieces L.pieces (lists_after None (lists_of (drawing O N)) L).pieces
+  unfolding lists_after lists_of after
   pieces_written p e = written _ (flat piece_numbers (drawing O N).pieces) L.pieces (times_length 4 (flat_length piece_numbers 4 (λ b. refl) (drawing O N).pieces) e)
 
-  branches_written : (p : ℕ) → length (drawing O N).pieces ≡ p → Written p (lists_of (drawing O N)).branches L.branches (lists_after 0 (lists_of (drawing O N)) L).branches
-  unfolding lists_after lists_of
+  branches_written : (p : ℕ) → length (drawing O N).pieces ≡ p → Written p (lists_of (drawing O N)).branches L.branches (lists_after None (lists_of (drawing O N)) L).branches
+  unfolding lists_after lists_of after
   branches_written p e = written p (map (λ (q : Piece). q.branch) (drawing O N).pieces) L.branches (length-map (drawing O N).pieces (λ (q : Piece). q.branch) ∙ e)
 
 -- ---- the calls
-refused_drawn : (r : ℕ) (p : Plot) → Refused r ≡ Drawn p → ⊥
-refused_drawn r p e = let z : ◌≡◌ {A = ℕ} 0 1 = cc in omega arith
+refused_drawn : (r : Refusal) (p : Plot) → ◌≡◌ {A = Result Plot Refusal} (Err r) (Ok p) → ⊥
+refused_drawn r p e = cc
 
-drawn_plot : (p q : Plot) → Drawn p ≡ Drawn q → p ≡ q
+drawn_plot : (p q : Plot) → ◌≡◌ {A = Result Plot Refusal} (Ok p) (Ok q) → p ≡ q
 drawn_plot p q e = cc
 
 module _ (k : ℕ) (O : Options) (N : Network) (xy' : List Float) (T : Times k (drawing O N) (drawing O (with_map N xy'))) (L L' : Lists) (W W' : Work) (X X' : Crossings) where
-  late_calls : (r : ℕ) → ScaledCalls k N L L' (call_late r (drawing O N) L W X) (call_late r (drawing O (with_map N xy')) L' W' X')
-  unfolding call_late answer_for answer_by number_of
-  late_calls (suc r) = record { number = refl; drawn = λ p e. absurd (refused_drawn (suc r) p e) }
-  late_calls zero = record { number = refl; drawn = drawn }
+  late_calls : (r : Option Refusal) → ScaledCalls k N L L' (call_late r (drawing O N) L W X) (call_late r (drawing O (with_map N xy')) L' W' X')
+  unfolding call_late answer_for number_of
+  late_calls (Some r) = record { number = refl; drawn = λ p e. absurd (refused_drawn r p e) }
+  late_calls None = record { number = refl; drawn = drawn }
     where
       plot : Plot
-      plot = record { unit = (drawing O N).unit; bounds = (drawing O N).bounds; pieces = length (drawing O N).pieces }
+      plot = plot_of (drawing O N)
 
       plot' : Plot
-      plot' = record { unit = (drawing O (with_map N xy')).unit; bounds = (drawing O (with_map N xy')).bounds; pieces = length (drawing O (with_map N xy')).pieces }
+      plot' = plot_of (drawing O (with_map N xy'))
 
-      drawing-of : ScaledDrawing k N L L' (call_late 0 (drawing O N) L W X) (call_late 0 (drawing O (with_map N xy')) L' W' X') plot plot'
+      drawing-of : ScaledDrawing k N L L' (call_late None (drawing O N) L W X) (call_late None (drawing O (with_map N xy')) L' W' X') plot plot'
       drawing-of = record {
         unit = T.unit;
         bounds = T.bounds;
@@ -155,13 +157,13 @@ module _ (k : ℕ) (O : Options) (N : Network) (xy' : List Float) (T : Times k (
         branches = same_list _ (lists_of (drawing O N)).branches L.branches _ (lists_of (drawing O (with_map N xy'))).branches L'.branches _ (branches_written O N L _ refl) (branches_written O (with_map N xy') L' _ T.piece_count) T.branches;
       }
 
-      drawn : (p : Plot) → Drawn plot ≡ Drawn p → (p' : Plot) × (Drawn plot' ≡ Drawn p') × ScaledDrawing k N L L' (call_late 0 (drawing O N) L W X) (call_late 0 (drawing O (with_map N xy')) L' W' X') p p'
-      drawn p e = (plot', refl, subst (λ (q : Plot). ScaledDrawing k N L L' (call_late 0 (drawing O N) L W X) (call_late 0 (drawing O (with_map N xy')) L' W' X') q plot') (drawn_plot plot p e) drawing-of)
+      drawn : (p : Plot) → ◌≡◌ {A = Result Plot Refusal} (Ok plot) (Ok p) → (p' : Plot) × ◌≡◌ {A = Result Plot Refusal} (Ok plot') (Ok p') × ScaledDrawing k N L L' (call_late None (drawing O N) L W X) (call_late None (drawing O (with_map N xy')) L' W' X') p p'
+      drawn p e = (plot', refl, subst (λ (q : Plot). ScaledDrawing k N L L' (call_late None (drawing O N) L W X) (call_late None (drawing O (with_map N xy')) L' W' X') q plot') (drawn_plot plot p e) drawing-of)
 
 -- ---- change 11
 module _ (k : ℕ) (O : Options) (N : Network) (A : Asked k O N) (xy' : List Float) (S : ScaledMap k (length N.station) N.xy xy') where
   -- both drawings, through the map cut to the buses' coordinates
-  drawings : (R : Room) → early O N R ≡ 0 → Times k (drawing O N) (drawing O (with_map N xy'))
+  drawings : (R : Room) → early O N R ≡ None → Times k (drawing O N) (drawing O (with_map N xy'))
   drawings R e =
       let P = passed k O N A R e in
       let c = take (2 * length N.station) N.xy in
@@ -182,12 +184,12 @@ module _ (k : ℕ) (O : Options) (N : Network) (A : Asked k O N) (xy' : List Flo
 
   module _ (L L' : Lists) (W W' : Work) (X X' : Crossings) (room : room_of L' W' X' ≡ room_of L W X) where
     -- by the early refusal of both
-    by_early : (r : ℕ) → early O N (room_of L W X) ≡ r → ScaledCalls k N L L' (call_early r O N L W X) (call_early r O (with_map N xy') L' W' X')
+    by_early : (r : Option Refusal) → early O N (room_of L W X) ≡ r → ScaledCalls k N L L' (call_early r O N L W X) (call_early r O (with_map N xy') L' W' X')
     unfolding call_early number_of
-    by_early (suc r) e = record { number = refl; drawn = λ p h. absurd (refused_drawn (suc r) p h) }
-    by_early zero e =
+    by_early (Some r) e = record { number = refl; drawn = λ p h. absurd (refused_drawn r p h) }
+    by_early None e =
         let t = drawings (room_of L W X) e in
-        subst (λ (r : ℕ). ScaledCalls k N L L' (call_late (late (drawing O N) (room_of L W X)) (drawing O N) L W X) (call_late r (drawing O (with_map N xy')) L' W' X'))
+        subst (λ (r : Option Refusal). ScaledCalls k N L L' (call_late (late (drawing O N) (room_of L W X)) (drawing O N) L W X) (call_late r (drawing O (with_map N xy')) L' W' X'))
         (sym (ap (λ (R : Room). late (drawing O (with_map N xy')) R) room ∙ t.late_same (room_of L W X)))
         (late_calls k O N xy' t L L' W W' X X' (late (drawing O N) (room_of L W X)))
 
@@ -195,7 +197,7 @@ module _ (k : ℕ) (O : Options) (N : Network) (A : Asked k O N) (xy' : List Flo
     pub scaling : ScaledCalls k N L L' (layout_of O N L W X) (layout_of O (with_map N xy') L' W' X')
     unfolding layout_of
     scaling =
-        subst (λ (r : ℕ). ScaledCalls k N L L' (call_early (early O N (room_of L W X)) O N L W X) (call_early r O (with_map N xy') L' W' X'))
+        subst (λ (r : Option Refusal). ScaledCalls k N L L' (call_early (early O N (room_of L W X)) O N L W X) (call_early r O (with_map N xy') L' W' X'))
         (sym (ap (early O (with_map N xy')) room ∙ early_same k O N A xy' S (room_of L W X)))
         (by_early (early O N (room_of L W X)) refl)
 

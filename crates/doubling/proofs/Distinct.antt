@@ -1,5 +1,6 @@
 -- Two points at a positive, finite distance: the least positive distances have a median. Assumes nothing.
-use mathlib.Core.Path.{◌≡◌, sym, subst}
+use Rattle.std.specs.Prelude.{IsSome}
+use mathlib.Core.Path.{◌≡◌, refl, sym, subst}
 use mathlib.Core.Logic.{◌⊎◌, inl, inr}
 use mathlib.Core.Bool.{Bool, true, false, cond}
 use mathlib.Core.List.{List, [], ◌∷◌}
@@ -17,7 +18,6 @@ use Rattle.order.specs.Table.{table_from, table}
 use Rattle.order.specs.Median.{finite_of, insert_float, sort_floats, middle, median_of}
 use Rattle.geometry.specs.Plane.{point_at}
 use Rattle.proximity.specs.Near.{distance, nearer, nearest_to, nearest}
-use Rattle.units.proofs.SpacingDoubles.{Some}
 
 -- ---- the least positive distance so far: infinite, or finite
 abbrev Least : Float → Type 0
@@ -128,10 +128,10 @@ unfolding sort_floats
 sort_full [] h = absurd h
 sort_full (x ∷ xs) h = insert_full x (sort_floats xs)
 
-middle_some : (l : List Float) → Full l → Some (middle l)
+middle_some : (l : List Float) → Full l → IsSome (middle l)
 unfolding middle
 middle_some [] h = absurd h
-middle_some (x ∷ xs) h = tt
+middle_some (x ∷ xs) h = refl
 
 table_has : (f : ℕ → Float) (i : ℕ) → T (is_finite (f i)) → (a n : ℕ) → a ≤ i → i < a + n → Has (table_from f a n)
 unfolding table_from
@@ -148,7 +148,7 @@ table_has f i h a (suc n) k l = go (eq-or-lt_of_le k) (λ z. table_has f i h (su
     go (inl e) r = inl (subst (λ (z : ℕ). T (is_finite (f z))) (sym e) h)
     go (inr z) r = inr (r z)
 
-pub median_some : (ps : List Float) (n i j : ℕ) → i < n → j < n → (j ≡ i → ⊥) → T (is_finite (distance (point_at ps i) (point_at ps j))) → lt f0 (distance (point_at ps i) (point_at ps j)) ≡ true → Some (median_of (table (nearest ps n) n))
+pub median_some : (ps : List Float) (n i j : ℕ) → i < n → j < n → (j ≡ i → ⊥) → T (is_finite (distance (point_at ps i) (point_at ps j))) → lt f0 (distance (point_at ps i) (point_at ps j)) ≡ true → IsSome (median_of (table (nearest ps n) n))
 unfolding median_of nearest
 median_some ps n i j a b c h k =
     middle_some (sort_floats (finite_of (table (nearest ps n) n)))

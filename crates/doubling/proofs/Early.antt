@@ -30,11 +30,15 @@ use Rattle.options.specs.declared.Options.{Options}
 use Rattle.options.specs.Options.{between, search_fits, gap_fits, gaps_fit, in_range}
 use Rattle.network.specs.Words.{station_count, bus_counts, is_occupied, occupied, kind_of, kinds}
 use Rattle.seeds.specs.Seed.{seeds, place_at}
+use Rattle.std.specs.Prelude.{Option, Some, None}
+use Rattle.std.specs.Option.{option_or}
+use Rattle.refusals.specs.declared.Refusal.{Refusal}
+use Rattle.refusals.specs.declared.Refusal.TheVariants as Refusals
 use Rattle.refusals.specs.Refusal.{too_many, above, far_out, too_far, refuse, shape_refusal}
 use Rattle.units.specs.Unit.{coordinates}
 use Rattle.drawing.specs.declared.room.Room.{Room}
 use Rattle.drawing.specs.Network.{Network}
-use Rattle.drawing.specs.Answer.{mesh_length, short_results, short_work, or_later, early}
+use Rattle.drawing.specs.Answer.{mesh_length, short_results, short_work, early}
 use Rattle.doubling.specs.Doubling.{sixty_fourth, HasPoint, Allowed, EachGap, Asked, ScaledBus, ScaledMap, with_map}
 use Rattle.doubling.proofs.Frames.{coordinates_at}
 use Rattle.doubling.proofs.Passed.{sixteen, thousand, least_gap, most_gap, Ranged, Passed, lt_no}
@@ -84,23 +88,17 @@ module _ (k : ℕ) (O : Options) (N : Network) (A : Asked k O N) where
   pub early_same : (xy' : List Float) → ScaledMap k (length N.station) N.xy xy' → (R : Room) → early O (with_map N xy') R ≡ early O N R
   unfolding early
   early_same xy' S R =
-      ap (λ (b : Bool). or_later (shape_refusal N.station N.kv N.from N.to) (refuse (not (in_range O)) 5 (refuse b 6 (refuse (short_results (length N.station) (length N.from) (station_count N.station) R) 7 (refuse (short_work (length N.station) (length N.from) (mesh_length N) R) 7 0)))))
+      ap (λ (b : Bool). option_or (shape_refusal N.station N.kv N.from N.to) (refuse (not (in_range O)) (Some Refusals.OptionRange) (refuse b (Some Refusals.TooFar) (refuse (short_results (length N.station) (length N.from) (station_count N.station) R) (Some Refusals.ListTooShort) (refuse (short_work (length N.station) (length N.from) (mesh_length N) R) (Some Refusals.ListTooShort) None)))))
       (near_second xy' S ∙ sym near_first)
 
 -- ---- where 1 to 7 don't come
-or_none : (a b : ℕ) → or_later a b ≡ 0 → (a ≡ 0) × (b ≡ 0)
-or_none zero b e = (refl, e)
-or_none (suc a) b e = absurd (never a e)
-  where
-    never : (a : ℕ) → suc a ≡ 0 → ⊥
-    never a e = omega arith
+or_none : (a b : Option Refusal) → option_or a b ≡ None → (a ≡ None) × (b ≡ None)
+or_none None b e = (refl, e)
+or_none (Some r) b e = cc
 
-refuse_none : (b : Bool) (r later : ℕ) → refuse b (suc r) later ≡ 0 → (b ≡ false) × (later ≡ 0)
+refuse_none : (b : Bool) (r : Refusal) (later : Option Refusal) → refuse b (Some r) later ≡ None → (b ≡ false) × (later ≡ None)
 refuse_none false r later e = (refl, e)
-refuse_none true r later e = absurd (never r e)
-  where
-    never : (a : ℕ) → suc a ≡ 0 → ⊥
-    never a e = omega arith
+refuse_none true r later e = cc
 
 neither : (a b : Bool) → a || b ≡ false → (a ≡ false) × (b ≡ false)
 neither false b e = (refl, e)
@@ -110,10 +108,10 @@ not_false : (b : Bool) → not b ≡ false → b ≡ true
 not_false true e = refl
 not_false false e = absurd (true≢false e)
 
-few : (sub : List ℕ) (kv : List ℕ) (from to : List ℤ) → shape_refusal sub kv from to ≡ 0 → (length sub ≤ 2 ^ 12) × (length from ≤ 2 ^ 13)
+few : (sub : List ℕ) (kv : List ℕ) (from to : List ℤ) → shape_refusal sub kv from to ≡ None → (length sub ≤ 2 ^ 12) × (length from ≤ 2 ^ 13)
 unfolding shape_refusal
 few sub kv from to e =
-    let h = neither (ltb 4096 (length sub)) (ltb 8192 (length from)) (refuse_none (too_many sub from) 0 _ e).0 in
+    let h = neither (ltb 4096 (length sub)) (ltb 8192 (length from)) (refuse_none (too_many sub from) Refusals.TooMany _ e).0 in
     (ltb-false 4096 (length sub) h.0, ltb-false 8192 (length from) h.1)
 
 -- ---- options in range
@@ -340,12 +338,12 @@ module _ (k : ℕ) (O : Options) (N : Network) (A : Asked k O N) where
       ∙ coordinates_at (seeds N.station N.xy) (occupied (bus_counts N.station)) i l
       ∙ ap (place_at (seeds N.station N.xy)) e
 
-  pub passed : (R : Room) → early O N R ≡ 0 → Passed k O N.station (kinds N.station N.from N.to N.service) (take (2 * length N.station) N.xy)
+  pub passed : (R : Room) → early O N R ≡ None → Passed k O N.station (kinds N.station N.from N.to N.service) (take (2 * length N.station) N.xy)
   unfolding early kinds
   passed R e =
       let a = or_none _ _ e in
       let n = few N.station N.kv N.from N.to a.0 in
-      let r = options O (not_false (in_range O) (refuse_none (not (in_range O)) 4 _ a.1).0) in
+      let r = options O (not_false (in_range O) (refuse_none (not (in_range O)) Refusals.OptionRange _ a.1).0) in
       let i = occupied_index (bus_counts N.station) A.s A.first in
       let j = occupied_index (bus_counts N.station) A.t A.second in
       record {

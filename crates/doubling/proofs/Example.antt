@@ -16,7 +16,7 @@ use Rattle.float.specs.Ops.{f0, f1, f2, f3, f4}
 use Rattle.float.specs.Double.{twice, scaled}
 use Rattle.order.specs.Order.{up_from, count, keep}
 use Rattle.order.specs.Table.{table_from}
-use Rattle.order.specs.Median.{median_of, or_else}
+use Rattle.order.specs.Median.{median_of}
 use Rattle.proximity.specs.Near.{nearest}
 use Rattle.options.specs.declared.Options.{Options}
 use Rattle.options.specs.Options.{defaults}
@@ -96,7 +96,7 @@ asked = record {
 -- ---- needed
 -- the unit of stations without branches, at these points: the bits of a float
 unfoldable pub unit_of : List ℕ → List Float → ℕ
-unfolding defaults unit_for spacing spacing_of typical sizes size_for sides rows_in median_of or_else nearest coordinates seeds seed_of sum_to mean bus_point point_of occupied bus_counts buses_in station_count past_to table_from up_from count keep eq le lt add sub mul div of_int of_bits to_bits hypot_of key_of min_of max_of is_finite
+unfolding defaults unit_for spacing spacing_of typical sizes size_for sides rows_in median_of nearest coordinates seeds seed_of sum_to mean bus_point point_of occupied bus_counts buses_in station_count past_to table_from up_from count keep eq le lt add sub mul div of_int of_bits to_bits hypot_of key_of min_of max_of is_finite
 unit_of sub xy = to_bits binary64 (unit_for straight.fill (spacing (seeds sub xy) (bus_counts sub)) (typical (sizes straight.gaps sub [] (bus_counts sub)) (bus_counts sub)))
 
 -- 2 ^ -1072, four times the least positive f64

@@ -1,4 +1,5 @@
 -- The ranges of what both drawings have: the scales, the sizes in blocks and the typical side. Assumes nothing.
+use Rattle.std.specs.Prelude.{unwrap_or}
 use mathlib.Core.Path.{◌≡◌, refl, sym, ap, ◌∙◌, subst}
 use mathlib.Core.Logic.{◌⊎◌, inl, inr}
 use mathlib.Core.Bool.{Bool, true, false, true≢false}
@@ -25,7 +26,7 @@ use Rattle.float.proofs.DoublePairs.{num_stepped, zero_doubles}
 use Rattle.order.specs.Order.{pick}
 use Rattle.order.specs.Table.{table}
 use Rattle.order.proofs.Tables.{get_d_table, length_table, how_many_le}
-use Rattle.order.specs.Median.{finite_of, insert_float, sort_floats, middle, median_of, or_else}
+use Rattle.order.specs.Median.{finite_of, insert_float, sort_floats, middle, median_of}
 use Rattle.geometry.specs.declared.Point.{Point}
 use Rattle.options.specs.declared.Gaps.{Gaps}
 use Rattle.options.specs.declared.Options.{Options}
@@ -138,12 +139,12 @@ module _ (P : Float → Type 0) where
   at_in (x ∷ xs) d h k zero = h.0
   at_in (x ∷ xs) d h k (suc i) = at_in xs d h.1 k i
 
-  middle_in : (l : List Float) (d : Float) → In P l → P d → P (or_else (middle l) d)
-  unfolding middle or_else
+  middle_in : (l : List Float) (d : Float) → In P l → P d → P (unwrap_or (middle l) d)
+  unfolding middle
   middle_in [] d h k = k
   middle_in (x ∷ xs) d h k = at_in (x ∷ xs) x h h.0 (length (x ∷ xs) / 2)
 
-  median_in : (l : List Float) (d : Float) → In P l → P d → P (or_else (median_of l) d)
+  median_in : (l : List Float) (d : Float) → In P l → P d → P (unwrap_or (median_of l) d)
   unfolding median_of
   median_in l d h k = middle_in (sort_floats (finite_of l)) d (sort_in (finite_of l) (finite_in l h)) k
 
@@ -187,7 +188,7 @@ max_positive x w = go (lt x f1) refl (stepped_cases w)
     go false e (inr z) = subst (λ (y : Float). 0 < grains y) (sym (max_first x f1 e)) (lt_of_lt_of_le (pow_pos 1021) z)
 
 module _ (zs : List Size) (h : (s : ℕ) → Blocks (size_at zs s)) (counts : List ℕ) where
-  middle_stepped : Stepped 1021 (2 ^ 16 * 2 ^ 1074) (or_else (median_of (sides zs (occupied counts))) f1)
+  middle_stepped : Stepped 1021 (2 ^ 16 * 2 ^ 1074) (unwrap_or (median_of (sides zs (occupied counts))) f1)
   middle_stepped = median_in (Stepped 1021 (2 ^ 16 * 2 ^ 1074)) (sides zs (occupied counts)) f1 (sides_in zs h (occupied counts)) one_wide
 
   pub typical_stepped : Stepped 1021 (2 ^ 16 * 2 ^ 1074) (typical zs counts)
@@ -196,7 +197,7 @@ module _ (zs : List Size) (h : (s : ℕ) → Blocks (size_at zs s)) (counts : Li
 
   pub typical_positive : 0 < grains (typical zs counts)
   unfolding typical
-  typical_positive = max_positive (or_else (median_of (sides zs (occupied counts))) f1) middle_stepped
+  typical_positive = max_positive (unwrap_or (median_of (sides zs (occupied counts))) f1) middle_stepped
 
 -- ---- scales from 1/64 to 1
 one_fine : Stepped 1016 (2 ^ 1074) f1

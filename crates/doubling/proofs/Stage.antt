@@ -1,5 +1,6 @@
 -- From the coordinates to the boxes: where every coordinate of a network is doubled, the rows and the scales are the same, and every seed, the unit, every place and every box is doubled;
 -- refusal 8 is the same. The ranges, in grains of 2 ^ -1074, are closed numbers. Assumes nothing.
+use Rattle.std.specs.Prelude.{IsSome}
 use mathlib.Core.Path.{◌≡◌, refl, sym, subst}
 use mathlib.Core.List.{List}
 use Prim.Native.Nat.{ℕ, suc, ◌+◌, ◌*◌, ◌^◌, ◌≤◌, ◌<◌}
@@ -41,7 +42,7 @@ use Rattle.drawing.specs.Drawing.{measures_of}
 use Rattle.doubling.specs.Doubling.{EachGap}
 use Rattle.doubling.specs.Twice.{DoubledMap}
 use Rattle.doubling.proofs.Seeds.{Mapped, bus_doubles, seeds_doubles, from_rows_lem, to_rows_lem}
-use Rattle.units.proofs.SpacingDoubles.{Some, spacing_doubles, unit_doubles}
+use Rattle.units.proofs.SpacingDoubles.{spacing_doubles, unit_doubles}
 use Rattle.doubling.proofs.Sizes.{Gap, Blocks, power, sizes_stepped, typical_stepped, typical_positive, scales_stepped}
 use Rattle.doubling.proofs.Frames.{coordinates_doubles, scales_same, frame_doubles}
 use Rattle.placement.proofs.PlaceDoubles.{offsets_small, places_doubles, boxes_doubles}
@@ -116,7 +117,7 @@ pub record InRanges (O : Options) (sub : List ℕ) (ks : List Kind) (xy : List F
   pub scale_2 : Stepped 1016 (2 ^ 1074) O.tier_scale_2
   pub gaps : EachGap Gap O.gaps
   -- two occupied stations on different seeds: some station has a nearest other
-  pub some : Some (median_of (table (nearest (coordinates (seeds sub xy) (occupied (bus_counts sub))) (length (occupied (bus_counts sub)))) (length (occupied (bus_counts sub)))))
+  pub some : IsSome (median_of (table (nearest (coordinates (seeds sub xy) (occupied (bus_counts sub))) (length (occupied (bus_counts sub)))) (length (occupied (bus_counts sub)))))
 
 module _ (O : Options) (sub kv : List ℕ) (ks : List Kind) (xy : List Float) (search : ℕ) (F : InRanges O sub ks xy) (xy' : List Float) (D : DoubledMap xy xy') where
   abbrev pub counts : List ℕ

@@ -1,5 +1,5 @@
 -- Change 11: what it asks of a network and its options, and what it says of two calls of layout, one of them with every coordinate scaled by 2 ^ k (k = 1: doubled). Definitions only.
-use Rattle.std.specs.Prelude.{◌≡◌, ◌⊎◌, true, false, ◌&&◌, List, map, ℕ, ◌+◌, ◌*◌, ◌≤◌, ◌<◌, T, length, get_or, take, drop, Float}
+use Rattle.std.specs.Prelude.{◌≡◌, ◌⊎◌, true, false, ◌&&◌, List, map, ℕ, ◌+◌, ◌*◌, ◌≤◌, ◌<◌, T, length, get_or, take, drop, Float, Ok}
 use Rattle.std.specs.Float.{nan, binary64}
 use Rattle.std.specs.Float.Ieee.{fits, lt, le, eq, of_bits}
 use Rattle.float.specs.Small.{abs_of, is_finite}
@@ -10,11 +10,10 @@ use Rattle.options.specs.declared.Gaps.{Gaps}
 use Rattle.options.specs.declared.Options.{Options}
 use Rattle.network.specs.Words.{station_count, bus_counts, is_occupied}
 use Rattle.seeds.specs.Seed.{seeds, place_at}
-use Rattle.refusals.specs.Refusal.{above}
+use Rattle.refusals.specs.Refusal.{above, number_of}
 use Rattle.drawing.specs.declared.answer.Plot.{Plot}
-use Rattle.drawing.specs.declared.answer.Answer.TheVariants.{Drawn}
 use Rattle.drawing.specs.Network.{Network, Lists}
-use Rattle.drawing.specs.Answer.{Call, number_of}
+use Rattle.drawing.specs.Answer.{Call}
 
 -- ---- what is asked
 
@@ -119,4 +118,4 @@ pub record ScaledDrawing (k : ℕ) (N : Network) (L L' : Lists) (c c' : Call) (p
 -- The same number answers both calls, and where it is 0 both are drawn, the second one scaled.
 pub record ScaledCalls (k : ℕ) (N : Network) (L L' : Lists) (c c' : Call) : Type 0 where
   pub number : number_of c'.answer ≡ number_of c.answer
-  pub drawn : (p : Plot) → c.answer ≡ Drawn p → (p' : Plot) × (c'.answer ≡ Drawn p') × ScaledDrawing k N L L' c c' p p'
+  pub drawn : (p : Plot) → c.answer ≡ Ok p → (p' : Plot) × (c'.answer ≡ Ok p') × ScaledDrawing k N L L' c c' p p'

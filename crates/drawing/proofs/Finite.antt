@@ -8,6 +8,7 @@ use native.Mathlib.Omega.{arith}
 use mathlib.Core.Bool.{Bool, true, false, not, cond, ◌&&◌, ◌||◌, true≢false}
 use mathlib.Core.List.{List, [], ◌∷◌, map}
 use mathlib.Core.Option.{none, some}
+use Rattle.std.specs.Prelude.{Some, None}
 use borrow.Author.Tests.{leb-true}
 use lib.Dec.{T, ltb, eqb, lit≤}
 use lib.IntN.{ℤ, pos, negsuc}
@@ -35,6 +36,8 @@ use Rattle.network.specs.declared.words.Kind.{Kind}
 use Rattle.network.specs.declared.words.Kind.TheVariants.{Undrawn, Open, Internal, Line}
 use Rattle.options.specs.Options.{in_range, between, search_fits, gaps_fit, search_of}
 use Rattle.network.specs.Words.{station_count, buses_in, bus_counts, station_of, is_occupied, occupied, kind_of, kinds, kind_at, Safe}
+use Rattle.std.specs.Option.{option_or}
+use Rattle.refusals.specs.declared.Refusal.TheVariants as Refusals
 use Rattle.refusals.specs.Refusal.{refuse, too_far}
 use Rattle.seeds.specs.Seed as Seed
 use Rattle.seeds.specs.Seed.{place_at, seed_of}
@@ -80,7 +83,7 @@ use Rattle.routes.proofs.RoundSizes.{crossings_most, ways_near}
 use Rattle.drawing.specs.Network.{Network}
 use Rattle.drawing.specs.Drawing.{measures_of, straight_scene, planned, led_scene, line_for, line_of, routed_scene, routed_of, ways_of, scene_of, Drawing, drawing}
 use Rattle.drawing.specs.declared.room.Room.{Room}
-use Rattle.drawing.specs.Answer.{or_later, early, piece_room, crossing_room, routed_by, late_by, late, all_finite}
+use Rattle.drawing.specs.Answer.{early, piece_room, crossing_room, routed_by, late_by, late, all_finite}
 use Rattle.drawing.proofs.Fitting.{fits_of}
 
 -- ---- the options' ranges
@@ -474,22 +477,22 @@ seeds_within O N buses near s l =
     (seed_times N.station N.xy buses near s)
 
 -- Where 1 to 7 and 15 don't refuse the input, nor 9 the mesh, all are finite.
-pub no_lost_numbers : (O : Options) (N : Network) (R : Room) → 0 ≡ early O N R → (drawing O N).mesh_fits ≡ true → all_finite (drawing O N) ≡ true
+pub no_lost_numbers : (O : Options) (N : Network) (R : Room) → None ≡ early O N R → (drawing O N).mesh_fits ≡ true → all_finite (drawing O N) ≡ true
 no_lost_numbers O N R h fits =
     let F = fits_of O N R h in
     finite_by_seeds O N F.range F.shape.few F.shape.many (seeds_within O N F.shape.few F.near) fits
 
 -- So are those of every drawing that a call draws.
-mesh_of : (full ill crowded fits : Bool) → 0 ≡ or_later (refuse ill 8 (refuse (not fits) 9 (refuse crowded 10 0))) (refuse full 11 0) → fits ≡ true
-mesh_of full true crowded fits h = absurd (omega (arith, h))
+mesh_of : (full ill crowded fits : Bool) → None ≡ option_or (refuse ill (Some Refusals.IllSized) (refuse (not fits) (Some Refusals.Mesh) (refuse crowded (Some Refusals.Crossings) None))) (refuse full (Some Refusals.Pieces) None) → fits ≡ true
+mesh_of full true crowded fits h = cc
 mesh_of full false crowded true h = refl
-mesh_of full false crowded false h = absurd (omega (arith, h))
+mesh_of full false crowded false h = cc
 
-late_fits : (O : Options) (N : Network) (R : Room) → 0 ≡ late (drawing O N) R → (drawing O N).mesh_fits ≡ true
+late_fits : (O : Options) (N : Network) (R : Room) → None ≡ late (drawing O N) R → (drawing O N).mesh_fits ≡ true
 unfolding late late_by routed_by route_refusal
 late_fits O N R h =
     let d = drawing O N in
     mesh_of (ltb (piece_room R.pieces R.branches) (length d.pieces)) (ill_sized d.boxes (occupied d.counts)) (ltb (crossing_room R) (length d.crossings)) d.mesh_fits h
 
-pub drawn_finite : (O : Options) (N : Network) (R : Room) → 0 ≡ early O N R → 0 ≡ late (drawing O N) R → all_finite (drawing O N) ≡ true
+pub drawn_finite : (O : Options) (N : Network) (R : Room) → None ≡ early O N R → None ≡ late (drawing O N) R → all_finite (drawing O N) ≡ true
 drawn_finite O N R h k = no_lost_numbers O N R h (late_fits O N R k)

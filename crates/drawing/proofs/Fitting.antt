@@ -2,7 +2,7 @@
 -- Assumes nothing.
 use mathlib.Core.Path.{◌≡◌, refl, sym}
 use mathlib.Core.Bool.{Bool, true, false, not, ◌&&◌, ◌||◌, true≢false}
-use Prim.Native.Nat.{ℕ, zero, suc, ◌+◌, ◌*◌, ◌≤◌, zero-le, ◌/◌, min}
+use Prim.Native.Nat.{ℕ, ◌+◌, ◌*◌, ◌≤◌, zero-le, ◌/◌, min}
 use native.Mathlib.Omega.{arith}
 use lib.Dec.{ltb, leb}
 use lib.IntN.{ℤ, pos, negsuc}
@@ -13,11 +13,15 @@ use Rattle.options.specs.declared.Options.{Options}
 use Rattle.float.specs.Ops.{f0, f1}
 use Rattle.options.specs.Options.{in_range, between, search_fits, gaps_fit, search_of}
 use Rattle.network.specs.Words.{station_count}
+use Rattle.std.specs.Prelude.{Option, Some, None}
+use Rattle.std.specs.Option.{option_or}
+use Rattle.refusals.specs.declared.Refusal.{Refusal}
+use Rattle.refusals.specs.declared.Refusal.TheVariants as Refusals
 use Rattle.refusals.specs.Refusal.{refuse, shape_refusal, too_far}
 use Rattle.box_cells.specs.Length.{index_length}
 use Rattle.drawing.specs.declared.room.Room.{Room}
 use Rattle.drawing.specs.Network.{Network}
-use Rattle.drawing.specs.Answer.{or_later, early, mesh_length, sorting, short_results, short_work, crossing_room}
+use Rattle.drawing.specs.Answer.{early, mesh_length, sorting, short_results, short_work, crossing_room}
 use Rattle.refusals.proofs.Shapes.{Shape, shape_fits, test_on}
 
 -- The lent lists have the lengths that a network of this shape asks.
@@ -63,13 +67,15 @@ sixth a b c d e f g h =
     let h5 = (both e (f && g) h4).1 in
     (both f g h5).0
 
-none_of : (s : ℕ) (a b c d : Bool) → 0 ≡ or_later s (refuse a 5 (refuse b 6 (refuse c 7 (refuse d 7 0)))) → (0 ≡ s) × (a ≡ false) × (b ≡ false) × (c ≡ false) × (d ≡ false)
-none_of (suc s) a b c d h = absurd (omega (arith, h))
-none_of zero true b c d h = absurd (omega (arith, h))
-none_of zero false true c d h = absurd (omega (arith, h))
-none_of zero false false true d h = absurd (omega (arith, h))
-none_of zero false false false true h = absurd (omega (arith, h))
-none_of zero false false false false h = (refl, refl, refl, refl, refl)
+none_of : (s : Option Refusal) (a b c d : Bool)
+    → None ≡ option_or s (refuse a (Some Refusals.OptionRange) (refuse b (Some Refusals.TooFar) (refuse c (Some Refusals.ListTooShort) (refuse d (Some Refusals.ListTooShort) None))))
+    → (None ≡ s) × (a ≡ false) × (b ≡ false) × (c ≡ false) × (d ≡ false)
+none_of (Some s) a b c d h = cc
+none_of None true b c d h = cc
+none_of None false true c d h = cc
+none_of None false false true d h = cc
+none_of None false false false true h = cc
+none_of None false false false false h = (refl, refl, refl, refl, refl)
 
 search_small : (s : ℤ) → search_fits s ≡ true → search_of s ≤ 20
 unfolding search_fits search_of
@@ -101,7 +107,7 @@ five a a' b b' c c' d d' e e' h =
     let s = enough d d' (ltb e e') r.1 in
     (p.0, q.0, r.0, s.0, ltb-false e e' s.1)
 
-pub fits_of : (o : Options) (N : Network) (R : Room) → 0 ≡ early o N R → Fits o N R
+pub fits_of : (o : Options) (N : Network) (R : Room) → None ≡ early o N R → Fits o N R
 unfolding early short_results short_work
 fits_of o N R h =
     let n = length N.station in

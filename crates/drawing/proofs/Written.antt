@@ -6,6 +6,7 @@ use Rattle.bars.specs.declared.Bar.{Bar}
 use Rattle.bars.specs.Bar.{position}
 use Rattle.runs.specs.Run.{Piece}
 use Rattle.runs.specs.Lists.{flat, point_numbers, box_numbers, bar_numbers, piece_numbers, after}
+use Rattle.std.specs.Prelude.{None}
 use Rattle.order.specs.Over.{over}
 use Rattle.drawing.specs.Network.{Lists}
 use Rattle.drawing.specs.Drawing.{Drawing}
@@ -25,6 +26,6 @@ pub record Written (d : Drawing) (L l : Lists) : Type 0 where
   pub pieces : Leads (flat piece_numbers d.pieces) L.pieces l.pieces
   pub branches : Leads (map (λ (p : Piece). p.branch) d.pieces) L.branches l.branches
 
-pub lists_written : (d : Drawing) (L : Lists) → Written d L (lists_after 0 (lists_of d) L)
+pub lists_written : (d : Drawing) (L : Lists) → Written d L (lists_after None (lists_of d) L)
 unfolding lists_after lists_of after over
 lists_written d L = record { positions = refl; bars = refl; boxes = refl; scales = refl; roles = refl; pieces = refl; branches = refl }

@@ -1,29 +1,25 @@
 -- Answers of a call: what layout returns, and what each lent list holds after it. Definitions only.
-use Rattle.std.specs.Prelude.{ℕ, zero, suc, ◌+◌, ◌*◌, ◌/◌, min, Bool, not, ◌&&◌, ◌||◌, List, map, ltb, length, replicate, Float}
+use Rattle.std.specs.Prelude.{ℕ, ◌+◌, ◌*◌, ◌/◌, min, Bool, not, ◌&&◌, ◌||◌, List, map, ltb, length, replicate, Float, Option, Some, None, Result, Err}
+use Rattle.std.specs.Option.{option_or}
 use Rattle.float.specs.Small.{is_finite}
 use Rattle.float.specs.Ops.{f0}
-use Rattle.geometry.specs.declared.Box.{Box}
 use Rattle.options.specs.declared.Options.{Options}
 use Rattle.options.specs.Options.{in_range}
 use Rattle.network.specs.Words.{station_count, occupied}
-use Rattle.refusals.specs.Refusal.{refuse, shape_refusal, too_far}
+use Rattle.refusals.specs.declared.Refusal.{Refusal}
+use Rattle.refusals.specs.declared.Refusal.TheVariants as Refusals
+use Rattle.refusals.specs.Refusal.{refuse, unless, shape_refusal, too_far}
 use Rattle.sized.specs.Sized.{ill_sized}
 use Rattle.box_cells.specs.Length.{index_length}
 use Rattle.bars.specs.Bar.{position}
 use Rattle.drawing.specs.declared.room.Room.{Room}
-use Rattle.drawing.specs.declared.answer.Answer.{Answer}
-use Rattle.drawing.specs.declared.answer.Answer.TheVariants.{Drawn, Refused}
+use Rattle.drawing.specs.declared.answer.Plot.{Plot}
 use Rattle.drawing.specs.Network.{Network, Lists, Work, Crossings, crossings}
 use Rattle.routes.specs.Routes.{route_refusal}
 use Rattle.runs.specs.Run.{Piece}
 use Rattle.runs.specs.Finite.{all_of, finite_point, finite_box, finite_bar}
 use Rattle.runs.specs.Lists.{flat, point_numbers, box_numbers, bar_numbers, piece_numbers, after}
 use Rattle.drawing.specs.Drawing.{Drawing, drawing}
-
--- 01's number of an answer
-unfoldable pub number_of : Answer → ℕ
-number_of (Drawn p) = 0
-number_of (Refused r) = r
 
 -- the lengths of the lent lists
 abbrev pub room_of : Lists → Work → Crossings → Room
@@ -70,19 +66,14 @@ short_work n m mesh R =
     || (ltb R.sorted (sorting n m mesh) || (ltb R.spare (sorting n m mesh) || (ltb R.keys (sorting n m mesh)
     || (ltb R.places (2 * n + 4 * m) || (ltb R.blocks (3 * n) || (ltb R.frames (4 * n) || (ltb R.path (2 * n + 3 * mesh + 16) || ltb R.sorted (index_length n))))))))))
 
--- r, or where it is 0 what comes after it
-abbrev pub or_later : ℕ → ℕ → ℕ
-or_later zero later = later
-or_later (suc r) later = suc r
-
--- 1 to 7 and 15, 0 where none applies
-unfoldable pub early : Options → Network → Room → ℕ
+-- 1 to 7 and 15, none where none applies
+unfoldable pub early : Options → Network → Room → Option Refusal
 early O N R =
-    or_later (shape_refusal N.station N.kv N.from N.to)
-    (refuse (not (in_range O)) 5
-    (refuse (too_far (length N.station) N.xy) 6
-    (refuse (short_results (length N.station) (length N.from) (station_count N.station) R) 7
-    (refuse (short_work (length N.station) (length N.from) (mesh_length N) R) 7 0))))
+    option_or (shape_refusal N.station N.kv N.from N.to)
+    (refuse (not (in_range O)) (Some Refusals.OptionRange)
+    (refuse (too_far (length N.station) N.xy) (Some Refusals.TooFar)
+    (refuse (short_results (length N.station) (length N.from) (station_count N.station) R) (Some Refusals.ListTooShort)
+    (refuse (short_work (length N.station) (length N.from) (mesh_length N) R) (Some Refusals.ListTooShort) None))))
 
 -- 11: pieces outnumber the lent piece lists: only whole pieces that both lists hold count
 unfoldable pub piece_room : ℕ → ℕ → ℕ
@@ -100,14 +91,15 @@ all_finite d =
     && (all_of is_finite d.crossings && all_of (all_of finite_point) d.runs))))
 
 -- 8, 9 and 10: by whether sizes are ill, the mesh fits, the crossings and how many the crossing list holds
-unfoldable pub routed_by : Bool → Bool → ℕ → ℕ → ℕ
-routed_by ill fits crossings room = refuse ill 8 (route_refusal fits crossings room)
+unfoldable pub routed_by : Bool → Bool → ℕ → ℕ → Option Refusal
+routed_by ill fits crossings room = refuse ill (Some Refusals.IllSized) (route_refusal fits crossings room)
 
 -- 11, where none of these applies: by the pieces and the lengths of the lent piece lists
-unfoldable pub late_by : ℕ → ℕ → ℕ → ℕ → ℕ
-late_by earlier pieces numbers names = or_later earlier (refuse (ltb (piece_room numbers names) pieces) 11 0)
+unfoldable pub late_by : Option Refusal → ℕ → ℕ → ℕ → Option Refusal
+late_by earlier pieces numbers names =
+    option_or earlier (refuse (ltb (piece_room numbers names) pieces) (Some Refusals.Pieces) None)
 
-unfoldable pub late : Drawing → Room → ℕ
+unfoldable pub late : Drawing → Room → Option Refusal
 late d R =
     late_by (routed_by (ill_sized d.boxes (occupied d.counts)) d.mesh_fits (length d.crossings) (crossing_room R))
     (length d.pieces)
@@ -128,7 +120,7 @@ lists_of d =
     }
 
 -- the lists after a call: a refusal changes no result list
-unfoldable pub lists_after : ℕ → Lists → Lists → Lists
+unfoldable pub lists_after : Option Refusal → Lists → Lists → Lists
 lists_after r D L =
     record {
       positions = after r D.positions L.positions;
@@ -169,30 +161,29 @@ cleared_crossings X =
 -- ---- the whole of a call: its answer, and the lists after it
 
 pub record Call : Type 0 where
-  pub answer : Answer
+  pub answer : Result Plot Refusal
   pub lists : Lists
   pub work : Work
   pub crossings : Crossings
 
-abbrev pub call : Answer → Lists → Work → Crossings → Call
+abbrev pub call : Result Plot Refusal → Lists → Work → Crossings → Call
 call a l w x = record { answer = a; lists = l; work = w; crossings = x }
 
--- with 0 the unit, the bounds and the number of pieces
-unfoldable pub answer_by : ℕ → Float → Box → ℕ → Answer
-answer_by zero u b p = Drawn (record { unit = u; bounds = b; pieces = p })
-answer_by (suc r) u b p = Refused (suc r)
+-- the unit, the bounds and the number of pieces
+abbrev pub plot_of : Drawing → Plot
+plot_of d = record { unit = d.unit; bounds = d.bounds; pieces = length d.pieces }
 
-unfoldable pub answer_for : ℕ → Drawing → Answer
-answer_for r d = answer_by r d.unit d.bounds (length d.pieces)
+unfoldable pub answer_for : Option Refusal → Drawing → Result Plot Refusal
+answer_for r d = unless r (plot_of d)
 
 -- where the input has passed, by the late refusal
-unfoldable pub call_late : ℕ → Drawing → Lists → Work → Crossings → Call
+unfoldable pub call_late : Option Refusal → Drawing → Lists → Work → Crossings → Call
 call_late r d L W X = call (answer_for r d) (lists_after r (lists_of d) L) (cleared_work W) (cleared_crossings X)
 
 -- by the early refusal: 1 to 7 and 15 leave every list unchanged
-unfoldable pub call_early : ℕ → Options → Network → Lists → Work → Crossings → Call
-call_early zero O N L W X = let d = drawing O N in call_late (late d (room_of L W X)) d L W X
-call_early (suc r) O N L W X = call (Refused (suc r)) L W X
+unfoldable pub call_early : Option Refusal → Options → Network → Lists → Work → Crossings → Call
+call_early None O N L W X = let d = drawing O N in call_late (late d (room_of L W X)) d L W X
+call_early (Some r) O N L W X = call (Err r) L W X
 
 -- Layout returns the lowest number that applies.
 unfoldable pub layout_of : Options → Network → Lists → Work → Crossings → Call

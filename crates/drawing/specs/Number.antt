@@ -3,12 +3,12 @@ use Rattle.std.specs.Prelude.{ℕ, ◌≡◌, not, ◌||◌, ltb, length}
 use Rattle.options.specs.declared.Options.{Options}
 use Rattle.options.specs.Options.{in_range}
 use Rattle.network.specs.Words.{station_count, occupied}
-use Rattle.refusals.specs.Refusal.{refuse, too_many, kv_unlike, to_unlike, number_too_high, stray_voltage, too_far}
+use Rattle.refusals.specs.Refusal.{refuse, number_of, too_many, kv_unlike, to_unlike, number_too_high, stray_voltage, too_far}
 use Rattle.sized.specs.Sized.{ill_sized}
 use Rattle.drawing.specs.declared.room.Room.{Room}
 use Rattle.drawing.specs.Network.{Network, Lists, Work, Crossings}
 use Rattle.drawing.specs.Drawing.{drawing}
-use Rattle.drawing.specs.Answer.{number_of, room_of, mesh_length, short_results, short_work, crossing_room, piece_room, Call, layout_of}
+use Rattle.drawing.specs.Answer.{room_of, mesh_length, short_results, short_work, crossing_room, piece_room, Call, layout_of}
 
 -- 01's table, with 02's 15 directly after 4, although its number is higher: the first row whose condition holds gives the number, 0 where none does.
 -- 9 and 10 are skipped with fewer than three occupied stations or 0 iterations: the mesh then fits and there are no crossings.

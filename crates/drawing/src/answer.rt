@@ -8,10 +8,3 @@ pub struct Plot {
     pub bounds: Box,
     pub pieces: usize,
 }
-
-// Drawn, or refused with 01's number.
-#[derive(Clone, Copy)]
-pub enum Answer {
-    Drawn(Plot),
-    Refused(u32),
-}

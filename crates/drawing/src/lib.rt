@@ -2,6 +2,5 @@
 #![tactic(auto)]
 
 pub mod answer;
-pub mod answers;
 pub mod late;
 pub mod room;

@@ -5,9 +5,9 @@ ghost use Rattle.order.specs.Over.{over};
 ghost use Rattle.listed.specs.Output.{text_of, output_of};
 
 use crate::plot::plot;
-use drawing::answer::Answer;
-use listing::input::{Parsed, parse};
+use listing::input::parse;
 use listing::output::{print, print_refusal};
+use refusals::Refusal;
 
 // Draws a network of at most 64 buses and 64 branches, and writes its pieces or its refusal to out.
 fn list_drawing(
@@ -37,8 +37,8 @@ fn list_drawing(
         &mut pieces,
         &mut branches,
     ) {
-        Answer::Drawn(p) => print(p.pieces, &roles, &pieces, &branches, out),
-        Answer::Refused(r) => print_refusal(r, out),
+        Ok(p) => print(p.pieces, &roles, &pieces, &branches, out),
+        Err(r) => print_refusal(r.number(), out),
     }
 }
 
@@ -88,8 +88,8 @@ fn list_parsed(
     ensures out_after { out.new ≡ over (output_of text.now) out.old }
 {
     match parse(text, sub, kv, xy, from, to, live) {
-        Parsed::Network(c) => list_front(c.buses, c.branches, sub, kv, from, to, live, xy, out),
-        Parsed::Malformed => print_refusal(14, out),
+        Some(c) => list_front(c.buses, c.branches, sub, kv, from, to, live, xy, out),
+        None => print_refusal(Refusal::Malformed.number(), out),
     }
 }
 

@@ -26,6 +26,7 @@ fn read_text<R: Read + Drop>(alloc: Global, input: R) -> io::Result<Vec<u8>>
 }
 
 // Writes what comes of a text.
+#[tactic(auto, using(listing::proofs::Writing::front_laws))]
 fn write_list<W: Write>(text: &[u8], output: &mut W, out: &mut [u8]) -> io::Result<()>
     requires { 15960 ≤ length out.old }
     ensures { OnOk result (Appends (W.contents output.old) (W.contents output.new) (output_of text.now)) }

@@ -4,8 +4,9 @@ ghost use Rattle.drawing.specs.Network.{network};
 ghost use Rattle.small.specs.Small.{zeros};
 ghost use Rattle.listed.specs.Output.{list_options, Shown};
 
-use drawing::answer::Answer;
+use drawing::answer::Plot;
 use options::Options;
+use refusals::Refusal;
 use small::draw::draw_small;
 
 // The options of drawlist: fill 1/2, 0 iterations.
@@ -38,7 +39,7 @@ pub(crate) fn plot(
     roles: &mut [u8],
     pieces: &mut [f64],
     branches: &mut [u32],
-) -> Answer
+) -> Result<Plot, Refusal>
     ensures { Shown (network sub.now kv.now from.now to.now service.now xy.now [] []) (record { positions = zeros 128; bars = zeros 256; boxes = zeros 256; scales = zeros 64; roles = roles.old; pieces = pieces.old; branches = branches.old }) result roles.new pieces.new branches.new }
 {
     let mut positions = [0f64; 128];

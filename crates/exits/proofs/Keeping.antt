@@ -31,17 +31,15 @@ module _ (G : Grid) (e ra rb : ℕ) (K : Kind) (r : Exits) (k : kind_of G.sub G.
   unfolding exits_in line_in
   exits_by h = h ∙ cc
 
-  pub exits_undrawn : K ≡ Undrawn → r ≡ no_exits → r ≡ exits_in G e
+  pub exits_other : ((a b : ℕ) → K ≡ Line a b → ⊥) → r ≡ no_exits → r ≡ exits_in G e
   unfolding exits_of line_for
-  exits_undrawn z h = exits_by (h ∙ ap (λ (t : Kind). exits_of (line_for G ra rb t)) (sym z))
-
-  pub exits_open : (a b : ℕ) → K ≡ Open a b → r ≡ no_exits → r ≡ exits_in G e
-  unfolding exits_of line_for
-  exits_open a b z h = exits_by (h ∙ ap (λ (t : Kind). exits_of (line_for G ra rb t)) (sym z))
-
-  pub exits_internal : (a b : ℕ) → K ≡ Internal a b → r ≡ no_exits → r ≡ exits_in G e
-  unfolding exits_of line_for
-  exits_internal a b z h = exits_by (h ∙ ap (λ (t : Kind). exits_of (line_for G ra rb t)) (sym z))
+  exits_other n h = go K refl
+    where
+      go : (x : Kind) → K ≡ x → r ≡ exits_in G e
+      go Undrawn z = exits_by (h ∙ ap (λ (t : Kind). exits_of (line_for G ra rb t)) (sym z))
+      go (Open a b) z = exits_by (h ∙ ap (λ (t : Kind). exits_of (line_for G ra rb t)) (sym z))
+      go (Internal a b) z = exits_by (h ∙ ap (λ (t : Kind). exits_of (line_for G ra rb t)) (sym z))
+      go (Line a b) z = absurd (n a b z)
 
   pub exits_line : (a b : ℕ) → K ≡ Line a b → r ≡ line_exits G.sub G.measures G.blocks G.places G.frames a b ra rb → r ≡ exits_in G e
   unfolding exits_of line_for line_between exit_at line_exits exit_from

@@ -22,6 +22,7 @@ pub struct Exits {
 }
 
 // The exit of station s towards t, at the height of a row.
+#[tactic(auto, unfolding(crate::specs::Stages::Exits::exit_from, runs::specs::Stages::Views::block_of))]
 fn exit_at(
     measures: Measures,
     blocks: &[f64],
@@ -44,6 +45,7 @@ fn exit_at(
 }
 
 // The exits of a line between the buses a and b, whose ends have the rows ra and rb.
+#[tactic(auto, unfolding(crate::specs::Stages::Exits::line_exits))]
 fn line_exits(
     sub: &[u32],
     measures: Measures,
@@ -69,8 +71,8 @@ fn no_exits() -> Exits
     ensures { result ≡ no_exits }
 {
     let none = Point {
-        x: 0.0 / 0.0,
-        y: 0.0 / 0.0,
+        x: f64::NAN,
+        y: f64::NAN,
     };
     Exits {
         first: none,
@@ -97,10 +99,8 @@ fn exits_of(
     let ra = at(ends, 4 * e);
     let rb = at(ends, 4 * e + 1);
     match kind_of(sub, from, to, service, e) {
-        Kind::Undrawn => no_exits(),
-        Kind::Open(_, _) => no_exits(),
-        Kind::Internal(_, _) => no_exits(),
         Kind::Line(a, b) => line_exits(sub, measures, blocks, places, frames, a, b, ra, rb),
+        _ => no_exits(),
     }
 }
 
@@ -122,13 +122,11 @@ pub fn write_exits(
     ensures by_index_2 { (s : ℕ) → s < length sub.now → point_at places.new s ≡ point_at places.old s }
 {
     let n = sub.len();
-    let mut e = 0;
-    while e < from.len() {
+    for e in 0..from.len() {
         let x = exits_of(
             sub, from, to, service, measures, ends, blocks, places, frames, e,
         );
         put_point(places, n + 2 * e, x.first);
         put_point(places, n + 2 * e + 1, x.second);
-        e += 1;
     }
 }

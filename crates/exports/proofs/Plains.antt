@@ -1,13 +1,14 @@
 -- The numbers and the lists that cross, from those of the call inside. Assumes nothing.
 use mathlib.Core.Path.{◌≡◌, refl, ap, ◌∙◌}
 use Rattle.options.specs.declared.Options.{Options}
-use Rattle.drawing.specs.declared.answer.Answer.{Answer}
-use Rattle.drawing.specs.declared.answer.Answer.TheVariants as Layouts
+use Rattle.std.specs.Prelude.{Result, Ok, Err}
+use Rattle.refusals.specs.declared.Refusal.{Refusal}
+use Rattle.refusals.specs.Refusal.{number_of}
+use Rattle.drawing.specs.declared.answer.Plot.{Plot}
 use Rattle.drawing.specs.Network as Network
 use Rattle.drawing.specs.Answer as Layout
 use Rattle.drawing.specs.Number.{layout_number, Answered}
-use Rattle.findings.specs.declared.answer.Audit.{Audit}
-use Rattle.findings.specs.declared.answer.Audit.TheVariants as Audits
+use Rattle.findings.specs.declared.answer.Figures.{Figures}
 use Rattle.findings.specs.Drawn as Drawn
 use Rattle.findings.specs.Answer as Quality
 use Rattle.records.specs.declared.plain.Settings.{Settings}
@@ -15,17 +16,17 @@ use Rattle.records.specs.declared.plain.Plotted.{Plotted}
 use Rattle.records.specs.declared.plain.Audited.{Audited}
 use Rattle.records.specs.Plain.{options_of, plotted, audited, drew, plain_layout, judged, plain_audit, LayoutAnswered, AuditAnswered}
 
-layout_numbered : (a : Answer) → (plotted a).number ≡ Layout.number_of a
-unfolding plotted Layout.number_of
-layout_numbered (Layouts.Drawn p) = refl
-layout_numbered (Layouts.Refused r) = refl
+layout_numbered : (a : Result Plot Refusal) → (plotted a).number ≡ number_of a
+unfolding plotted number_of
+layout_numbered (Ok p) = refl
+layout_numbered (Err r) = refl
 
-audit_numbered : (a : Audit) → (audited a).number ≡ Quality.number_of a
-unfolding audited Quality.number_of
-audit_numbered (Audits.Audited f) = refl
-audit_numbered (Audits.Refused r) = refl
+audit_numbered : (a : Result Figures Refusal) → (audited a).number ≡ number_of a
+unfolding audited number_of
+audit_numbered (Ok f) = refl
+audit_numbered (Err r) = refl
 
-pub layout_plain : (o : Options) (s : Settings) (r : Plotted) (a : Answer) (L' : Network.Lists) (W' : Network.Work) (X' : Network.Crossings)
+pub layout_plain : (o : Options) (s : Settings) (r : Plotted) (a : Result Plot Refusal) (L' : Network.Lists) (W' : Network.Work) (X' : Network.Crossings)
     (N : Network.Network) (L : Network.Lists) (W : Network.Work) (X : Network.Crossings)
     → o ≡ options_of s → r ≡ plotted a → Answered o N L W X (Layout.call a L' W' X')
     → LayoutAnswered s N L W X (drew r L' W' X')
@@ -40,7 +41,7 @@ layout_plain o s r a L' W' X' N L W X p e h =
           ∙ (ap plain_layout h.is ∙ ap (λ (t : Options). plain_layout (Layout.layout_of t N L W X)) p);
     }
 
-pub audit_plain : (r : Audited) (a : Audit) (L' : Drawn.Lists) (W' : Drawn.Work) (E : Drawn.Drawn) (L : Drawn.Lists) (W : Drawn.Work)
+pub audit_plain : (r : Audited) (a : Result Figures Refusal) (L' : Drawn.Lists) (W' : Drawn.Work) (E : Drawn.Drawn) (L : Drawn.Lists) (W : Drawn.Work)
     → r ≡ audited a → Quality.Answered E L W (Quality.call a L' W') → AuditAnswered E L W (judged r L' W')
 unfolding plain_audit
 audit_plain r a L' W' E L W e h =

@@ -2,7 +2,7 @@
 ghost use Rattle.records.specs.Plain.{judged, AuditAnswered};
 
 use audit::quality::tx_layout_quality;
-use records::plain::{Audited, audit_numbers};
+use records::plain::Audited;
 
 // Audits a drawing: the figures of each station and line in the result lists, the others in the answer.
 #[unsafe(no_mangle)]
@@ -34,7 +34,7 @@ pub extern "C" fn tansygate_audit(
         (record { displacement = displacement.new; spacing = spacing.new; relative = relative.new })
         (record { stations = stations.new; index = index.new; spare = spare.new; keys = keys.new; points = points.new; path = path.new })) }
 {
-    let a = tx_layout_quality(
+    Audited::from(tx_layout_quality(
         displacement,
         spacing,
         relative,
@@ -53,6 +53,5 @@ pub extern "C" fn tansygate_audit(
         roles,
         pieces,
         branches,
-    );
-    audit_numbers(a)
+    ))
 }

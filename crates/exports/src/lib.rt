@@ -21,8 +21,7 @@ pub extern "C" fn tansygate_hypot(x: f64, y: f64) -> f64
 fn points_in(numbers: usize, room: usize) -> usize
     ensures { (result ≡ min (numbers / 2) room) × (2 * result ≤ numbers) × (result ≤ room) }
 {
-    let n = numbers / 2;
-    if n <= room { n } else { room }
+    (numbers / 2).min(room)
 }
 
 // Writes each point's least positive distance to another to the front of out; how many points that are.

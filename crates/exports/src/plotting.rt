@@ -3,7 +3,8 @@ ghost use Rattle.drawing.specs.Network.{crossings};
 ghost use Rattle.records.specs.Plain.{drew, LayoutAnswered};
 
 use layout::call::tx_schematic_layout;
-use records::plain::{Plotted, Settings, options_of, plot_numbers};
+use options::Options;
+use records::plain::{Plotted, Settings};
 
 // Draws the network into the lent lists.
 #[unsafe(no_mangle)]
@@ -48,7 +49,7 @@ pub extern "C" fn tansygate_plot(
         (record { stations = stations.new; buses = buses.new; ends = ends.new; sorted = sorted.new; spare = spare.new; keys = keys.new; places = places.new; blocks = blocks.new; frames = frames.new; path = path.new })
         (crossings crossing_numbers.new crossing_places.new crossing_ways.new)) }
 {
-    let a = tx_schematic_layout(
+    Plotted::from(tx_schematic_layout(
         positions,
         bars,
         boxes,
@@ -69,7 +70,7 @@ pub extern "C" fn tansygate_plot(
         crossing_numbers,
         crossing_places,
         crossing_ways,
-        options_of(s),
+        Options::from(s),
         sub,
         kv,
         from,
@@ -78,6 +79,5 @@ pub extern "C" fn tansygate_plot(
         xy,
         corners,
         twins,
-    );
-    plot_numbers(a)
+    ))
 }

@@ -1,15 +1,13 @@
 -- The bounds of what the readers of fields give. Assumes nothing.
-use mathlib.Core.Path.{◌≡◌, refl}
+use mathlib.Core.Path.{◌≡◌}
 use mathlib.Core.List.{List, [], ◌∷◌}
 use Prim.Native.Nat.{ℕ, ◌+◌, ◌*◌, ◌≤◌}
 use native.Mathlib.Omega.{arith}
 use lib.Dec.{eqb, ltb, leb}
 use borrow.Author.Tests.{leb-true, ltb-true}
-use Rattle.fields.specs.declared.field.Field.{Field}
-use Rattle.fields.specs.declared.field.Field.TheVariants.{Value, Wrong}
-use Rattle.fields.specs.Field.{Read, got, wrong, digit, closed, digits_to, limited, positive, whole, minus, plus}
-use Rattle.fields.specs.Stages.Places.{field_of, signed_of, minus_of, plus_of, Between}
-use Rattle.fields.proofs.Fields.{on_test}
+use Rattle.fields.specs.Field.{Read, got, wrong, digit, closed, digits_to, limited, positive, whole}
+use Rattle.std.proofs.lemmas.Int.{ints}
+use Rattle.fields.proofs.Fields.{on_test, bus_number_end, bus_number_minus, bus_number_plus}
 
 pub not_got : {A P : Type 0} {v : A} {l : List ℕ} → wrong ≡ got v l → P
 not_got e = let z : ◌≡◌ {A = ℕ} 0 1 = cc in absurd (omega arith)
@@ -63,24 +61,4 @@ whole_most stop most (c ∷ x) v l e =
     (λ f. omega (arith, closed_got stop 0 x v l (rw (whole, f) at e)))
     (λ f. (positive_bounds stop most (c ∷ x) v l (rw (whole, f) at e)).1)
 
--- the same of the code's answers
-pub positive_between : (stop most : ℕ) (x t : List ℕ) (r : Field) → positive stop most x ≡ field_of t r → Between 1 most r
-unfolding field_of
-positive_between stop most x t (Value v n) e = positive_bounds stop most x v _ e
-positive_between stop most x t Wrong e = tt
-
-pub whole_between : (stop most : ℕ) (x t : List ℕ) (r : Field) → whole stop most x ≡ field_of t r → Between 0 most r
-unfolding field_of
-whole_between stop most x t (Value v n) e = (omega arith, whole_most stop most x v _ e)
-whole_between stop most x t Wrong e = tt
-
--- a sign and the code's answers
-pub minus_field : (t : List ℕ) (f : Field) → minus (field_of t f) ≡ signed_of t (minus_of f)
-unfolding minus field_of signed_of minus_of
-minus_field t (Value v n) = refl
-minus_field t Wrong = refl
-
-pub plus_field : (t : List ℕ) (f : Field) → plus (field_of t f) ≡ signed_of t (plus_of f)
-unfolding plus field_of signed_of plus_of
-plus_field t (Value v n) = refl
-plus_field t Wrong = refl
+pub ruleset bus_number_laws = (bus_number_end, bus_number_minus, bus_number_plus, positive_bounds, whole_most, ints)

@@ -2,19 +2,25 @@
 use mathlib.Core.Path.{◌≡◌, refl, sym, ap, ◌∙◌}
 use mathlib.Core.Bool.{Bool, true, false}
 use mathlib.Core.List.{List, [], ◌∷◌}
-use Prim.Native.Nat.{ℕ, suc, ◌+◌, ◌-◌, ◌*◌, ◌^◌, ◌≤◌, ◌<◌}
+use Prim.Native.Nat.{ℕ, zero, suc, ◌+◌, ◌-◌, ◌*◌, ◌^◌, ◌≤◌, ◌<◌}
 use native.Mathlib.Omega.{arith}
 use native.Mathlib.Nat.{pow-suc, pow-le-pow_right}
 use native.Mathlib.Numerals.{add-one}
-use lib.ListN.{length, drop, get_or, drop_of_length-le}
+use lib.ListN.{length, drop, get_or, drop_of_length-le, length-drop}
+use Rattle.std.specs.List.{slice_range}
+use Rattle.std.proofs.lemmas.List.{take_all, get_or-take}
+use Rattle.std.proofs.lemmas.Bool.Decides.{nat_tests}
 use lib.Dec.{eqb, ltb, lit<}
-use lib.Seq.{drop-cons}
-use borrow.Author.Tests.{lt-leb, le-leb, lt-ltb, le-ltb, eq-eqb, ne_eqb}
-use Rattle.fields.specs.Field.{got, wrong, digit, closed, digits_to, limited, hexadecimal, positive, whole, minus, plus, bus_number}
+use lib.Seq.{drop-cons, drop-drop}
+use borrow.Author.Tests.{lt-leb, lt-ltb, le-ltb, eq-eqb, ne_eqb}
+use Rattle.fields.specs.Field.{wrong, digit, closed, digits_to, limited, hexadecimal, positive, whole, pattern, minus, plus, bus_number}
 
 -- the bytes from a place on: the one there and those after it
 pub at_cons : (t : List ℕ) (i : ℕ) → i < length t → drop i t ≡ get_or t i 0 ∷ drop (i + 1) t
 at_cons t i h = drop-cons t i 0 h ∙ ap (λ (n : ℕ). get_or t i 0 ∷ drop n t) (sym (add-one i))
+
+-- what tells the byte at a place, and a test of it
+pub ruleset test_laws = (at_cons, drop_of_length-le, nat_tests)
 
 -- by a test's two values
 pub on_test : {P : Type 0} (b : Bool) → (b ≡ true → P) → (b ≡ false → P) → P
@@ -29,63 +35,27 @@ over_limit stop most v (c ∷ l) h =
     on_test (eqb c stop) (λ e. simp (e, digits_to, limited, lt-leb v most h))
     (λ e. on_test (ltb (digit c) 10) (λ f. simp (e, f, digits_to) (over_limit stop most (v * 10 + digit c) l (omega arith))) (λ f. simp (e, f, digits_to)))
 
--- a closing byte
-pub closed_here : (t : List ℕ) (i stop v : ℕ) → i < length t → get_or t i 0 ≡ stop → closed stop v (drop i t) ≡ got v (drop (i + 1) t)
-unfolding closed
-closed_here t i stop v h e = simp (at_cons t i h, closed, eq-eqb _ _ e)
+-- hexadecimal digits: a text too short for them, another byte, a digit
+pub hex_short : (stop k v : ℕ) (l : List ℕ) → length l < k → hexadecimal stop k v l ≡ wrong
+unfolding hexadecimal
+hex_short stop zero v l h = absurd (omega arith)
+hex_short stop (suc k) v [] h = refl
+hex_short stop (suc k) v (c ∷ l) h =
+    on_test (ltb (digit c) 16) (λ e. simp (hexadecimal, e) (hex_short stop k (v * 16 + digit c) l (omega arith))) (λ e. simp (hexadecimal, e))
 
-pub closed_not : (t : List ℕ) (i stop v : ℕ) → i < length t → (get_or t i 0 ≡ stop → ⊥) → closed stop v (drop i t) ≡ wrong
-unfolding closed
-closed_not t i stop v h e = simp (at_cons t i h, closed, ne_eqb _ _ e)
-
-pub closed_end : (t : List ℕ) (i stop v : ℕ) → length t ≤ i → closed stop v (drop i t) ≡ wrong
-unfolding closed
-closed_end t i stop v h = simp (drop_of_length-le t h)
-
--- decimal digits: the closing byte, another byte, a digit, the end
-module _ (t : List ℕ) (i stop v : ℕ) where
-  pub digits_end : length t ≤ i → digits_to stop v (drop i t) ≡ wrong
-  unfolding digits_to
-  digits_end h = simp (drop_of_length-le t h)
-
-  module _ (h : i < length t) where
-    pub digits_stop : (most : ℕ) → v ≤ most → get_or t i 0 ≡ stop → limited most (digits_to stop v (drop i t)) ≡ got v (drop (i + 1) t)
-    unfolding digits_to limited
-    digits_stop most m e = simp (at_cons t i h, digits_to, eq-eqb _ _ e, limited, le-leb _ _ m)
-
-    module _ (e : get_or t i 0 ≡ stop → ⊥) (d : ℕ) (is : d ≡ digit (get_or t i 0)) where
-      pub digits_other : 9 < d → digits_to stop v (drop i t) ≡ wrong
-      unfolding digits_to
-      digits_other g = let k : 10 ≤ digit (get_or t i 0) = omega arith in simp (at_cons t i h, digits_to, ne_eqb _ _ e, le-ltb _ _ k)
-
-      pub digits_more : d ≤ 9 → digits_to stop v (drop i t) ≡ digits_to stop (v * 10 + d) (drop (i + 1) t)
-      unfolding digits_to
-      digits_more g =
-          let k : digit (get_or t i 0) < 10 = omega arith in
-          simp (at_cons t i h, digits_to, ne_eqb _ _ e, lt-ltb _ _ k, is)
-
-      pub digits_over : (most : ℕ) → d ≤ 9 → most < v * 10 + d → limited most (digits_to stop v (drop i t)) ≡ wrong
-      digits_over most g m = ap (limited most) (digits_more g) ∙ over_limit stop most (v * 10 + d) (drop (i + 1) t) m
-
--- hexadecimal digits: the end, another byte, a digit
-module _ (t : List ℕ) (i stop k v : ℕ) (lt : k < 16) where
-  pub left_over : 16 - k ≡ suc (16 - (k + 1))
+module _ (l : List ℕ) (stop k v d : ℕ) (lt : k < 16) (h : k < length l) (is : d ≡ digit (get_or l k 0)) where
+  left_over : 16 - k ≡ suc (16 - (k + 1))
   left_over = omega arith
 
-  pub hex_end : length t ≤ i → hexadecimal stop (16 - k) v (drop i t) ≡ wrong
+  hex_other : 15 < d → hexadecimal stop (16 - k) v (drop k l) ≡ wrong
   unfolding hexadecimal
-  hex_end h = rw (left_over, drop_of_length-le t h)
+  hex_other g = let j : 16 ≤ digit (get_or l k 0) = omega arith in simp (left_over, at_cons l k h, hexadecimal, le-ltb _ _ j)
 
-  module _ (h : i < length t) (d : ℕ) (is : d ≡ digit (get_or t i 0)) where
-    pub hex_other : 15 < d → hexadecimal stop (16 - k) v (drop i t) ≡ wrong
-    unfolding hexadecimal
-    hex_other g = let j : 16 ≤ digit (get_or t i 0) = omega arith in simp (left_over, at_cons t i h, hexadecimal, le-ltb _ _ j)
-
-    pub hex_more : d ≤ 15 → hexadecimal stop (16 - k) v (drop i t) ≡ hexadecimal stop (16 - (k + 1)) (v * 16 + d) (drop (i + 1) t)
-    unfolding hexadecimal
-    hex_more g =
-        let j : digit (get_or t i 0) < 16 = omega arith in
-        simp (left_over, at_cons t i h, hexadecimal, lt-ltb _ _ j, is)
+  hex_more : d ≤ 15 → hexadecimal stop (16 - k) v (drop k l) ≡ hexadecimal stop (16 - (k + 1)) (v * 16 + d) (drop (k + 1) l)
+  unfolding hexadecimal
+  hex_more g =
+      let j : digit (get_or l k 0) < 16 = omega arith in
+      simp (left_over, at_cons l k h, hexadecimal, lt-ltb _ _ j, is)
 
 -- k digits stand for less than 16 ^ k
 pub hex_grows : (k v d : ℕ) → v < 16 ^ k → d ≤ 15 → v * 16 + d < 16 ^ (k + 1)
@@ -98,54 +68,43 @@ pub hex_done : (stop k v : ℕ) (l : List ℕ) → 16 ≤ k → hexadecimal stop
 unfolding hexadecimal
 hex_done stop k v l h = let e : 16 - k ≡ 0 = omega arith in rw e
 
--- a number above 0, by its first digit
-module _ (t : List ℕ) (i stop most : ℕ) where
-  pub positive_end : length t ≤ i → positive stop most (drop i t) ≡ wrong
-  unfolding positive
-  positive_end h = simp (drop_of_length-le t h)
+-- the bits of a float, by the 16 bytes from a place of a text on
+module _ (t x digits : List ℕ) (at stop k v d : ℕ) (rest : x ≡ slice_range t at (length t)) (room : 16 ≤ length x) (first : digits ≡ slice_range x 0 16)
+    (h : k < 16) (is : d ≡ digit (get_or digits k 0)) where
+  rest_is : x ≡ drop at t
+  rest_is = rest ∙ take_all (length t - at) (drop at t) (omega (arith, length-drop at t))
 
-  module _ (h : i < length t) (d : ℕ) (is : d ≡ digit (get_or t i 0)) where
-    pub positive_zero : d ≡ 0 → positive stop most (drop i t) ≡ wrong
-    unfolding positive
-    positive_zero g = let k : digit (get_or t i 0) ≤ 0 = omega arith in simp (at_cons t i h, positive, le-ltb _ _ k)
+  long : k < length (drop at t)
+  long = omega (arith, ap length rest_is)
 
-    pub positive_other : 10 ≤ d → positive stop most (drop i t) ≡ wrong
-    unfolding positive
-    positive_other g =
-        let j : 0 < digit (get_or t i 0) = omega arith in
-        let k : 10 ≤ digit (get_or t i 0) = omega arith in
-        simp (at_cons t i h, positive, lt-ltb _ _ j, le-ltb _ _ k)
+  first_is : d ≡ digit (get_or (drop at t) k 0)
+  first_is = is ∙ ap (λ (l : List ℕ). digit (get_or l k 0)) first ∙ ap digit (get_or-take 16 x k 0 h) ∙ ap (λ (l : List ℕ). digit (get_or l k 0)) rest_is
 
-    pub positive_first : (d ≡ 0 → ⊥) → d < 10 → positive stop most (drop i t) ≡ limited most (digits_to stop d (drop (i + 1) t))
-    unfolding positive
-    positive_first n g =
-        let j : 0 < digit (get_or t i 0) = omega arith in
-        let k : digit (get_or t i 0) < 10 = omega arith in
-        simp (at_cons t i h, positive, lt-ltb _ _ j, lt-ltb _ _ k, is)
+  pub pattern_other : 15 < d → hexadecimal stop (16 - k) v (drop k (drop at t)) ≡ wrong
+  pattern_other g = hex_other (drop at t) stop k v d h long first_is g
 
--- a whole number and a bus number, by their first byte
+  pub pattern_more : d ≤ 15 → hexadecimal stop (16 - k) v (drop k (drop at t)) ≡ hexadecimal stop (16 - (k + 1)) (v * 16 + d) (drop (k + 1) (drop at t))
+  pattern_more g = hex_more (drop at t) stop k v d h long first_is g
+
+pub pattern_short : (stop at : ℕ) (t : List ℕ) → length t < at + 16 → pattern stop (drop at t) ≡ wrong
+unfolding pattern
+pattern_short stop at t h = hex_short stop 16 0 (drop at t) (omega (arith, length-drop at t))
+
+pub pattern_done : (stop at k v : ℕ) (t : List ℕ) → k ≡ 16 → hexadecimal stop (16 - k) v (drop k (drop at t)) ≡ closed stop v (drop (at + 16) t)
+pattern_done stop at k v t e = rw (e, drop-drop 16 at t) (hex_done stop 16 v (drop (at + 16) t) (omega arith))
+
+pub ruleset pattern_laws = (pattern_short, pattern_done, hex_room)
+
+-- a bus number, by its first byte
 module _ (t : List ℕ) (i stop : ℕ) where
-  pub whole_end : (most : ℕ) → length t ≤ i → whole stop most (drop i t) ≡ wrong
-  unfolding whole
-  whole_end most h = simp (drop_of_length-le t h)
-
   pub bus_number_end : length t ≤ i → bus_number stop (drop i t) ≡ wrong
   unfolding bus_number
   bus_number_end h = simp (drop_of_length-le t h)
 
-  module _ (h : i < length t) where
-    pub whole_zero : (most : ℕ) → get_or t i 0 ≡ 48 → whole stop most (drop i t) ≡ closed stop 0 (drop (i + 1) t)
-    unfolding whole
-    whole_zero most e = simp (at_cons t i h, whole, eq-eqb _ _ e)
+  pub bus_number_minus : i < length t → get_or t i 0 ≡ 45 → bus_number stop (drop i t) ≡ minus (positive stop (2 ^ 63) (drop (i + 1) t))
+  unfolding bus_number
+  bus_number_minus h e = simp (at_cons t i h, bus_number, eq-eqb _ _ e)
 
-    pub whole_positive : (most : ℕ) → (get_or t i 0 ≡ 48 → ⊥) → whole stop most (drop i t) ≡ positive stop most (drop i t)
-    unfolding whole
-    whole_positive most e = simp (at_cons t i h, whole, ne_eqb _ _ e)
-
-    pub bus_number_minus : get_or t i 0 ≡ 45 → bus_number stop (drop i t) ≡ minus (positive stop (2 ^ 63) (drop (i + 1) t))
-    unfolding bus_number
-    bus_number_minus e = simp (at_cons t i h, bus_number, eq-eqb _ _ e)
-
-    pub bus_number_plus : (get_or t i 0 ≡ 45 → ⊥) → bus_number stop (drop i t) ≡ plus (whole stop (2 ^ 63 - 1) (drop i t))
-    unfolding bus_number
-    bus_number_plus e = simp (at_cons t i h, bus_number, ne_eqb _ _ e)
+  pub bus_number_plus : i < length t → (get_or t i 0 ≡ 45 → ⊥) → bus_number stop (drop i t) ≡ plus (whole stop (2 ^ 63 - 1) (drop i t))
+  unfolding bus_number
+  bus_number_plus h e = simp (at_cons t i h, bus_number, ne_eqb _ _ e)

@@ -1,5 +1,4 @@
 -- Laws that the functions' proofs and the crates above use.
 pub mod Fields
-pub mod Signs
 pub mod Bounds
 pub mod Spelling

@@ -1,20 +1,22 @@
 -- Digits written into a list: what is put in two parts, or from its last byte on; how many digits a number has. Assumes nothing.
+use mir.ValLaws.{to_z-of_z}
 use mathlib.Core.Path.{◌≡◌, refl, sym, ap, subst, ◌∙◌}
-use mathlib.Core.Bool.{true}
-use mathlib.Core.List.{List, [], ◌∷◌, ◌++◌, append_assoc, append-nil}
+use mathlib.Core.Bool.{true, false}
+use mathlib.Core.List.{List, [], ◌∷◌, ◌++◌}
 use Prim.Native.Nat.{ℕ, zero, suc, ◌+◌, ◌-◌, ◌*◌, ◌/◌, ◌%◌, ◌^◌, ◌≤◌, ◌<◌}
 use native.Mathlib.Omega.{arith}
-use native.Mathlib.Nat.{add-zero, add-suc, suc-add, pow-suc}
+use native.Mathlib.Nat.{add-zero, add-suc, suc-add, pow-suc, pow-le-pow_right}
 use native.Mathlib.Numerals.{add-one}
-use lib.Dec.{T, ltb}
-use lib.Ieee.{Float, ne}
-use lib.Ieee.Compare.{differs_from_itself}
-use lib.ListN.{length, set, drop, length-append, length-set}
+use lib.Dec.{T, ltb, lit<}
+use lib.IntN.{ℤ, pos, negsuc, nat_abs}
+use lib.Signed.{lt_z}
+use lib.Ieee.{Float, nan, inf, fin, eq, is_nan, of_bits, to_bits, binary64}
+use lib.ListN.{length, set, drop, length-append}
 use lib.Seq.{sets, sets-eq, length-sets, set_comm}
-use borrow.Author.Tests.{lt-ltb, le-ltb}
+use borrow.Author.Tests.{lt-ltb, le-ltb, ltb-true}
 use Rattle.order.specs.Over.{over}
 use Rattle.fields.proofs.Fields.{on_test}
-use Rattle.fields.specs.Spell.{glyph, digits, places_in, number_field, shown, float_field, put_at}
+use Rattle.fields.specs.Spell.{glyph, digits, places_in, number_field, signed_field, shown, float_field, put_at}
 
 -- ---- bytes put at a place
 pub put_two : (a b l : List ℕ) (i : ℕ) → put_at (put_at l i a) (i + length a) b ≡ put_at l i (a ++ b)
@@ -26,14 +28,10 @@ pub put_one : (l : List ℕ) (i x : ℕ) → put_at l i (x ∷ []) ≡ set l i x
 unfolding put_at
 put_one l i x = refl
 
-set_before : (s l : List ℕ) (i j x : ℕ) → i < j → sets (set l i x) j s ≡ set (sets l j s) i x
-set_before [] l i j x h = refl
-set_before (y ∷ s) l i j x h =
-    ap (λ (t : List ℕ). sets t (suc j) s) (set_comm l i j x y (λ e. absurd (omega (arith, e)))) ∙ set_before s (set l j y) i (suc j) x (omega arith)
-
-pub put_front : (l : List ℕ) (i x : ℕ) (s : List ℕ) → set (put_at l (i + 1) s) i x ≡ put_at l i (x ∷ s)
-unfolding put_at
-put_front l i x s = ap (λ (n : ℕ). set (sets l n s) i x) (add-one i) ∙ sym (set_before s l i (suc i) x (omega arith))
+set_past : (s l : List ℕ) (i j x : ℕ) → j + length s ≤ i → sets (set l i x) j s ≡ set (sets l j s) i x
+set_past [] l i j x h = refl
+set_past (y ∷ s) l i j x h =
+    ap (λ (t : List ℕ). sets t (suc j) s) (set_comm l i j x y (λ e. absurd (omega (arith, e)))) ∙ set_past s (set l j y) i (suc j) x (omega arith)
 
 pub length_put : (l : List ℕ) (i : ℕ) (s : List ℕ) → length (put_at l i s) ≡ length l
 unfolding put_at
@@ -43,15 +41,10 @@ pub put_over : (l s : List ℕ) → length s ≤ length l → put_at l 0 s ≡ o
 unfolding put_at over
 put_over l s h = let e : 0 + length s ≡ length s = omega arith in sets-eq s l 0 (omega arith) ∙ ap (λ (n : ℕ). s ++ drop n l) e
 
--- what was put is known by another name
-pub put_same : (l m : List ℕ) (at r : ℕ) (s t : List ℕ) → s ≡ t → (r ≡ at + length s) × (m ≡ put_at l at s) → (r ≡ at + length t) × (m ≡ put_at l at t)
-put_same l m at r s t e h = subst (λ (u : List ℕ). (r ≡ at + length u) × (m ≡ put_at l at u)) e h
-
 -- a byte and what follows it
-pub put_after : (l m : List ℕ) (at r x : ℕ) (s t : List ℕ) → x ∷ s ≡ t → (r ≡ at + 1 + length s) × (m ≡ put_at (set l at x) (at + 1) s)
-    → (r ≡ at + length t) × (m ≡ put_at l at t)
+pub put_after : (l : List ℕ) (at x : ℕ) (s : List ℕ) → put_at (set l at x) (at + 1) s ≡ put_at l at (x ∷ s)
 unfolding put_at
-put_after l m at r x s t e h = put_same l m at r (x ∷ s) t e (omega (arith, h.0), h.1 ∙ ap (λ (n : ℕ). sets (set l at x) n s) (add-one at))
+put_after l at x s = ap (λ (n : ℕ). sets (set l at x) n s) (add-one at)
 
 -- ---- the loop of `spell`
 pub length_digits : (base k n : ℕ) → length (digits base k n) ≡ k
@@ -59,45 +52,27 @@ unfolding digits
 length_digits base zero n = refl
 length_digits base (suc k) n = length-append (digits base k (n / base)) (glyph (n % base) ∷ []) ∙ omega (arith, length_digits base k (n / base))
 
-pub record Spelled (n base k at : ℕ) (l₀ l : List ℕ) (i rest : ℕ) : Type 0 where
-  pub done : List ℕ
-  pub below : i ≤ k
-  pub is : l ≡ put_at l₀ (at + i) done
-  pub size : length l ≡ length l₀
-  pub whole : digits base k n ≡ digits base i rest ++ done
+-- the last of i digits is there, where the others are to be
+pub spelled_more : (base rest at i g : ℕ) (l : List ℕ) → g ≡ glyph (rest % base) → 0 < i
+    → put_at (set l (at + (i - 1)) g) at (digits base (i - 1) (rest / base)) ≡ put_at l at (digits base i rest)
+unfolding digits put_at
+spelled_more base rest at i g l e h =
+    let d = digits base (i - 1) (rest / base) in
+    let n : i ≡ suc (i - 1) = omega arith in
+    let k : at + length d ≡ at + (i - 1) = omega (arith, length_digits base (i - 1) (rest / base)) in
+    set_past d l (at + (i - 1)) at g (omega arith)
+    ∙ ap (λ (j : ℕ). sets (sets l at d) j (g ∷ [])) (sym k)
+    ∙ put_two d (g ∷ []) l at
+    ∙ ap (λ (c : ℕ). put_at l at (d ++ (c ∷ []))) e
+    ∙ ap (λ (j : ℕ). put_at l at (digits base j rest)) (sym n)
 
-module _ (n base k at : ℕ) (l₀ : List ℕ) where
-  pub spelled_none : Spelled n base k at l₀ l₀ k n
-  unfolding put_at
-  spelled_none = record { done = []; below = omega arith; is = refl; size = refl; whole = sym (append-nil (digits base k n)) }
+pub spelled_all : (base rest at i : ℕ) (l : List ℕ) → i ≤ 0 → l ≡ put_at l at (digits base i rest)
+unfolding digits put_at
+spelled_all base rest at i l h = let z : i ≡ 0 = omega arith in rw z
 
-  module _ {l : List ℕ} {i rest : ℕ} (m : Spelled n base k at l₀ l i rest) where
-    pub spelled_more : 0 < i → (g : ℕ) → g ≡ glyph (rest % base) → Spelled n base k at l₀ (set l (at + (i - 1)) g) (i - 1) (rest / base)
-    unfolding digits
-    spelled_more h g e =
-        let j : i ≡ suc (i - 1) = omega arith in
-        let a : at + i ≡ at + (i - 1) + 1 = omega arith in
-        record {
-          done = g ∷ m.done;
-          below = omega (arith, m.below);
-          is = ap (λ (t : List ℕ). set t (at + (i - 1)) g) (m.is ∙ ap (λ (d : ℕ). put_at l₀ d m.done) a) ∙ put_front l₀ (at + (i - 1)) g m.done;
-          size = length-set l (at + (i - 1)) g ∙ m.size;
-          whole =
-              m.whole
-              ∙ ap (λ (d : ℕ). digits base d rest ++ m.done) j
-              ∙ append_assoc (digits base (i - 1) (rest / base)) (glyph (rest % base) ∷ []) m.done
-              ∙ ap (λ (d : ℕ). digits base (i - 1) (rest / base) ++ (d ∷ m.done)) (sym e);
-        }
+pub ruleset spell_laws = (spelled_more, spelled_all)
 
-    pub spelled_all : i ≤ 0 → l ≡ put_at l₀ at (digits base k n)
-    unfolding digits
-    spelled_all h =
-        let z : i ≡ 0 = omega arith in
-        let a : at + i ≡ at = omega arith in
-        let d : m.done ≡ digits base k n = sym (m.whole ∙ ap (λ (d : ℕ). digits base d rest ++ m.done) z) in
-        m.is ∙ cc
-
--- ---- the loop of `places`
+-- ---- how many digits a number has
 pub places_more : (f n : ℕ) → 9 < n → n ≤ f → places_in f n ≡ suc (places_in (f - 1) (n / 10))
 unfolding places_in
 places_more zero n h l = absurd (omega arith)
@@ -108,24 +83,15 @@ unfolding places_in
 places_last zero n h = refl
 places_last (suc f) n h = let g : n < 10 = omega arith in simp (places_in, lt-ltb n 10 g)
 
-pub record Counted (n k rest : ℕ) : Type 0 where
-  pub some : 1 ≤ k
-  pub left : k + rest ≤ n + 1
-  pub whole : places_in n n + 1 ≡ k + places_in (n + 1 - k) rest
+-- from 10 ^ k to 10 ^ (k + 1)
+pub places_are : (k f n : ℕ) → n ≤ f → 10 ^ k ≤ n → n < 10 * 10 ^ k → places_in f n ≡ k + 1
+places_are zero f n l h g = places_last f n (omega arith)
+places_are (suc k) f n l h g =
+    let p : 10 ^ suc k ≡ 10 ^ k * 10 = pow-suc 10 k in
+    let z : 0 ≤ k = omega arith in let o : 1 ≤ 10 ^ k = pow-le-pow_right (lit< tt) z in
+    omega (arith, places_more f n (omega arith) l, places_are k (f - 1) (n / 10) (omega arith) (omega arith) (omega arith))
 
-pub counted_none : (n : ℕ) → Counted n 1 n
-counted_none n = let e : n + 1 - 1 ≡ n = omega arith in record { some = omega arith; left = omega arith; whole = rw e (omega arith) }
-
-module _ {n k rest : ℕ} (m : Counted n k rest) where
-  pub counted_more : 9 < rest → Counted n (k + 1) (rest / 10)
-  counted_more h =
-      let e : n + 1 - k - 1 ≡ n + 1 - (k + 1) = omega arith in
-      let p : places_in (n + 1 - k) rest ≡ suc (places_in (n + 1 - k - 1) (rest / 10)) = places_more (n + 1 - k) rest h (omega (arith, m.left)) in
-      let q : places_in (n + 1 - k - 1) (rest / 10) ≡ places_in (n + 1 - (k + 1)) (rest / 10) = ap (λ (f : ℕ). places_in f (rest / 10)) e in
-      record { some = omega arith; left = omega (arith, m.left); whole = omega (arith, m.whole) }
-
-  pub counted_all : rest ≤ 9 → k ≡ places_in n n
-  counted_all h = omega (arith, m.whole, places_last (n + 1 - k) rest h)
+pub ruleset places_laws = (places_are, places_last)
 
 -- a number below 10 ^ k has at most k digits
 pub few_places : (k f n : ℕ) → n < 10 ^ suc k → places_in f n ≤ suc k
@@ -140,10 +106,33 @@ few_places (suc k) (suc f) n h =
     let d : n / 10 < 10 ^ suc k = omega arith in
     omega (arith, few_places k f (n / 10) d))
 
--- ---- a NaN's bits
-pub shown_nan : (x : Float) → ne x x ≡ true → shown x ≡ 0x7FF8_0000_0000_0000
+-- ---- the bits of a float
+pub shown_zero : (x : Float) → eq x (of_bits binary64 0) ≡ true → shown x ≡ 0
 unfolding shown
-shown_nan x e = ap shown (differs_from_itself x (subst T (sym e) tt))
+shown_zero x e = simp (shown, e)
+
+pub shown_other : (x : Float) → eq x (of_bits binary64 0) ≡ false → shown x ≡ to_bits binary64 x
+unfolding shown
+shown_other x e = simp (shown, e)
+
+pub shown_nan : (x : Float) → is_nan x ≡ true → shown x ≡ 0x7FF8_0000_0000_0000
+unfolding shown is_nan
+shown_nan nan e = refl
+shown_nan (inf s) e = cc
+shown_nan (fin s m k) e = cc
+
+pub ruleset shown_laws = (shown_zero, shown_other, shown_nan)
+
+-- ---- a number with its sign
+pub signed_minus : (stop : ℕ) (n : ℤ) → lt_z n (pos 0) ≡ true → signed_field stop n ≡ 45 ∷ number_field stop (nat_abs n)
+unfolding signed_field
+signed_minus stop (pos n) h = absurd (omega (arith, ltb-true n 0 h))
+signed_minus stop (negsuc n) h = refl
+
+pub signed_plus : (stop : ℕ) (n : ℤ) → lt_z n (pos 0) ≡ false → signed_field stop n ≡ number_field stop (nat_abs n)
+unfolding signed_field
+signed_plus stop (pos n) h = refl
+signed_plus stop (negsuc n) h = absurd (subst T h tt)
 
 -- ---- fields
 pub put_closed : (l d : List ℕ) (at k stop : ℕ) → length d ≡ k → set (put_at l at d) (at + k) stop ≡ put_at l at (d ++ (stop ∷ []))
@@ -169,8 +158,13 @@ number_put l m at k stop n e h =
     ap (λ (t : List ℕ). set t (at + k) stop) h ∙ put_closed l (digits 10 k n) at k stop (length_digits 10 k n)
     ∙ ap (λ (j : ℕ). put_at l at (digits 10 j n ++ (stop ∷ []))) e
 
-pub float_put : (l m : List ℕ) (at stop p : ℕ) (x : Float) → p ≡ shown x → m ≡ put_at l at (digits 16 16 p) → set m (at + 16) stop ≡ put_at l at (float_field stop x)
+pub float_put : (l m : List ℕ) (at stop : ℕ) (x : Float) → m ≡ put_at l at (digits 16 16 (shown x)) → set m (at + 16) stop ≡ put_at l at (float_field stop x)
 unfolding float_field
-float_put l m at stop p x e h =
-    ap (λ (t : List ℕ). set t (at + 16) stop) h ∙ put_closed l (digits 16 16 p) at 16 stop (length_digits 16 16 p)
-    ∙ ap (λ (j : ℕ). put_at l at (digits 16 16 j ++ (stop ∷ []))) e
+float_put l m at stop x h =
+    ap (λ (t : List ℕ). set t (at + 16) stop) h ∙ put_closed l (digits 16 16 (shown x)) at 16 stop (length_digits 16 16 (shown x))
+
+pub ruleset number_laws = (u32_places, number_length, number_put)
+
+pub ruleset float_laws = (float_length, float_put)
+
+pub ruleset signed_laws = (signed_minus, signed_plus, put_after, u32_places, number_length, to_z-of_z)

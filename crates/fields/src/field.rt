@@ -1,175 +1,128 @@
-// A field at a place of a text: a number, and the place after the byte that closes it.
-ghost use Rattle.std.specs.Prelude.{◌≡◌, ◌+◌, ◌-◌, ◌^◌, ◌≤◌, ◌<◌, drop};
+// A field at a place of a text.
+ghost use Rattle.std.specs.Prelude.{◌≡◌, ◌-◌, ◌^◌, ◌≤◌, drop};
 ghost use Rattle.fields.specs.Field.{digit as digit_of, closed as closed_by, digits_to, limited, positive as positive_to, whole as whole_to, pattern as pattern_to, bus_number};
-ghost use Rattle.fields.specs.Stages.Places.{field_of, signed_of, Between, minus_of, plus_of};
+ghost use Rattle.fields.specs.Stages.Places.{field_of};
 
+// A value that stands in a text, and the place after it and what closes it.
 #[derive(Clone, Copy)]
-pub enum Field {
-    Value { value: u64, next: usize },
-    Wrong,
-}
-
-#[derive(Clone, Copy)]
-pub enum Signed {
-    Number { value: i64, next: usize },
-    None,
+pub struct Parsed<T> {
+    pub value: T,
+    pub next: usize,
 }
 
 // What a digit stands for, 16 for any other byte.
+#[tactic(auto, unfolding(crate::specs::Field::digit))]
 fn digit(c: u8) -> u64
     ensures { result ≡ digit_of c }
 {
-    let n = c as u64;
-    if n < 48 {
-        return 16;
+    match c {
+        b'0'..=b'9' => (c - b'0') as u64,
+        b'A'..=b'F' => (c - b'A') as u64 + 10,
+        _ => 16,
     }
-    if n < 58 {
-        return n - 48;
-    }
-    if n < 65 {
-        return 16;
-    }
-    if n < 71 { n - 55 } else { 16 }
 }
 
 // The value, if the byte at `at` is `stop`.
-fn closed(text: &[u8], at: usize, stop: u8, value: u64) -> Field
+#[tactic(auto, using(crate::proofs::Fields::test_laws), unfolding(crate::specs::Field::closed, crate::specs::Stages::Places::field_of))]
+fn closed(text: &[u8], at: usize, stop: u8, value: u64) -> Option<Parsed<u64>>
     ensures { closed_by stop value (drop at text.now) ≡ field_of text.now result }
 {
-    if at < text.len() {
-        if text[at] == stop {
-            return Field::Value {
-                value,
-                next: at + 1,
-            };
-        }
+    match text.get(at) {
+        Some(&c) if c == stop => Some(Parsed {
+            value,
+            next: at + 1,
+        }),
+        _ => None,
     }
-    Field::Wrong
 }
 
 // The number whose first digits stand for `first`, and whose others begin at `at`.
-fn digits_to(text: &[u8], at: usize, stop: u8, first: u64, most: u64) -> Field
+#[tactic(auto, using(crate::proofs::Fields::test_laws, crate::proofs::Fields::over_limit), unfolding(crate::specs::Stages::Places::field_of, crate::specs::Field::limited, crate::specs::Field::digits_to))]
+fn digits_to(text: &[u8], at: usize, stop: u8, first: u64, most: u64) -> Option<Parsed<u64>>
     requires { (first ≤ most) × (most ≤ 2 ^ 63) }
     ensures { limited most (digits_to stop first (drop at text.now)) ≡ field_of text.now result }
 {
-    let mut i = at;
     let mut v = first;
-    while i < text.len() {
+    for i in at..text.len() {
         let c = text[i];
         if c == stop {
-            return Field::Value {
+            return Some(Parsed {
                 value: v,
                 next: i + 1,
-            };
+            });
         }
         let d = digit(c);
-        if 9 < d {
-            return Field::Wrong;
-        }
-        if most / 10 < v {
-            return Field::Wrong;
+        if 9 < d || most / 10 < v {
+            return None;
         }
         v = v * 10 + d;
         if most < v {
-            return Field::Wrong;
+            return None;
         }
-        i += 1;
     }
-    Field::Wrong
+    None
 }
 
 // A number above 0.
-fn positive(text: &[u8], at: usize, stop: u8, most: u64) -> Field
+#[tactic(auto, using(crate::proofs::Fields::test_laws), unfolding(crate::specs::Stages::Places::field_of, crate::specs::Field::positive))]
+fn positive(text: &[u8], at: usize, stop: u8, most: u64) -> Option<Parsed<u64>>
     requires { (9 ≤ most) × (most ≤ 2 ^ 63) }
     ensures { positive_to stop most (drop at text.now) ≡ field_of text.now result }
 {
-    if at < text.len() {
-        let d = digit(text[at]);
-        if d == 0 {
-            return Field::Wrong;
-        }
-        if d < 10 {
-            return digits_to(text, at + 1, stop, d, most);
-        }
+    match digit(*text.get(at)?) {
+        d @ 1..=9 => digits_to(text, at + 1, stop, d, most),
+        _ => None,
     }
-    Field::Wrong
 }
 
 // A whole number.
-pub fn whole(text: &[u8], at: usize, stop: u8, most: u64) -> Field
+#[tactic(auto, using(crate::proofs::Fields::test_laws), unfolding(crate::specs::Stages::Places::field_of, crate::specs::Field::whole))]
+pub fn whole(text: &[u8], at: usize, stop: u8, most: u64) -> Option<Parsed<u64>>
     requires { (9 ≤ most) × (most ≤ 2 ^ 63) }
     ensures { whole_to stop most (drop at text.now) ≡ field_of text.now result }
 {
-    if text.len() <= at {
-        return Field::Wrong;
+    match text.get(at)? {
+        b'0' => closed(text, at + 1, stop, 0),
+        _ => positive(text, at, stop, most),
     }
-    if text[at] == 48 {
-        return closed(text, at + 1, stop, 0);
-    }
-    positive(text, at, stop, most)
 }
 
 // The bits of a float.
-pub fn pattern(text: &[u8], at: usize, stop: u8) -> Field
+#[tactic(auto, using(crate::proofs::Fields::pattern_laws), unfolding(crate::specs::Stages::Places::field_of, crate::specs::Field::pattern))]
+pub fn pattern(text: &[u8], at: usize, stop: u8) -> Option<Parsed<u64>>
     ensures { pattern_to stop (drop at text.now) ≡ field_of text.now result }
 {
-    let mut i = at;
+    let digits = text.get(at..)?.get(..16)?;
     let mut v = 0;
-    let mut k: usize = 0;
-    while k < 16 {
-        if text.len() <= i {
-            return Field::Wrong;
-        }
-        let d = digit(text[i]);
+    for &c in digits {
+        let d = digit(c);
         if 15 < d {
-            return Field::Wrong;
+            return None;
         }
         v = v * 16 + d;
-        i += 1;
-        k += 1;
     }
-    closed(text, i, stop, v)
-}
-
-// The number below 0 with the field's value as its size.
-fn minus(f: Field) -> Signed
-    requires { Between 1 (2 ^ 63) f }
-    ensures { result ≡ minus_of f }
-{
-    match f {
-        Field::Value { value, next } => Signed::Number {
-            value: -1 - ((value - 1) as i64),
-            next,
-        },
-        Field::Wrong => Signed::None,
-    }
-}
-
-// The field's value as a signed number.
-fn plus(f: Field) -> Signed
-    requires { Between 0 (2 ^ 63 - 1) f }
-    ensures { result ≡ plus_of f }
-{
-    match f {
-        Field::Value { value, next } => Signed::Number {
-            value: value as i64,
-            next,
-        },
-        Field::Wrong => Signed::None,
-    }
+    closed(text, at + 16, stop, v)
 }
 
 // A bus number.
-pub fn bus_number(text: &[u8], at: usize, stop: u8) -> Signed
-    ensures { bus_number stop (drop at text.now) ≡ signed_of text.now result }
+#[tactic(auto, using(crate::proofs::Bounds::bus_number_laws), unfolding(crate::specs::Stages::Places::field_of, crate::specs::Field::minus, crate::specs::Field::plus))]
+pub fn bus_number(text: &[u8], at: usize, stop: u8) -> Option<Parsed<i64>>
+    ensures { bus_number stop (drop at text.now) ≡ field_of text.now result }
 {
-    if text.len() <= at {
-        return Signed::None;
+    match text.get(at)? {
+        b'-' => {
+            let f = positive(text, at + 1, stop, 0x8000_0000_0000_0000)?;
+            Some(Parsed {
+                value: -1 - (f.value - 1) as i64,
+                next: f.next,
+            })
+        }
+        _ => {
+            let f = whole(text, at, stop, 0x7FFF_FFFF_FFFF_FFFF)?;
+            Some(Parsed {
+                value: f.value as i64,
+                next: f.next,
+            })
+        }
     }
-    if text[at] == 45 {
-        let f = positive(text, at + 1, stop, 0x8000_0000_0000_0000);
-        return minus(f);
-    }
-    let f = whole(text, at, stop, 0x7FFF_FFFF_FFFF_FFFF);
-    plus(f)
 }

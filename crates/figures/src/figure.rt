@@ -13,6 +13,7 @@ use neighbours::nearest_neighbour_distances;
 use seeds::put_point;
 
 // The middle of a box.
+#[tactic(auto, unfolding(crate::specs::Figure::middle))]
 fn middle(b: Box) -> Point
     ensures { result ≡ middle b }
 {
@@ -23,6 +24,7 @@ fn middle(b: Box) -> Point
 }
 
 // The distance from p to q.
+#[tactic(auto, unfolding(proximity::specs::Near::distance))]
 pub fn distance(p: Point, q: Point) -> f64
     ensures { result ≡ distance p q }
 {
@@ -34,11 +36,9 @@ pub fn middles(k: usize, boxes: &[f64], points: &mut [f64])
     requires { (4 * k ≤ length boxes.now) × (2 * k ≤ length points.old) }
     ensures { points_in k points.new ≡ middles (boxes_in k boxes.now) }
 {
-    let mut s = 0;
-    while s < k {
+    for s in 0..k {
         let c = middle(box_at(boxes, s));
         put_point(points, s, c);
-        s += 1;
     }
 }
 
@@ -54,19 +54,16 @@ pub fn displacements(
     ensures { displacement.new ≡ over (displacements (points_in k seeds.now) (boxes_in k boxes.now) (occupied (counts_in k stations.now))) displacement.old }
 {
     let mut c = 0;
-    let mut s = 0;
-    while s < k {
+    for s in 0..k {
         if 0 < stations[2 * s] {
             displacement[c] = distance(point_at(seeds, s), middle(box_at(boxes, s)));
             c += 1;
-            s += 1;
-        } else {
-            s += 1;
         }
     }
 }
 
 // A box's shorter side, at least f64::MIN_POSITIVE.
+#[tactic(auto, unfolding(crate::specs::Figure::shorter))]
 fn shorter(b: Box) -> f64
     ensures { result ≡ shorter b }
 {
@@ -82,14 +79,10 @@ fn by_sides(k: usize, stations: &[u32], boxes: &[f64], spacing: &mut [f64])
     ensures { spacing.new ≡ over (by_sides spacing.old (boxes_in k boxes.now) 0 (occupied (counts_in k stations.now))) spacing.old }
 {
     let mut c = 0;
-    let mut s = 0;
-    while s < k {
+    for s in 0..k {
         if 0 < stations[2 * s] {
             spacing[c] = spacing[c] / shorter(box_at(boxes, s));
             c += 1;
-            s += 1;
-        } else {
-            s += 1;
         }
     }
 }

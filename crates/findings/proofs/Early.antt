@@ -1,12 +1,15 @@
 -- Refusals 1 to 7 by their tests, and what they promise where none applies. Assumes nothing.
-use mathlib.Core.Path.{◌≡◌, refl, sym, ap, ◌∙◌}
-use mathlib.Core.Bool.{Bool, true, false, not}
-use Prim.Native.Nat.{ℕ, zero, suc, ◌*◌, ◌≤◌}
+use mathlib.Core.Path.{◌≡◌, refl, sym}
+use mathlib.Core.Bool.{Bool, true, false}
+use Prim.Native.Nat.{ℕ, ◌*◌, ◌≤◌}
 use native.Mathlib.Omega.{arith}
-use lib.Dec.{eqb}
 use lib.ListN.{length}
-use borrow.Author.Tests.{ltb-false, ne_eqb}
+use borrow.Author.Tests.{ltb-false}
 use Rattle.network.specs.Words.{station_count}
+use Rattle.std.specs.Prelude.{Option, Some, None}
+use Rattle.std.specs.Option.{option_or}
+use Rattle.refusals.specs.declared.Refusal.{Refusal}
+use Rattle.refusals.specs.declared.Refusal.TheVariants as Refusals
 use Rattle.refusals.specs.Refusal.{refuse, shape_refusal, too_far}
 use Rattle.refusals.proofs.Shapes.{shape_fits, neither}
 use Rattle.box_cells.specs.Length.{index_length}
@@ -17,39 +20,37 @@ use Rattle.findings.specs.Answer.{too_short}
 use Rattle.findings.specs.Answer.{early}
 
 module _ (D : Drawn) (R : Room) where
-  abbrev shape : ℕ
+  abbrev shape : Option Refusal
   shape = shape_refusal D.station D.kv D.from D.to
 
   abbrev short : Bool
   short = too_short (length D.station) (station_count D.station) (length D.branches) R
 
-  pub by_shape : (r : ℕ) → r ≡ shape → (r ≡ 0 → ⊥) → r ≡ early D R
+  pub by_shape : (r : Refusal) → Some r ≡ shape → Some r ≡ early D R
   unfolding early
-  by_shape r e h = rw (sym e, ne_eqb r 0 h)
+  by_shape r e = rw (sym e)
 
-  module _ (s : 0 ≡ shape) where
-    pub by_distance : true ≡ too_far (length D.station) D.xy → 6 ≡ early D R
+  module _ (s : None ≡ shape) where
+    pub by_distance : true ≡ too_far (length D.station) D.xy → Some Refusals.TooFar ≡ early D R
     unfolding early
     by_distance h = rw (sym s, sym h)
 
     module _ (f : false ≡ too_far (length D.station) D.xy) (k : ℕ) (e : k ≡ station_count D.station) where
-      pub by_room : true ≡ too_short (length D.station) k (length D.branches) R → 7 ≡ early D R
+      pub by_room : true ≡ too_short (length D.station) k (length D.branches) R → Some Refusals.ListTooShort ≡ early D R
       unfolding early
       by_room h = rw (sym s, sym f, sym e, sym h)
 
-      pub by_none : false ≡ too_short (length D.station) k (length D.branches) R → 0 ≡ early D R
+      pub by_none : false ≡ too_short (length D.station) k (length D.branches) R → None ≡ early D R
       unfolding early
       by_none h = rw (sym s, sym f, sym e, sym h)
 
 -- ---- what they promise
 
-passes : (s : ℕ) (b c : Bool) → 0 ≡ refuse (not (eqb s 0)) s (refuse b 6 (refuse c 7 0)) → (0 ≡ s) × (c ≡ false)
-passes zero true c h = absurd (omega (arith, h))
-passes zero false true h = absurd (omega (arith, h))
-passes zero false false h = (refl, refl)
-passes (suc s) b c h =
-    let n : eqb (suc s) 0 ≡ false = ne_eqb (suc s) 0 (λ e. omega (arith, e)) in
-    absurd (omega (arith, h ∙ ap (λ (x : Bool). refuse (not x) (suc s) (refuse b 6 (refuse c 7 0))) n))
+passes : (s : Option Refusal) (b c : Bool) → None ≡ option_or s (refuse b (Some Refusals.TooFar) (refuse c (Some Refusals.ListTooShort) None)) → (None ≡ s) × (c ≡ false)
+passes (Some r) b c h = cc
+passes None true c h = cc
+passes None false true h = cc
+passes None false false h = (refl, refl)
 
 long_enough : (n have : ℕ) → index_length n ≤ have → n ≤ have
 long_enough n have h = omega (arith, h, index_least n)
@@ -67,7 +68,7 @@ pub record Passed (D : Drawn) (R : Room) : Type 0 where
   pub points : 2 * length D.station ≤ R.points
   pub path : 2 * length D.station ≤ R.path
 
-pub passed_of : (D : Drawn) (R : Room) → 0 ≡ early D R → Passed D R
+pub passed_of : (D : Drawn) (R : Room) → None ≡ early D R → Passed D R
 unfolding early too_short
 passed_of D R h =
     let z = passes (shape D R) (too_far (length D.station) D.xy) (short D R) h in

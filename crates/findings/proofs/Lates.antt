@@ -2,12 +2,15 @@
 use mathlib.Core.Path.{◌≡◌, refl, sym, ap, ◌∙◌}
 use mathlib.Core.Bool.{Bool, true, false, ◌&&◌, true≢false}
 use mathlib.Core.List.{List}
-use Prim.Native.Nat.{ℕ, zero, suc, ◌*◌}
+use Prim.Native.Nat.{ℕ, ◌*◌}
 use lib.Dec.{eqb}
 use lib.IntN.{ℤ}
 use lib.ListN.{length}
 use lib.Ieee.{Float}
 use borrow.Author.Tests.{eqb-true}
+use Rattle.std.specs.Prelude.{Some, None, Ok, Err}
+use Rattle.refusals.specs.declared.Refusal.{Refusal}
+use Rattle.refusals.specs.declared.Refusal.TheVariants as Refusals
 use Rattle.network.specs.Words.{station_count, bus_counts, occupied}
 use Rattle.network.specs.Views.{counts_in, boxes_in}
 use Rattle.runs.specs.Lists.{after}
@@ -16,14 +19,12 @@ use Rattle.fit.specs.Scale.{ill_drawn}
 use Rattle.fit.proofs.Testing.{all_finite}
 use Rattle.overlaps.specs.Stages.Sweep.{Finite}
 use Rattle.findings.specs.declared.answer.Figures.{Figures}
-use Rattle.findings.specs.declared.answer.Audit.TheVariants.{Audited, Refused}
 use Rattle.findings.specs.Drawn.{Drawn, Lists}
-use Rattle.findings.proofs.Lent.{lists}
-use Rattle.findings.specs.Answer.{boxes_of, stations_of, late_by, late, figures_of, lists_of, lists_after, answer_by, Inner, Figured}
+use Rattle.findings.specs.Answer.{boxes_of, stations_of, late_by, late, lists_after, Inner, Figured}
 
 -- ---- by the tests
 module _ (D : Drawn) (b : Bool) (e : b ≡ fits D.station D.from D.to D.boxes D.roles D.pieces D.branches) where
-  pub late_unfit : b ≡ false → 13 ≡ late D
+  pub late_unfit : b ≡ false → Some Refusals.NoFit ≡ late D
   unfolding late late_by
   late_unfit h = rw (sym e, h)
 
@@ -33,11 +34,11 @@ module _ (D : Drawn) (b : Bool) (e : b ≡ fits D.station D.from D.to D.boxes D.
     unfolding boxes_of stations_of
     here = q ∙ ap (λ (x : List ℕ). ill_drawn (boxes_in k D.boxes) (occupied x) D.pieces) ce ∙ ap (λ (x : ℕ). ill_drawn (boxes_in x D.boxes) (stations_of D) D.pieces) ke
 
-    pub late_ill : i ≡ true → 8 ≡ late D
+    pub late_ill : i ≡ true → Some Refusals.IllSized ≡ late D
     unfolding late late_by
     late_ill h = rw (sym e, t, sym here, h)
 
-    pub late_none : i ≡ false → 0 ≡ late D
+    pub late_none : i ≡ false → None ≡ late D
     unfolding late late_by
     late_none h = rw (sym e, t, sym here, h)
 
@@ -75,27 +76,9 @@ module _ (sub : List ℕ) (from to : List ℤ) (boxes : List Float) (roles : Lis
 
 -- ---- answers and lists
 module _ (D : Drawn) (L : Lists) where
-  kept : (r : ℕ) → (r ≡ 0 → ⊥) → L ≡ lists_after r (lists_of D) L
+  pub inner_refused : (r : Refusal) → Some r ≡ late D → Inner D L (Err r) L
   unfolding lists_after after
-  kept zero h = absurd (h refl)
-  kept (suc r) h = refl
+  inner_refused r e = record { answer = rw (sym e); lists = rw (sym e) }
 
-  answered : (r : ℕ) → (r ≡ 0 → ⊥) → Refused r ≡ answer_by r (figures_of D)
-  unfolding answer_by
-  answered zero h = absurd (h refl)
-  answered (suc r) h = refl
-
-  pub inner_refused : (r : ℕ) → (r ≡ 0 → ⊥) → r ≡ late D → Inner D L (Refused r) L
-  inner_refused r h e =
-      record { answer = answered r h ∙ ap (λ (x : ℕ). answer_by x (figures_of D)) e; lists = kept r h ∙ ap (λ (x : ℕ). lists_after x (lists_of D) L) e }
-
-  named : (f : Figures) → f ≡ figures_of D → Audited f ≡ answer_by 0 (figures_of D)
-  unfolding answer_by
-  named f e = ap Audited e
-
-  pub inner_figured : (f : Figures) (L' : Lists) → 0 ≡ late D → Figured D L f L' → Inner D L (Audited f) L'
-  inner_figured f L' e g =
-      record {
-        answer = named f g.figures ∙ ap (λ (x : ℕ). answer_by x (figures_of D)) e;
-        lists = g.lists ∙ ap (λ (x : ℕ). lists_after x (lists_of D) L) e;
-      }
+  pub inner_figured : (f : Figures) (L' : Lists) → None ≡ late D → Figured D L f L' → Inner D L (Ok f) L'
+  inner_figured f L' e g = record { answer = rw (sym e) (ap Ok g.figures); lists = rw (sym e) g.lists }

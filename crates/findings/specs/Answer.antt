@@ -1,11 +1,14 @@
 -- Answers of an audit: what it returns, and what each lent list holds after it. Definitions only.
-use Rattle.std.specs.Prelude.{ℕ, zero, suc, ◌*◌, ◌≡◌, Bool, not, ◌||◌, List, eqb, ltb, length, replicate}
+use Rattle.std.specs.Prelude.{ℕ, ◌*◌, ◌≡◌, Bool, not, ◌||◌, List, ltb, length, replicate, Option, Some, None, Result, Err}
+use Rattle.std.specs.Option.{option_or}
 use Rattle.float.specs.Ops.{f0}
 use Rattle.geometry.specs.declared.Box.{Box}
 use Rattle.network.specs.Words.{station_count, bus_counts, occupied}
 use Rattle.seeds.specs.Seed.{seeds}
 use Rattle.network.specs.Views.{boxes_in}
-use Rattle.refusals.specs.Refusal.{refuse, too_many, kv_unlike, to_unlike, number_too_high, stray_voltage, shape_refusal, too_far}
+use Rattle.refusals.specs.declared.Refusal.{Refusal}
+use Rattle.refusals.specs.declared.Refusal.TheVariants as Refusals
+use Rattle.refusals.specs.Refusal.{refuse, unless, number_of, too_many, kv_unlike, to_unlike, number_too_high, stray_voltage, shape_refusal, too_far}
 use Rattle.box_cells.specs.Length.{index_length}
 use Rattle.runs.specs.Lists.{after}
 use Rattle.fit.specs.Fit.{fits}
@@ -15,15 +18,8 @@ use Rattle.overlaps.specs.Overlaps.{overlaps}
 use Rattle.stretches.specs.Relative.{relatives}
 use Rattle.findings.specs.declared.room.Room.{Room}
 use Rattle.findings.specs.declared.answer.Figures.{Figures}
-use Rattle.findings.specs.declared.answer.Audit.{Audit}
-use Rattle.findings.specs.declared.answer.Audit.TheVariants.{Audited, Refused}
 use Rattle.through.specs.Through.{through}
 use Rattle.findings.specs.Drawn.{Drawn, Lists, Work, room_of}
-
--- 01's number of an answer
-unfoldable pub number_of : Audit → ℕ
-number_of (Audited f) = 0
-number_of (Refused r) = r
 
 -- ---- refusals
 
@@ -33,13 +29,12 @@ too_short n k p R =
     ltb R.displacement k || (ltb R.spacing k || (ltb R.relative p
     || (ltb R.stations (2 * n) || (ltb R.spare n || (ltb R.keys n || (ltb R.points (2 * n) || (ltb R.path (2 * n) || ltb R.index (index_length n))))))))
 
--- 1 to 4, 15, 6 and 7, 0 where none applies
-unfoldable pub early : Drawn → Room → ℕ
+-- 1 to 4, 15, 6 and 7, none where none applies
+unfoldable pub early : Drawn → Room → Option Refusal
 early D R =
-    let shape = shape_refusal D.station D.kv D.from D.to in
-    refuse (not (eqb shape 0)) shape
-    (refuse (too_far (length D.station) D.xy) 6
-    (refuse (too_short (length D.station) (station_count D.station) (length D.branches) R) 7 0))
+    option_or (shape_refusal D.station D.kv D.from D.to)
+    (refuse (too_far (length D.station) D.xy) (Some Refusals.TooFar)
+    (refuse (too_short (length D.station) (station_count D.station) (length D.branches) R) (Some Refusals.ListTooShort) None))
 
 -- the stations' boxes, and the occupied stations
 unfoldable pub boxes_of : Drawn → List Box
@@ -49,10 +44,10 @@ unfoldable pub stations_of : Drawn → List ℕ
 stations_of D = occupied (bus_counts D.station)
 
 -- 13, then 8, by whether the drawing fits and whether it is ill sized
-unfoldable pub late_by : Bool → Bool → ℕ
-late_by fit ill = refuse (not fit) 13 (refuse ill 8 0)
+unfoldable pub late_by : Bool → Bool → Option Refusal
+late_by fit ill = refuse (not fit) (Some Refusals.NoFit) (refuse ill (Some Refusals.IllSized) None)
 
-unfoldable pub late : Drawn → ℕ
+unfoldable pub late : Drawn → Option Refusal
 late D =
     late_by (fits D.station D.from D.to D.boxes D.roles D.pieces D.branches) (ill_drawn (boxes_of D) (stations_of D) D.pieces)
 
@@ -92,15 +87,15 @@ figures_of D =
 -- ---- the whole of a call: its answer, and the lists after it
 
 pub record Call : Type 0 where
-  pub answer : Audit
+  pub answer : Result Figures Refusal
   pub lists : Lists
   pub work : Work
 
-abbrev pub call : Audit → Lists → Work → Call
+abbrev pub call : Result Figures Refusal → Lists → Work → Call
 call a l w = record { answer = a; lists = l; work = w }
 
 -- A refusal changes no result list; result elements past the figures keep their old content.
-unfoldable pub lists_after : ℕ → Lists → Lists → Lists
+unfoldable pub lists_after : Option Refusal → Lists → Lists → Lists
 lists_after r F L = record {
   displacement = after r F.displacement L.displacement;
   spacing = after r F.spacing L.spacing;
@@ -119,18 +114,14 @@ cleared W =
       path = replicate (length W.path) f0;
     }
 
-unfoldable pub answer_by : ℕ → Figures → Audit
-answer_by zero f = Audited f
-answer_by (suc r) f = Refused (suc r)
-
 -- where the input has passed, by the late refusal
-unfoldable pub call_late : ℕ → Drawn → Lists → Work → Call
-call_late r D L W = call (answer_by r (figures_of D)) (lists_after r (lists_of D) L) (cleared W)
+unfoldable pub call_late : Option Refusal → Drawn → Lists → Work → Call
+call_late r D L W = call (unless r (figures_of D)) (lists_after r (lists_of D) L) (cleared W)
 
 -- by the early refusal: 1 to 7 and 15 leave every list unchanged
-unfoldable pub call_early : ℕ → Drawn → Lists → Work → Call
-call_early zero D L W = call_late (late D) D L W
-call_early (suc r) D L W = call (Refused (suc r)) L W
+unfoldable pub call_early : Option Refusal → Drawn → Lists → Work → Call
+call_early None D L W = call_late (late D) D L W
+call_early (Some r) D L W = call (Err r) L W
 
 unfoldable pub audit_of : Drawn → Lists → Work → Call
 audit_of D L W = call_early (early D (room_of L W)) D L W
@@ -143,11 +134,11 @@ pub record Answered (D : Drawn) (L : Lists) (W : Work) (C : Call) : Type 0 where
 -- ---- between the stages
 
 -- the answer and the result lists
-pub record Inner (D : Drawn) (L : Lists) (a : Audit) (L' : Lists) : Type 0 where
-  pub answer : a ≡ answer_by (late D) (figures_of D)
+pub record Inner (D : Drawn) (L : Lists) (a : Result Figures Refusal) (L' : Lists) : Type 0 where
+  pub answer : a ≡ unless (late D) (figures_of D)
   pub lists : L' ≡ lists_after (late D) (lists_of D) L
 
 -- the figures of a drawing that isn't refused
 pub record Figured (D : Drawn) (L : Lists) (f : Figures) (L' : Lists) : Type 0 where
   pub figures : f ≡ figures_of D
-  pub lists : L' ≡ lists_after 0 (lists_of D) L
+  pub lists : L' ≡ lists_after None (lists_of D) L

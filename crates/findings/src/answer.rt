@@ -8,10 +8,3 @@ pub struct Figures {
     pub through: usize,
     pub relative: usize,
 }
-
-// Audited, or refused with 01's number.
-#[derive(Clone, Copy)]
-pub enum Audit {
-    Audited(Figures),
-    Refused(u32),
-}

@@ -1,30 +1,22 @@
-// A charted drawing judged: its bounds, number of pieces and late refusal.
+// A charted drawing judged: its plot, or refusal 11.
 ghost use Rattle.std.specs.Prelude.{◌≡◌, ◌*◌, ◌≤◌, ltb, length};
 ghost use Rattle.network.specs.Words.{occupied};
 ghost use Rattle.network.specs.Views.{counts_in, boxes_in};
 ghost use Rattle.grid.specs.Stages.Cells.{Indexed};
 ghost use Rattle.drawing.specs.Network.{network};
-ghost use Rattle.drawing.specs.Answer.{crossing_room};
+ghost use Rattle.drawing.specs.Drawing.{drawing};
+ghost use Rattle.drawing.specs.Answer.{crossing_room, late, answer_for};
 ghost use Rattle.chart.specs.Stages.Charted.{Charted};
-ghost use Rattle.finish.specs.Stages.Draft.{Judged};
 
-use chart::Course;
 use crossings::gap::gap_of;
-use drawing::late::late_of;
+use drawing::answer::Plot;
+use drawing::late::check_pieces;
 use drawing::room::Room;
-use geometry::Box;
 use measures::Measures;
 use options::Options;
+use refusals::Refusal;
 use results::bounds::bounds_of;
 use survey::survey;
-
-// What a drawing answers beside its lists, and its late refusal, 0 for none.
-#[derive(Clone, Copy)]
-pub struct Draft {
-    pub bounds: Box,
-    pub pieces: usize,
-    pub late: u32,
-}
 
 // Whether lines are led: there are iterations.
 pub(crate) fn is_led(o: Options) -> bool
@@ -33,7 +25,7 @@ pub(crate) fn is_led(o: Options) -> bool
     0 < o.route_iterations
 }
 
-// Judges the drawing that the work lists hold, which nothing refuses so far, with lists of these lengths; `sorted` holds the tree of its boxes.
+// Judges the drawing of this unit that the work lists hold, which nothing refuses so far, with lists of these lengths; `sorted` holds the tree of its boxes.
 pub(crate) fn judge(
     o: Options,
     sub: &[u32],
@@ -46,7 +38,7 @@ pub(crate) fn judge(
     twins: &[u32],
     k: usize,
     room: Room,
-    c: Course,
+    unit: f64,
     stations: &[u32],
     buses: &[u32],
     ends: &[u32],
@@ -56,14 +48,12 @@ pub(crate) fn judge(
     frames: &[f64],
     path: &mut [f64],
     ways: &[f64],
-) -> Draft
+) -> Result<Plot, Refusal>
     requires sub_len_bound { (length sub.now ≤ 4096) × (length from.now ≤ 8192) × (k ≤ 4096) × (2 * k ≤ length stations.now) × (4 * k ≤ length frames.now) × (3 * k ≤ length blocks.now) }
-    requires charted { Charted o (network sub.now kv.now from.now to.now service.now xy.now corners.now twins.now) k (crossing_room room) c.unit c.late stations.now buses.now ends.now blocks.now places.now frames.now path.old ways.now }
+    requires charted { Charted o (network sub.now kv.now from.now to.now service.now xy.now corners.now twins.now) k (crossing_room room) (Ok unit) stations.now buses.now ends.now blocks.now places.now frames.now path.old ways.now }
     requires indexed { Indexed (boxes_in k frames.now) (occupied (counts_in k stations.now)) sorted.now }
-    requires late_value { c.late ≡ 0 }
-    ensures { Judged o (network sub.now kv.now from.now to.now service.now xy.now corners.now twins.now) room c.unit result.bounds result.pieces result.late }
+    ensures { result ≡ answer_for (late (drawing o (network sub.now kv.now from.now to.now service.now xy.now corners.now twins.now)) room) (drawing o (network sub.now kv.now from.now to.now service.now xy.now corners.now twins.now)) }
 {
-    let unit = c.unit;
     let gaps = o.gaps;
     let measures = Measures { unit, gaps };
     let led = is_led(o);
@@ -87,10 +77,10 @@ pub(crate) fn judge(
         path,
     );
     let bounds = bounds_of(k, stations, frames);
-    let late = late_of(0, pieces, room.pieces, room.branches);
-    Draft {
+    check_pieces(pieces, room.pieces, room.branches)?;
+    Ok(Plot {
+        unit,
         bounds,
         pieces,
-        late,
-    }
+    })
 }

@@ -14,18 +14,17 @@ ghost use Rattle.chart.specs.Stages.Charted.{Charted};
 ghost use Rattle.finish.specs.Stages.Draft.{Drew};
 
 use crate::draft::{is_led, judge};
-use chart::Course;
 use crossings::gap::gap_of;
-use drawing::answer::Answer;
-use drawing::answers::answer_of;
+use drawing::answer::Plot;
 use drawing::room::Room;
 use measures::Measures;
 use options::Options;
+use refusals::Refusal;
 use results::buses::write_buses;
 use results::lists::{write_roles, write_stations};
 use survey::write_pieces;
 
-// Judges a drawing that nothing refuses so far, and writes it where nothing does.
+// Judges a drawing of this unit that nothing refuses so far, and writes it where nothing does.
 fn write(
     o: Options,
     sub: &[u32],
@@ -38,7 +37,7 @@ fn write(
     twins: &[u32],
     k: usize,
     room: Room,
-    c: Course,
+    unit: f64,
     stations: &[u32],
     buses: &[u32],
     ends: &[u32],
@@ -55,28 +54,23 @@ fn write(
     roles: &mut [u8],
     pieces: &mut [f64],
     branches: &mut [u32],
-) -> Answer
+) -> Result<Plot, Refusal>
     requires sub_len_bound { (length sub.now ≤ 4096) × (length from.now ≤ 8192) × (k ≤ 4096) × (2 * k ≤ length stations.now) × (4 * k ≤ length frames.now) × (3 * k ≤ length blocks.now) }
     requires sub_in_bounds { (2 * length sub.now ≤ length positions.old) × (4 * length sub.now ≤ length bars.old) × (4 * k ≤ length boxes.old) × (k ≤ length scales.old) × (length from.now ≤ length roles.old) × (room.pieces ≡ length pieces.old) × (room.branches ≡ length branches.old) }
-    requires charted { Charted o (network sub.now kv.now from.now to.now service.now xy.now corners.now twins.now) k (crossing_room room) c.unit c.late stations.now buses.now ends.now blocks.now places.now frames.now path.old ways.now }
+    requires charted { Charted o (network sub.now kv.now from.now to.now service.now xy.now corners.now twins.now) k (crossing_room room) (Ok unit) stations.now buses.now ends.now blocks.now places.now frames.now path.old ways.now }
     requires indexed { Indexed (boxes_in k frames.now) (occupied (counts_in k stations.now)) sorted.now }
-    requires late_value { c.late ≡ 0 }
     ensures { Drew o (network sub.now kv.now from.now to.now service.now xy.now corners.now twins.now) (late (drawing o (network sub.now kv.now from.now to.now service.now xy.now corners.now twins.now)) room) (record { positions = positions.old; bars = bars.old; boxes = boxes.old; scales = scales.old; roles = roles.old; pieces = pieces.old; branches = branches.old }) result (record { positions = positions.new; bars = bars.new; boxes = boxes.new; scales = scales.new; roles = roles.new; pieces = pieces.new; branches = branches.new }) }
 {
-    let unit = c.unit;
     let gaps = o.gaps;
     let measures = Measures { unit, gaps };
-    let d = judge(
-        o, sub, kv, from, to, service, xy, corners, twins, k, room, c, stations, buses, ends,
+    let plot = judge(
+        o, sub, kv, from, to, service, xy, corners, twins, k, room, unit, stations, buses, ends,
         sorted, blocks, places, frames, path, ways,
-    );
-    write_buses(
-        d.late, sub, measures, buses, blocks, frames, positions, bars,
-    );
-    write_stations(d.late, k, frames, blocks, boxes, scales);
-    write_roles(d.late, sub, from, to, service, roles);
+    )?;
+    write_buses(sub, measures, buses, blocks, frames, positions, bars);
+    write_stations(k, frames, blocks, boxes, scales);
+    write_roles(sub, from, to, service, roles);
     write_pieces(
-        d.late,
         sub,
         from,
         to,
@@ -97,7 +91,7 @@ fn write(
         pieces,
         branches,
     );
-    answer_of(d.late, unit, d.bounds, d.pieces)
+    Ok(plot)
 }
 
 // Writes a charted drawing where nothing refuses it.
@@ -113,7 +107,7 @@ pub fn finish(
     twins: &[u32],
     k: usize,
     room: Room,
-    c: Course,
+    course: Result<f64, Refusal>,
     stations: &[u32],
     buses: &[u32],
     ends: &[u32],
@@ -130,18 +124,16 @@ pub fn finish(
     roles: &mut [u8],
     pieces: &mut [f64],
     branches: &mut [u32],
-) -> Answer
+) -> Result<Plot, Refusal>
     requires sub_len_bound { (length sub.now ≤ 4096) × (length from.now ≤ 8192) × (k ≤ 4096) × (2 * k ≤ length stations.now) × (4 * k ≤ length frames.now) × (3 * k ≤ length blocks.now) }
     requires sub_in_bounds { (2 * length sub.now ≤ length positions.old) × (4 * length sub.now ≤ length bars.old) × (4 * k ≤ length boxes.old) × (k ≤ length scales.old) × (length from.now ≤ length roles.old) × (room.pieces ≡ length pieces.old) × (room.branches ≡ length branches.old) }
-    requires charted { Charted o (network sub.now kv.now from.now to.now service.now xy.now corners.now twins.now) k (crossing_room room) c.unit c.late stations.now buses.now ends.now blocks.now places.now frames.now path.old ways.now }
+    requires charted { Charted o (network sub.now kv.now from.now to.now service.now xy.now corners.now twins.now) k (crossing_room room) course stations.now buses.now ends.now blocks.now places.now frames.now path.old ways.now }
     requires indexed { Indexed (boxes_in k frames.now) (occupied (counts_in k stations.now)) sorted.now }
     ensures { Drew o (network sub.now kv.now from.now to.now service.now xy.now corners.now twins.now) (late (drawing o (network sub.now kv.now from.now to.now service.now xy.now corners.now twins.now)) room) (record { positions = positions.old; bars = bars.old; boxes = boxes.old; scales = scales.old; roles = roles.old; pieces = pieces.old; branches = branches.old }) result (record { positions = positions.new; bars = bars.new; boxes = boxes.new; scales = scales.new; roles = roles.new; pieces = pieces.new; branches = branches.new }) }
 {
-    if c.late != 0 {
-        return Answer::Refused(c.late);
-    }
+    let unit = course?;
     write(
-        o, sub, kv, from, to, service, xy, corners, twins, k, room, c, stations, buses, ends,
+        o, sub, kv, from, to, service, xy, corners, twins, k, room, unit, stations, buses, ends,
         sorted, blocks, places, frames, path, ways, positions, bars, boxes, scales, roles, pieces,
         branches,
     )

@@ -13,14 +13,11 @@ use Rattle.order.specs.Order.{pick, insert_by, sort_by}
 use Rattle.order.specs.Table.{table_from}
 use Rattle.geometry.specs.declared.Point.{Point}
 use Rattle.geometry.specs.declared.Box.{Box}
-use Rattle.geometry.specs.declared.entry.Entry.{Entry}
-use Rattle.geometry.specs.declared.entry.Entry.TheVariants.{Missed, Place}
+use Rattle.std.specs.Prelude.{Option, Some, None}
 use Rattle.geometry.specs.Clip.{hits}
 use Rattle.geometry.specs.Entry.{enters, place_of}
 use Rattle.geometry.proofs.Entries.{enters_place, place_plus}
 use Rattle.geometry.specs.Plane.{box_in}
-use Rattle.first_box.specs.declared.Best.{Best}
-use Rattle.first_box.specs.declared.Best.TheVariants.{Nothing, First}
 use Rattle.first_box.specs.First.{entry_at, comes_first, sooner, look}
 use Rattle.float.proofs.Ordered.{lift, le_left, le_right, float_trans, not_below, below_through, same_le, le_same}
 
@@ -93,56 +90,56 @@ neither t s u r n m h k = go (lt t u) refl (lt u t) refl
         both false e false f = omega (arith, ltb-false s r e, ltb-false r s f)
 
 -- ---- two stations in either order
-unfoldable pub Proper : Entry → Type 0
-Proper Missed = Unit {0}
-Proper (Place t) = T (not (is_nan t))
+unfoldable pub Proper : Option Float → Type 0
+Proper None = Unit {0}
+Proper (Some t) = T (not (is_nan t))
 
 module _ (t : Float) (s : ℕ) (u : Float) (r : ℕ) (n : T (not (is_nan t))) (m : T (not (is_nan u))) (same : s ≡ r → t ≡ u) where
-  two : cond (comes_first t s u r) (First t s) (First u r) ≡ cond (comes_first u r t s) (First u r) (First t s)
+  two : cond {A = Option (Float × ℕ)} (comes_first t s u r) (Some (t, s)) (Some (u, r)) ≡ cond (comes_first u r t s) (Some (u, r)) (Some (t, s))
   two = go (comes_first t s u r) (comes_first u r t s) refl refl
     where
-      go : (a b : Bool) → comes_first t s u r ≡ a → comes_first u r t s ≡ b → cond a (First t s) (First u r) ≡ cond b (First u r) (First t s)
+      go : (a b : Bool) → comes_first t s u r ≡ a → comes_first u r t s ≡ b → cond {A = Option (Float × ℕ)} a (Some (t, s)) (Some (u, r)) ≡ cond b (Some (u, r)) (Some (t, s))
       go true true h k = absurd (never_both t s u r (which_of t s u r h) (which_of u r t s k))
       go true false h k = refl
       go false true h k = refl
       go false false h k = let e : s ≡ r = neither t s u r n m h k in let f : t ≡ u = same e in cc
 
-  three : (v : Float) (w : ℕ) → sooner s (Place t) (sooner r (Place u) (First v w)) ≡ sooner r (Place u) (sooner s (Place t) (First v w))
+  three : (v : Float) (w : ℕ) → sooner s (Some t) (sooner r (Some u) (Some (v, w))) ≡ sooner r (Some u) (sooner s (Some t) (Some (v, w)))
   unfolding sooner
   three v w = go (comes_first t s v w) (comes_first u r v w) refl refl
     where
-      go : (a b : Bool) → comes_first t s v w ≡ a → comes_first u r v w ≡ b → sooner s (Place t) (cond b (First u r) (First v w)) ≡ sooner r (Place u) (cond a (First t s) (First v w))
+      go : (a b : Bool) → comes_first t s v w ≡ a → comes_first u r v w ≡ b → sooner s (Some t) (cond b (Some (u, r)) (Some (v, w))) ≡ sooner r (Some u) (cond a (Some (t, s)) (Some (v, w)))
       go true true h k = two
-      go true false h k = ap (λ (x : Bool). cond x (First t s) (First v w)) h ∙ sym (not-this (comes_first u r t s) refl)
+      go true false h k = ap (λ (x : Bool). cond {A = Option (Float × ℕ)} x (Some (t, s)) (Some (v, w))) h ∙ sym (not-this (comes_first u r t s) refl)
         where
-          not-this : (x : Bool) → comes_first u r t s ≡ x → cond x (First u r) (First t s) ≡ First t s
+          not-this : (x : Bool) → comes_first u r t s ≡ x → cond {A = Option (Float × ℕ)} x (Some (u, r)) (Some (t, s)) ≡ Some (t, s)
           not-this true e = absurd (true≢false (sym (first_of u r v w (which_trans u r t s v w (which_of u r t s e) (which_of t s v w h))) ∙ k))
           not-this false e = refl
-      go false true h k = not-this (comes_first t s u r) refl ∙ sym (ap (λ (x : Bool). cond x (First u r) (First v w)) k)
+      go false true h k = not-this (comes_first t s u r) refl ∙ sym (ap (λ (x : Bool). cond {A = Option (Float × ℕ)} x (Some (u, r)) (Some (v, w))) k)
         where
-          not-this : (x : Bool) → comes_first t s u r ≡ x → cond x (First t s) (First u r) ≡ First u r
+          not-this : (x : Bool) → comes_first t s u r ≡ x → cond {A = Option (Float × ℕ)} x (Some (t, s)) (Some (u, r)) ≡ Some (u, r)
           not-this true e = absurd (true≢false (sym (first_of t s v w (which_trans t s u r v w (which_of t s u r e) (which_of u r v w k))) ∙ h))
           not-this false e = refl
-      go false false h k = ap (λ (x : Bool). cond x (First t s) (First v w)) h ∙ sym (ap (λ (x : Bool). cond x (First u r) (First v w)) k)
+      go false false h k = ap (λ (x : Bool). cond {A = Option (Float × ℕ)} x (Some (t, s)) (Some (v, w))) h ∙ sym (ap (λ (x : Bool). cond {A = Option (Float × ℕ)} x (Some (u, r)) (Some (v, w))) k)
 
-swap : (s r : ℕ) (e f : Entry) → Proper e → Proper f → (s ≡ r → e ≡ f) → (best : Best) → sooner s e (sooner r f best) ≡ sooner r f (sooner s e best)
+swap : (s r : ℕ) (e f : Option Float) → Proper e → Proper f → (s ≡ r → e ≡ f) → (best : Option (Float × ℕ)) → sooner s e (sooner r f best) ≡ sooner r f (sooner s e best)
 unfolding sooner Proper
-swap s r Missed f h k same best = refl
-swap s r (Place t) Missed h k same best = refl
-swap s r (Place t) (Place u) h k same Nothing = two t s u r h k (λ e. placed (same e))
+swap s r None f h k same best = refl
+swap s r (Some t) None h k same best = refl
+swap s r (Some t) (Some u) h k same None = two t s u r h k (λ e. placed (same e))
   where
-    placed : Place t ≡ Place u → t ≡ u
+    placed : Some t ≡ Some u → t ≡ u
     placed e = cc
-swap s r (Place t) (Place u) h k same (First v w) = three t s u r h k (λ e. placed (same e)) v w
+swap s r (Some t) (Some u) h k same (Some (v, w)) = three t s u r h k (λ e. placed (same e)) v w
   where
-    placed : Place t ≡ Place u → t ≡ u
+    placed : Some t ≡ Some u → t ≡ u
     placed e = cc
 
 pub proper_entry : (p q : Point) (b : Box) → Proper (enters p q b)
 unfolding Proper
 proper_entry p q b = subst Proper (sym (enters_place p q b)) (by (hits p q b))
   where
-    by : (x : Bool) → Proper (cond x (Place (place_of p q b)) Missed)
+    by : (x : Bool) → Proper (cond x (Some (place_of p q b)) None)
     by true = plus_number (place_of p q b) (place_plus p q b)
     by false = tt
 
@@ -152,29 +149,29 @@ module _ (boxes : List Box) (p q : Point) (a b : ℕ) where
   unfolding entry_at Proper
   proper_at s = go (eqb s a || eqb s b)
     where
-      go : (x : Bool) → Proper (cond x Missed (enters p q (box_in boxes s)))
+      go : (x : Bool) → Proper (cond x None (enters p q (box_in boxes s)))
       go true = tt
       go false = proper_entry p q (box_in boxes s)
 
-  pub swap_at : (s r : ℕ) (best : Best) → sooner s (entry_at boxes p q a b s) (sooner r (entry_at boxes p q a b r) best) ≡ sooner r (entry_at boxes p q a b r) (sooner s (entry_at boxes p q a b s) best)
+  pub swap_at : (s r : ℕ) (best : Option (Float × ℕ)) → sooner s (entry_at boxes p q a b s) (sooner r (entry_at boxes p q a b r) best) ≡ sooner r (entry_at boxes p q a b r) (sooner s (entry_at boxes p q a b s) best)
   swap_at s r best = swap s r (entry_at boxes p q a b s) (entry_at boxes p q a b r) (proper_at s) (proper_at r) (ap (entry_at boxes p q a b)) best
 
-  pub look_append : (xs ys : List ℕ) (best : Best) → look boxes p q a b (xs ++ ys) best ≡ look boxes p q a b ys (look boxes p q a b xs best)
+  pub look_append : (xs ys : List ℕ) (best : Option (Float × ℕ)) → look boxes p q a b (xs ++ ys) best ≡ look boxes p q a b ys (look boxes p q a b xs best)
   unfolding look
   look_append [] ys best = refl
   look_append (x ∷ xs) ys best = look_append xs ys (sooner x (entry_at boxes p q a b x) best)
 
-  pub look_past : (s : ℕ) (xs : List ℕ) (best : Best) → look boxes p q a b xs (sooner s (entry_at boxes p q a b s) best) ≡ sooner s (entry_at boxes p q a b s) (look boxes p q a b xs best)
+  pub look_past : (s : ℕ) (xs : List ℕ) (best : Option (Float × ℕ)) → look boxes p q a b xs (sooner s (entry_at boxes p q a b s) best) ≡ sooner s (entry_at boxes p q a b s) (look boxes p q a b xs best)
   unfolding look
   look_past s [] best = refl
   look_past s (x ∷ xs) best = ap (look boxes p q a b xs) (swap_at x s best) ∙ look_past s xs (sooner x (entry_at boxes p q a b x) best)
 
-  pub look_swap : (xs ys : List ℕ) (best : Best) → look boxes p q a b ys (look boxes p q a b xs best) ≡ look boxes p q a b xs (look boxes p q a b ys best)
+  pub look_swap : (xs ys : List ℕ) (best : Option (Float × ℕ)) → look boxes p q a b ys (look boxes p q a b xs best) ≡ look boxes p q a b xs (look boxes p q a b ys best)
   unfolding look
   look_swap [] ys best = refl
   look_swap (x ∷ xs) ys best = look_swap xs ys (sooner x (entry_at boxes p q a b x) best) ∙ ap (look boxes p q a b xs) (look_past x ys best)
 
-  look_insert : (key : ℕ → ℕ) (x : ℕ) (l : List ℕ) (best : Best) → look boxes p q a b (insert_by key x l) best ≡ look boxes p q a b (x ∷ l) best
+  look_insert : (key : ℕ → ℕ) (x : ℕ) (l : List ℕ) (best : Option (Float × ℕ)) → look boxes p q a b (insert_by key x l) best ≡ look boxes p q a b (x ∷ l) best
   unfolding insert_by look
   look_insert key x [] best = refl
   look_insert key x (y ∷ ys) best = go (leb (key x) (key y)) (look_insert key x ys (sooner y (entry_at boxes p q a b y) best))
@@ -184,13 +181,13 @@ module _ (boxes : List Box) (p q : Point) (a b : ℕ) where
       go false h = h ∙ ap (look boxes p q a b ys) (swap_at x y best)
 
   -- the stations sorted by any key
-  pub look_sort : (key : ℕ → ℕ) (l : List ℕ) (best : Best) → look boxes p q a b (sort_by key l) best ≡ look boxes p q a b l best
+  pub look_sort : (key : ℕ → ℕ) (l : List ℕ) (best : Option (Float × ℕ)) → look boxes p q a b (sort_by key l) best ≡ look boxes p q a b l best
   unfolding sort_by look
   look_sort key [] best = refl
   look_sort key (x ∷ xs) best = look_insert key x (sort_by key xs) best ∙ look_sort key xs (sooner x (entry_at boxes p q a b x) best)
 
   -- stations none of which comes before the best leave it
-  pub look_none : (f : ℕ → ℕ) (lo n : ℕ) (best : Best) → ((i : ℕ) → lo ≤ i → i < lo + n → sooner (f i) (entry_at boxes p q a b (f i)) best ≡ best) → look boxes p q a b (table_from f lo n) best ≡ best
+  pub look_none : (f : ℕ → ℕ) (lo n : ℕ) (best : Option (Float × ℕ)) → ((i : ℕ) → lo ≤ i → i < lo + n → sooner (f i) (entry_at boxes p q a b (f i)) best ≡ best) → look boxes p q a b (table_from f lo n) best ≡ best
   unfolding table_from look
   look_none f lo zero best h = refl
   look_none f lo (suc n) best h = ap (look boxes p q a b (table_from f (suc lo) n)) (h lo (omega arith) (omega arith)) ∙ look_none f (suc lo) n best (λ i x y. h i (omega arith) (omega arith))

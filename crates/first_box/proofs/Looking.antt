@@ -12,8 +12,7 @@ use Rattle.network.specs.Views.{counts_in, boxes_in}
 use Rattle.network.proofs.Views.{length_boxes}
 use Rattle.geometry.specs.Plane.{no_box, box_in}
 use Rattle.network.proofs.Rest.{onward, onward_start, onward_yes, onward_no, onward_end}
-use Rattle.first_box.specs.declared.Best.{Best}
-use Rattle.first_box.specs.declared.Best.TheVariants.{Nothing}
+use Rattle.std.specs.Prelude.{Option, None}
 use Rattle.first_box.specs.First.{entry_at, sooner, look}
 
 pub box_past : (k s : ℕ) (fs : List Float) → k ≤ s → box_in (boxes_in k fs) s ≡ no_box
@@ -24,19 +23,21 @@ module _ (k : ℕ) (st : List ℕ) (fs : List Float) (p q : Point) (a b : ℕ) w
   abbrev bs : List Box
   bs = boxes_in k fs
 
-  abbrev pub Scanned : ℕ → Best → Type 0
-  Scanned s best = look bs p q a b (onward k st s) best ≡ look bs p q a b (occupied (counts_in k st)) Nothing
+  abbrev pub Scanned : ℕ → Option (Float × ℕ) → Type 0
+  Scanned s best = look bs p q a b (onward k st s) best ≡ look bs p q a b (occupied (counts_in k st)) None
 
-  pub scanned_start : Scanned 0 Nothing
-  scanned_start = ap (λ (l : List ℕ). look bs p q a b l Nothing) (onward_start k st)
+  pub scanned_start : Scanned 0 None
+  scanned_start = ap (λ (l : List ℕ). look bs p q a b l None) (onward_start k st)
 
-  pub scanned_yes : (s : ℕ) (best next : Best) → s < k → 0 < get_or st (2 * s) 0 → next ≡ sooner s (entry_at bs p q a b s) best → Scanned s best → Scanned (s + 1) next
+  pub scanned_yes : (s : ℕ) (best next : Option (Float × ℕ)) → s < k → 0 < get_or st (2 * s) 0 → next ≡ sooner s (entry_at bs p q a b s) best → Scanned s best → Scanned (s + 1) next
   unfolding look
   scanned_yes s best next h o e i = ap (look bs p q a b (onward k st (s + 1))) e ∙ sym (ap (λ (l : List ℕ). look bs p q a b l best) (onward_yes k st s h o)) ∙ i
 
-  pub scanned_no : (s : ℕ) (best : Best) → s < k → get_or st (2 * s) 0 ≤ 0 → Scanned s best → Scanned (s + 1) best
+  pub scanned_no : (s : ℕ) (best : Option (Float × ℕ)) → s < k → get_or st (2 * s) 0 ≤ 0 → Scanned s best → Scanned (s + 1) best
   scanned_no s best h o i = sym (ap (λ (l : List ℕ). look bs p q a b l best) (onward_no k st s h o)) ∙ i
 
-  pub scanned_end : (s : ℕ) (best : Best) → k ≤ s → Scanned s best → best ≡ look bs p q a b (occupied (counts_in k st)) Nothing
+  pub scanned_end : (s : ℕ) (best : Option (Float × ℕ)) → k ≤ s → Scanned s best → best ≡ look bs p q a b (occupied (counts_in k st)) None
   unfolding look
   scanned_end s best h i = sym (ap (λ (l : List ℕ). look bs p q a b l best) (onward_end k st s h)) ∙ i
+
+pub ruleset scanned = (scanned_start, scanned_yes, scanned_no, scanned_end)

@@ -1,23 +1,21 @@
 -- The box entered first, which antt computes: a wide box before a narrow one whose middle is nearer, and a tie. Floats stand by their bits.
-use Rattle.std.specs.Prelude.{◌≡◌, refl, ℕ, List, [], ◌∷◌, map}
+use Rattle.std.specs.Prelude.{◌≡◌, refl, ℕ, List, [], ◌∷◌, map, Option, Some, None}
 use Rattle.std.specs.Float.{binary64}
 use Rattle.std.specs.Float.Ieee.{of_bits, lt, eq, neg, sub, div}
 use Rattle.float.specs.Small.{max_of, min_of}
 use Rattle.order.specs.Table.{table_from}
 use Rattle.geometry.specs.Plane.{point}
 use Rattle.geometry.specs.Clip.{part, cut, clip_by, clipped}
-use Rattle.geometry.specs.Entry.{entry_of, enters}
+use Rattle.geometry.specs.Entry.{enters}
 use Rattle.network.specs.Views.{boxes_in}
-use Rattle.first_box.specs.declared.FirstHit.{FirstHit}
-use Rattle.first_box.specs.declared.FirstHit.TheVariants.{Free, At}
-use Rattle.first_box.specs.First.{entry_at, comes_first, sooner, look, found, first_hit}
+use Rattle.first_box.specs.First.{entry_at, comes_first, sooner, look, first_hit}
 
 -- no station: none is passed over
 abbrev none : ℕ
 none = 4294967295
 
 -- the piece (0, 0.5) to (10, 0.5) among two boxes of these numbers, a's and b's passed over
-abbrev first : ℕ → ℕ → List ℕ → FirstHit
+abbrev first : ℕ → ℕ → List ℕ → Option ℕ
 first a b l =
     first_hit
     (boxes_in 2 (map (of_bits binary64) l))
@@ -41,6 +39,6 @@ both =
 
 pub worked :
     first none none apart ∷ first 0 none apart ∷ first none 0 apart ∷ first 0 1 apart ∷ first none none both ∷ first 0 none both ∷ first none 0 both ∷ []
-    ≡ At 0 ∷ At 1 ∷ At 1 ∷ Free ∷ At 0 ∷ At 1 ∷ At 1 ∷ []
-unfolding first_hit found look sooner comes_first entry_at enters entry_of clipped clip_by cut part boxes_in table_from of_bits lt eq neg sub div max_of min_of
+    ≡ Some 0 ∷ Some 1 ∷ Some 1 ∷ None ∷ Some 0 ∷ Some 1 ∷ Some 1 ∷ []
+unfolding first_hit look sooner comes_first entry_at enters clipped clip_by cut part boxes_in table_from of_bits lt eq neg sub div max_of min_of
 worked = refl

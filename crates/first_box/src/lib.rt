@@ -1,30 +1,17 @@
 // The box that a piece enters first (02, change 9), by a look at every station.
 #![tactic(auto)]
 
-ghost use Rattle.std.specs.Prelude.{◌≡◌, ◌+◌, ◌*◌, ◌≤◌, ◌<◌, length};
+ghost use Rattle.std.specs.Prelude.{◌≡◌, ◌+◌, ◌*◌, ◌≤◌, ◌<◌, length, None};
 ghost use Rattle.network.specs.Words.{occupied};
 ghost use Rattle.network.specs.Views.{counts_in, boxes_in};
 ghost use Rattle.geometry.specs.Plane.{box_in};
-ghost use Rattle.first_box.specs.First.{entry_at, comes_first, sooner, look, found};
+ghost use Rattle.first_box.specs.First.{entry_at, comes_first, sooner, look};
 
-use geometry::entry::{Entry, enters};
+use geometry::entry::enters;
 use geometry::{Box, Point, box_at};
 
-// The box entered first so far: the place where the piece enters it, and its station.
-#[derive(Clone, Copy)]
-pub enum Best {
-    Nothing,
-    First(f64, usize),
-}
-
-// The station of the box that a piece enters first, or that it enters none.
-#[derive(Clone, Copy)]
-pub enum FirstHit {
-    Free,
-    At(usize),
-}
-
 // Station s's box, zeros past the last.
+#[tactic(auto, using(network::proofs::Views::get_d_boxes, crate::proofs::Looking::box_past))]
 pub fn box_in(k: usize, frames: &[f64], s: usize) -> Box
     requires { 4 * k ≤ length frames.now }
     ensures { result ≡ box_in (boxes_in k frames.now) s }
@@ -41,52 +28,53 @@ pub fn box_in(k: usize, frames: &[f64], s: usize) -> Box
 }
 
 // Where the piece p q enters station s's box; a's and b's are passed over.
-pub fn entry_at(k: usize, frames: &[f64], p: Point, q: Point, a: usize, b: usize, s: usize) -> Entry
+#[tactic(auto, unfolding(crate::specs::First::entry_at))]
+pub fn entry_at(
+    k: usize,
+    frames: &[f64],
+    p: Point,
+    q: Point,
+    a: usize,
+    b: usize,
+    s: usize,
+) -> Option<f64>
     requires { 4 * k ≤ length frames.now }
     ensures { result ≡ entry_at (boxes_in k frames.now) p q a b s }
 {
     if s == a {
-        return Entry::Missed;
+        return None;
     }
     if s == b {
-        return Entry::Missed;
+        return None;
     }
     enters(p, q, box_in(k, frames, s))
 }
 
 // Whether a box entered at t, of station s, comes before one entered at u, of station r.
+#[tactic(auto, unfolding(crate::specs::First::comes_first))]
 pub fn comes_first(t: f64, s: usize, u: f64, r: usize) -> bool
     ensures { result ≡ comes_first t s u r }
 {
-    if t < u {
-        return true;
-    }
-    if t == u {
-        return s < r;
-    }
-    false
+    t < u || t == u && s < r
 }
 
-// The box entered first after one more, of station s.
-pub fn sooner(s: usize, e: Entry, best: Best) -> Best
+// The box entered first after one more, of station s: the place where the piece enters it, and its station.
+pub fn sooner(s: usize, e: Option<f64>, best: Option<(f64, usize)>) -> Option<(f64, usize)>
     ensures { result ≡ sooner s e best }
 {
-    let Entry::Place(t) = e else {
+    let Some(t) = e else {
         return best;
     };
-    match best {
-        Best::Nothing => Best::First(t, s),
-        Best::First(u, r) => {
-            if comes_first(t, s, u, r) {
-                Best::First(t, s)
-            } else {
-                best
-            }
+    if let Some((u, r)) = best {
+        if !comes_first(t, s, u, r) {
+            return best;
         }
     }
+    Some((t, s))
 }
 
 // The box entered first of all occupied stations'.
+#[tactic(auto, using(crate::proofs::Looking::scanned))]
 pub fn scan(
     k: usize,
     stations: &[u32],
@@ -95,29 +83,15 @@ pub fn scan(
     q: Point,
     a: usize,
     b: usize,
-) -> Best
+) -> Option<(f64, usize)>
     requires { (2 * k ≤ length stations.now) × (4 * k ≤ length frames.now) }
-    ensures { result ≡ look (boxes_in k frames.now) p q a b (occupied (counts_in k stations.now)) Best.Nothing }
+    ensures { result ≡ look (boxes_in k frames.now) p q a b (occupied (counts_in k stations.now)) None }
 {
-    let mut best = Best::Nothing;
-    let mut s = 0;
-    while s < k {
+    let mut best = None;
+    for s in 0..k {
         if 0 < stations[2 * s] {
             best = sooner(s, entry_at(k, frames, p, q, a, b, s), best);
-            s += 1;
-        } else {
-            s += 1;
         }
     }
     best
-}
-
-// The station of the box entered first.
-pub fn found(best: Best) -> FirstHit
-    ensures { result ≡ found best }
-{
-    match best {
-        Best::Nothing => FirstHit::Free,
-        Best::First(_, s) => FirstHit::At(s),
-    }
 }

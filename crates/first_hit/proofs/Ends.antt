@@ -5,19 +5,16 @@ use mathlib.Core.Bool.{Bool, true, false, cond}
 use Prim.Native.Nat.{ℕ, ◌*◌, ◌≤◌}
 use native.Mathlib.Nat.{mul-le-mul_left, mul-le-mul_right}
 use native.Mathlib.Omega.{arith}
-use lib.Ieee.{le}
+use lib.Ieee.{Float, le}
 use lib.ListN.{length}
 use Rattle.float.specs.Ops.{f1}
 use Rattle.geometry.specs.declared.Point.{Point}
 use Rattle.geometry.specs.declared.Box.{Box}
-use Rattle.first_box.specs.declared.Best.TheVariants.{Nothing, First}
-use Rattle.first_box.specs.declared.FirstHit.TheVariants.{Free, At}
-use Rattle.first_box.specs.First.{found, first_hit}
+use Rattle.std.specs.Prelude.{Option, Some, None, option_map}
+use Rattle.first_box.specs.First.{first_hit}
 use Rattle.grid.specs.declared.Grid.{Grid}
 use Rattle.grid.specs.Stages.Cells.{grid_in, Sized, Entered}
 use Rattle.first_hit.specs.declared.search.Near.{Near}
-use Rattle.first_hit.specs.declared.search.Search.{Search}
-use Rattle.first_hit.specs.declared.search.Search.TheVariants.{Done}
 use Rattle.first_hit.specs.Stages.Looks.{best_of, hit_of, Sure}
 
 -- ---- the grid
@@ -36,15 +33,15 @@ grid_held boxes stations l g k e many h entered = subst Held (sym e) (held (grid
         (z.columns, z.rows, omega arith, omega arith)
 
 -- ---- the answer
-hit_found : (n : Near) → hit_of n ≡ found (best_of n)
-unfolding hit_of best_of found
+hit_found : (n : Near) → hit_of n ≡ option_map (λ (first : Float × ℕ). first.1) (best_of n)
+unfolding hit_of best_of
 hit_found n = go (le n.place f1)
   where
-    go : (x : Bool) → cond x (At n.station) Free ≡ found (cond x (First n.place n.station) Nothing)
+    go : (x : Bool) → cond x (Some n.station) None ≡ option_map (λ (first : Float × ℕ). first.1) (cond x (Some (n.place, n.station)) None)
     go true = refl
     go false = refl
 
-pub done_hit : (boxes : List Box) (stations l : List ℕ) (p q : Point) (a b : ℕ) (m : Search) (n : Near) → m ≡ Done n → Sure boxes p q a b l m → Entered boxes stations l
+pub done_hit : (boxes : List Box) (stations l : List ℕ) (p q : Point) (a b : ℕ) (m : Option Near) (n : Near) → m ≡ Some n → Sure boxes p q a b l m → Entered boxes stations l
     → hit_of n ≡ first_hit boxes stations p q a b
 unfolding Sure first_hit
-done_hit boxes stations l p q a b m n e s entered = hit_found n ∙ ap found (subst (Sure boxes p q a b l) e s stations entered)
+done_hit boxes stations l p q a b m n e s entered = hit_found n ∙ ap (option_map (λ (first : Float × ℕ). first.1)) (subst (Sure boxes p q a b l) e s stations entered)

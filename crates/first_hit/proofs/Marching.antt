@@ -12,22 +12,18 @@ use Rattle.float.specs.Ops.{f0, f1, f2}
 use Rattle.float.proofs.Keys.{not_both, le_of_lt_float, le_self}
 use Rattle.geometry.specs.declared.Point.{Point}
 use Rattle.geometry.specs.declared.Box.{Box}
-use Rattle.geometry.specs.declared.entry.Entry.{Entry}
-use Rattle.geometry.specs.declared.entry.Entry.TheVariants.{Missed, Place}
+use Rattle.std.specs.Prelude.{Option, Some, None}
 use Rattle.geometry.specs.Entry.{enters}
 use Rattle.geometry.specs.Plane.{box_in}
 use Rattle.windows.specs.Stages.Window.{plain_piece, window_holds, is_apart, Reaches}
 use Rattle.windows.proofs.WindowLaws.{place_low, place_high, window_law, reaches_not_apart}
 use Rattle.float.proofs.Ordered.{lift, fall, le_left, float_trans, below_through}
-use Rattle.first_box.specs.declared.Best.{Best}
-use Rattle.first_box.specs.declared.Best.TheVariants.{Nothing, First}
 use Rattle.first_box.specs.First.{entry_at, comes_first, sooner, look}
 use Rattle.first_box.proofs.Folding.{nearer, which_of, never_both}
 use Rattle.grid.specs.declared.Grid.{Grid}
 use Rattle.grid.specs.Stages.Cells.{cell_at, column_of, row_of, chain_of, grid_in, chain_at, next_at, In, Sized, Chained, Entered, InWindow, wide, cell}
 use Rattle.grid.proofs.CellLaws.{reach_cells}
 use Rattle.first_hit.specs.declared.search.Near.{Near}
-use Rattle.first_hit.specs.declared.search.Search.TheVariants.{Done}
 use Rattle.first_hit.specs.Stages.Looks.{near, best_of, closer, passed, after_window, Marched, is_done, Sure}
 use Rattle.first_hit.proofs.Folds.{Low, Fair, closer_fair, Covered, Sound, After, covered_now, covered_still, sound_still, look_covered}
 use Rattle.first_hit.proofs.Passing.{window_keeps, window_brings}
@@ -61,23 +57,23 @@ module _ (g : Grid) (boxes : List Box) (stations : List ℕ) (k : ℕ) (l : List
   follows s i r e = let d : next_at k l s ≤ s = falls s i in (chained.nexts s i r (omega arith)).1
 
 -- ---- the end of a look
-missed : (s : ℕ) (e : Entry) (best : Best) → e ≡ Missed → sooner s e best ≡ best
+missed : (s : ℕ) (e : Option Float) (best : Option (Float × ℕ)) → e ≡ None → sooner s e best ≡ best
 unfolding sooner
-missed s e best h = ap (λ (y : Entry). sooner s y best) h
+missed s e best h = ap (λ (y : Option Float). sooner s y best) h
 
 done_by : (n : Near) (u : Float) → is_done n u ≡ true → le f1 u ≡ false → T (le n.place u)
 unfolding is_done
 done_by n u d h = lift (le n.place u) (rw h at d)
 
 -- a station entered after place u doesn't come before a box entered by then
-beyond : (n : Near) (u v : Float) (s : ℕ) → is_done n u ≡ true → T (le v f1) → lt u v ≡ true → sooner s (Place v) (best_of n) ≡ best_of n
+beyond : (n : Near) (u v : Float) (s : ℕ) → is_done n u ≡ true → T (le v f1) → lt u v ≡ true → sooner s (Some v) (best_of n) ≡ best_of n
 unfolding best_of sooner
 beyond n u v s d h k = go (le f1 u) refl
   where
     Stays : Bool → Type 0
-    Stays x = sooner s (Place v) (cond x (First n.place n.station) Nothing) ≡ cond x (First n.place n.station) Nothing
+    Stays x = sooner s (Some v) (cond x (Some (n.place, n.station)) None) ≡ cond x (Some (n.place, n.station)) None
 
-    behind-it : lt n.place v ≡ true → (y : Bool) → comes_first v s n.place n.station ≡ y → cond y (First v s) (First n.place n.station) ≡ First n.place n.station
+    behind-it : lt n.place v ≡ true → (y : Bool) → comes_first v s n.place n.station ≡ y → cond {A = Option (Float × ℕ)} y (Some (v, s)) (Some (n.place, n.station)) ≡ Some (n.place, n.station)
     behind-it c true e = absurd (never_both v s n.place n.station (which_of v s n.place n.station e) (nearer c))
     behind-it c false e = refl
 
@@ -90,11 +86,11 @@ beyond n u v s d h k = go (le f1 u) refl
 
 module _ (boxes : List Box) (p q : Point) (a b : ℕ) where
   -- ---- where a station's box is entered
-  enters_at : (s : ℕ) (v : Float) → entry_at boxes p q a b s ≡ Place v → enters p q (box_in boxes s) ≡ Place v
+  enters_at : (s : ℕ) (v : Float) → entry_at boxes p q a b s ≡ Some v → enters p q (box_in boxes s) ≡ Some v
   unfolding entry_at
   enters_at s v h = go (eqb s a || eqb s b) h
     where
-      go : (x : Bool) → cond x Missed (enters p q (box_in boxes s)) ≡ Place v → enters p q (box_in boxes s) ≡ Place v
+      go : (x : Bool) → cond x None (enters p q (box_in boxes s)) ≡ Some v → enters p q (box_in boxes s) ≡ Some v
       go true h = absurd (let z : ◌≡◌ {A = ℕ} 0 1 = cc in omega arith)
       go false h = h
 
@@ -102,9 +98,9 @@ module _ (boxes : List Box) (p q : Point) (a b : ℕ) where
   unfolding Low
   low_at s = go (entry_at boxes p q a b s) refl
     where
-      go : (e : Entry) → entry_at boxes p q a b s ≡ e → Low e
-      go Missed h = tt
-      go (Place v) h = place_high p q (box_in boxes s) v (enters_at s v h)
+      go : (e : Option Float) → entry_at boxes p q a b s ≡ e → Low e
+      go None h = tt
+      go (Some v) h = place_high p q (box_in boxes s) v (enters_at s v h)
 
   pub marched_start : (l : List ℕ) → Marched boxes p q a b l f0 (near f2 0)
   unfolding near best_of le lt of_bits of_fields odd
@@ -190,11 +186,11 @@ module _ (boxes : List Box) (p q : Point) (a b : ℕ) where
     Then = after_window boxes p q a b (length boxes) l w (grid_in boxes l) n
 
     -- a station that isn't entered after place u
-    passed_by : (stations : List ℕ) → Entered boxes stations l → (s : ℕ) → In s stations → (v : Float) → entry_at boxes p q a b s ≡ Place v → lt u v ≡ false → Covered boxes p q a b s Then
+    passed_by : (stations : List ℕ) → Entered boxes stations l → (s : ℕ) → In s stations → (v : Float) → entry_at boxes p q a b s ≡ Some v → lt u v ≡ false → Covered boxes p q a b s Then
     passed_by stations e s i v h k = go (lt v t) refl
       where
         go : (x : Bool) → lt v t ≡ x → Covered boxes p q a b s Then
-        go true o = covered_next l w stations e s n m.fair (subst (λ (y : Entry). sooner s y (best_of n) ≡ best_of n) (sym h) (m.before stations e s i v h o))
+        go true o = covered_next l w stations e s n m.fair (subst (λ (y : Option Float). sooner s y (best_of n) ≡ best_of n) (sym h) (m.before stations e s i v h o))
         go false o = reached l w stations e s i (window_law p q t u v w (box_in boxes s) plain (e.finite s i) holds (enters_at s v h) o k) n m.fair
 
     pub marched_step : Marched boxes p q a b l u Then
@@ -202,25 +198,25 @@ module _ (boxes : List Box) (p q : Point) (a b : ℕ) where
         record {
           fair = fair_next l w n m.fair;
           sound = λ stations e. sound_next l w stations e n m.fair (m.sound stations e);
-          before = λ stations e s i v h k. subst (λ (y : Entry). sooner s y (best_of Then) ≡ best_of Then) h (passed_by stations e s i v h (other v k (lt u v) refl));
+          before = λ stations e s i v h k. subst (λ (y : Option Float). sooner s y (best_of Then) ≡ best_of Then) h (passed_by stations e s i v h (other v k (lt u v) refl));
         }
       where
         other : (v : Float) → lt v u ≡ true → (x : Bool) → lt u v ≡ x → lt u v ≡ false
         other v k true h = absurd (not_both v u (lift (lt v u) k) (le_of_lt_float u v (lift (lt u v) h)))
         other v k false h = h
 
-    pub marched_end : is_done Then u ≡ true → (stations : List ℕ) → Entered boxes stations l → best_of Then ≡ look boxes p q a b stations Nothing
+    pub marched_end : is_done Then u ≡ true → (stations : List ℕ) → Entered boxes stations l → best_of Then ≡ look boxes p q a b stations None
     marched_end d stations e = sym (look_covered boxes p q a b stations (best_of Then) each) ∙ marched_step.sound stations e
       where
         each : (s : ℕ) → In s stations → Covered boxes p q a b s Then
         each s i = go (entry_at boxes p q a b s) refl
           where
-            go : (y : Entry) → entry_at boxes p q a b s ≡ y → Covered boxes p q a b s Then
-            go Missed h = missed s (entry_at boxes p q a b s) (best_of Then) h
-            go (Place v) h = by (lt u v) refl
+            go : (y : Option Float) → entry_at boxes p q a b s ≡ y → Covered boxes p q a b s Then
+            go None h = missed s (entry_at boxes p q a b s) (best_of Then) h
+            go (Some v) h = by (lt u v) refl
               where
                 by : (x : Bool) → lt u v ≡ x → Covered boxes p q a b s Then
-                by true k = subst (λ (y : Entry). sooner s y (best_of Then) ≡ best_of Then) (sym h) (beyond Then u v s d (place_high p q (box_in boxes s) v (enters_at s v h)) k)
+                by true k = subst (λ (y : Option Float). sooner s y (best_of Then) ≡ best_of Then) (sym h) (beyond Then u v s d (place_high p q (box_in boxes s) v (enters_at s v h)) k)
                 by false k = passed_by stations e s i v h k
 
     -- the same of a grid and a number of stations that are those of the list
@@ -231,6 +227,6 @@ module _ (boxes : List Box) (p q : Point) (a b : ℕ) where
       pub marched_on : Marched boxes p q a b l u next
       marched_on = subst (Marched boxes p q a b l u) same marched_step
 
-      pub marched_done : is_done next u ≡ true → Sure boxes p q a b l (Done next)
+      pub marched_done : is_done next u ≡ true → Sure boxes p q a b l (Some next)
       unfolding Sure
-      marched_done d = subst (λ (x : Near). is_done x u ≡ true → (stations : List ℕ) → Entered boxes stations l → best_of x ≡ look boxes p q a b stations Nothing) same marched_end d
+      marched_done d = subst (λ (x : Near). is_done x u ≡ true → (stations : List ℕ) → Entered boxes stations l → best_of x ≡ look boxes p q a b stations None) same marched_end d

@@ -7,7 +7,7 @@ use native.Mathlib.Nat.{mul-le-mul_right}
 use native.Mathlib.Omega.{arith}
 use Rattle.geometry.specs.declared.Point.{Point}
 use Rattle.geometry.specs.declared.Box.{Box}
-use Rattle.geometry.specs.declared.entry.Entry.{Entry}
+use Rattle.std.specs.Prelude.{Float, Option}
 use Rattle.geometry.specs.Plane.{box_in}
 use Rattle.windows.specs.Stages.Window.{is_apart}
 use Rattle.first_box.specs.First.{entry_at}
@@ -52,10 +52,10 @@ module _ (boxes : List Box) (p q : Point) (a b k : ℕ) (l : List ℕ) (w : Box)
         turn s next n n on (sym (ap (λ (x : Bool). cond x n (closer s (entry_at boxes p q a b s) n)) far))
         ∙ sym (ap (λ (x : ℕ). chain_to boxes p q a b k l w x x n) one_more) ∙ inv
 
-    pub chain_near : is_apart w (box_in boxes s) ≡ false → (y : Entry) → y ≡ entry_at boxes p q a b s → (m : Near) → m ≡ closer s y n → chain_to boxes p q a b k l w next next m ≡ all
+    pub chain_near : is_apart w (box_in boxes s) ≡ false → (y : Option Float) → y ≡ entry_at boxes p q a b s → (m : Near) → m ≡ closer s y n → chain_to boxes p q a b k l w next next m ≡ all
     unfolding passed
     chain_near close y o m e =
-        turn s next n m on (e ∙ ap (λ (x : Entry). closer s x n) o ∙ sym (ap (λ (x : Bool). cond x n (closer s (entry_at boxes p q a b s) n)) close))
+        turn s next n m on (e ∙ ap (λ (x : Option Float). closer s x n) o ∙ sym (ap (λ (x : Bool). cond x n (closer s (entry_at boxes p q a b s) n)) close))
         ∙ sym (ap (λ (x : ℕ). chain_to boxes p q a b k l w x x n) one_more) ∙ inv
 
   pub chain_end : (h : ℕ) (n all : Near) → h ≤ 0 → chain_to boxes p q a b k l w h h n ≡ all → n ≡ all

@@ -8,55 +8,46 @@ ghost use Rattle.first_hit.specs.Stages.Looks.{closer, hit_of, after_chain, afte
 ghost use Rattle.windows.specs.Stages.Window.{plain_piece};
 
 use crate::steps::{first_steps, further, margins, step_end, window_of};
-use first_box::{FirstHit, box_in, comes_first, entry_at, found, scan};
+use first_box::{box_in, comes_first, entry_at, scan};
 use float::small::is_finite;
-use geometry::entry::Entry;
 use geometry::{Box, Point};
 use grid::{Grid, column, grid_of, row};
 use order::at;
 use windows::{holds, is_apart};
 
-// The box entered first so far: the place where the piece enters it, above 1 for none, and its station. (An enum in these loops costs twice the time.)
+// The box entered first so far: the place where the piece enters it, above 1 for none, and its station. (Measured: an enum, as an Option is one, takes these loops twice the time.)
 #[derive(Clone, Copy)]
 pub struct Near {
     pub place: f64,
     pub station: usize,
 }
 
-// The end of a search: it may be unsure, by rounding.
-#[derive(Clone, Copy)]
-pub enum Search {
-    Unsure,
-    Done(Near),
-}
-
 // The box entered first after one more, of station s.
-fn closer(s: usize, e: Entry, n: Near) -> Near
+fn closer(s: usize, e: Option<f64>, n: Near) -> Near
     ensures { result ≡ closer s e n }
 {
-    match e {
-        Entry::Missed => n,
-        Entry::Place(t) => {
-            if comes_first(t, s, n.place, n.station) {
-                Near {
-                    place: t,
-                    station: s,
-                }
-            } else {
-                n
-            }
+    let Some(t) = e else {
+        return n;
+    };
+    if comes_first(t, s, n.place, n.station) {
+        Near {
+            place: t,
+            station: s,
         }
+    } else {
+        n
     }
 }
 
 // The station of the box entered first.
-fn hit_of(n: Near) -> FirstHit
+fn hit_of(n: Near) -> Option<usize>
     ensures { result ≡ hit_of n }
 {
     if n.place <= 1.0 {
-        return FirstHit::At(n.station);
+        Some(n.station)
+    } else {
+        None
     }
-    FirstHit::Free
 }
 
 // One more than the station behind station s in its chain, 0 for none; never above s.
@@ -116,10 +107,8 @@ fn look_chains(
     ensures { result ≡ after_chains (boxes_in k frames.now) p q a b k index.now w chain (end - chain) first }
 {
     let mut n = first;
-    let mut c = chain;
-    while c < end {
+    for c in chain..end {
         n = look_chain(k, frames, index, p, q, a, b, w, c, n);
-        c += 1;
     }
     n
 }
@@ -145,11 +134,9 @@ fn look_rows(
     ensures { result ≡ after_rows (boxes_in k frames.now) p q a b k index.now w g i j row (end - row) first }
 {
     let mut n = first;
-    let mut r = row;
-    while r < end {
+    for r in row..end {
         let c = 1 + r * g.columns;
         n = look_chains(k, frames, index, p, q, a, b, w, c + i, c + j + 1, n);
-        r += 1;
     }
     n
 }
@@ -195,7 +182,7 @@ fn is_done(n: Near, u: f64) -> bool
     n.place <= u
 }
 
-// The box entered first, looked for along the piece.
+// The box entered first, looked for along the piece; none where it may be unsure, by rounding.
 fn march(
     g: Grid,
     k: usize,
@@ -205,7 +192,7 @@ fn march(
     q: Point,
     a: usize,
     b: usize,
-) -> Search
+) -> Option<Near>
     requires k_in_bounds { (4 * k ≤ length frames.now) × (k ≤ 4096) × (1 ≤ g.columns) × (1 ≤ g.rows) × (g.columns ≤ 16384) × (g.rows ≤ 16384) }
     requires g_value { (g ≡ grid_in (boxes_in k frames.now) index.now) × (plain_piece p q ≡ true) }
     ensures { Sure (boxes_in k frames.now) p q a b index.now result }
@@ -217,23 +204,21 @@ fn march(
         station: 0,
     };
     let mut t = 0.0;
-    let mut i: usize = 0;
-    while i < 8192 {
+    for i in 0..8192usize {
         let u = step_end(t, s);
         let w = window_of(p, q, m, t, u);
         if holds(p, q, t, u, w) {
             n = look_window(g, k, frames, index, p, q, a, b, w, n);
             if is_done(n, u) {
-                return Search::Done(n);
+                return Some(n);
             }
             s = further(s);
             t = u;
-            i += 1;
         } else {
-            return Search::Unsure;
+            return None;
         }
     }
-    Search::Unsure
+    None
 }
 
 // Whether a piece's start and its differences are finite.
@@ -262,24 +247,17 @@ pub fn first_hit(
     q: Point,
     a: usize,
     b: usize,
-) -> FirstHit
+) -> Option<usize>
     requires k_in_bounds { (2 * k ≤ length stations.now) × (4 * k ≤ length frames.now) × (k ≤ 4096) }
     requires indexed { Indexed (boxes_in k frames.now) (occupied (counts_in k stations.now)) index.now }
     ensures { result ≡ first_hit (boxes_in k frames.now) (occupied (counts_in k stations.now)) p q a b }
 {
     if 0 < at(index, 0) {
         if is_plain(p, q) {
-            let m = march(grid_of(k, frames, index), k, frames, index, p, q, a, b);
-            match m {
-                Search::Done(n) => {
-                    return hit_of(n);
-                }
-                Search::Unsure => {
-                    return found(scan(k, stations, frames, p, q, a, b));
-                }
+            if let Some(n) = march(grid_of(k, frames, index), k, frames, index, p, q, a, b) {
+                return hit_of(n);
             }
         }
-        return found(scan(k, stations, frames, p, q, a, b));
     }
-    found(scan(k, stations, frames, p, q, a, b))
+    scan(k, stations, frames, p, q, a, b).map(|(_, s)| s)
 }

@@ -1,13 +1,11 @@
 -- Refusal 13: whether the audited drawing fits its network. Definitions only.
-use Rattle.std.specs.Prelude.{ℕ, ◌*◌, Bool, true, false, not, ◌&&◌, ◌||◌, List, eqb, ltb, ℤ, negsuc, length, get_or, Float}
+use Rattle.std.specs.Prelude.{ℕ, ◌*◌, Bool, true, false, not, ◌&&◌, ◌||◌, List, eqb, ltb, ℤ, negsuc, length, get_or, Float, Option, is_some}
 use Rattle.std.specs.Float.{nan, binary64}
 use Rattle.std.specs.Float.Ieee.{lt, le, of_bits}
 use Rattle.float.specs.Small.{abs_of}
 use Rattle.order.specs.Order.{all_to}
 use Rattle.geometry.specs.declared.Box.{Box}
 use Rattle.geometry.specs.Plane.{box_at}
-use Rattle.network.specs.declared.words.Known.{Known}
-use Rattle.network.specs.declared.words.Known.TheVariants.{Bus, Unknown}
 use Rattle.network.specs.Words.{station_count, known}
 
 -- every piece names a branch, of m
@@ -19,16 +17,12 @@ unfoldable pub is_line : List ℕ → ℕ → Bool
 is_line roles e = eqb (get_or roles e 1) 0
 
 -- the end of branch e in a list of ends, unknown past the list's
-unfoldable pub end_at : ℕ → List ℤ → ℕ → Known
+unfoldable pub end_at : ℕ → List ℤ → ℕ → Option ℕ
 end_at n ends e = known n (get_or ends e (negsuc 0))
-
-unfoldable pub is_known : Known → Bool
-is_known (Bus i) = true
-is_known Unknown = false
 
 -- no line-role branch has an unknown end
 unfoldable pub joins : ℕ → List ℤ → List ℤ → List ℕ → ℕ → Bool
-joins n from to roles e = not (is_line roles e) || (is_known (end_at n from e) && is_known (end_at n to e))
+joins n from to roles e = not (is_line roles e) || (is_some (end_at n from e) && is_some (end_at n to e))
 
 unfoldable pub all_join : ℕ → List ℤ → List ℤ → List ℕ → Bool
 all_join n from to roles = all_to (joins n from to roles) (length from)

@@ -1,10 +1,10 @@
 // Refusal 13: whether the audited drawing fits its network.
 ghost use Rattle.std.specs.Prelude.{◌≡◌, ◌*◌, ◌≤◌, eqb, length, get_or};
-ghost use Rattle.fit.specs.Fit.{all_named, is_line, end_at, is_known, joins, all_join, moderate, all_moderate, ordered, all_ordered, fits};
+ghost use Rattle.fit.specs.Fit.{all_named, is_line, end_at, joins, all_join, moderate, all_moderate, ordered, all_ordered, fits};
 
 use float::small::abs;
 use geometry::{Box, box_at};
-use network::words::{Known, known_bus, station_count, station_of};
+use network::words::{known_bus, station_count, station_of};
 
 // The branch that piece j names, 0 past the list's end.
 pub fn branch_of(branches: &[u32], j: usize) -> usize
@@ -17,77 +17,41 @@ pub fn branch_of(branches: &[u32], j: usize) -> usize
 fn all_named(m: usize, branches: &[u32]) -> bool
     ensures { result ≡ all_named m branches.now }
 {
-    let mut j = 0;
-    while j < branches.len() {
-        if branch_of(branches, j) < m {
-            j += 1;
-        } else {
-            return false;
-        }
-    }
-    true
+    branches.iter().all(|&b| (b as usize) < m)
 }
 
 // Whether branch e has line role.
+#[tactic(auto, unfolding(crate::specs::Fit::is_line))]
 pub fn is_line(roles: &[u8], e: usize) -> bool
     ensures { result ≡ is_line roles.now e }
 {
-    if e < roles.len() {
-        roles[e] == 0
-    } else {
-        false
-    }
+    e < roles.len() && roles[e] == 0
 }
 
 // The bus at the end of branch e, of n; unknown past the list's end.
-pub fn end_at(n: usize, ends: &[i64], e: usize) -> Known
+pub fn end_at(n: usize, ends: &[i64], e: usize) -> Option<usize>
     ensures { result ≡ end_at n ends.now e }
 {
-    if e < ends.len() {
-        return known_bus(n, ends[e]);
-    }
-    Known::Unknown
-}
-
-// Whether a bus is known.
-fn is_known(x: Known) -> bool
-    ensures { result ≡ is_known x }
-{
-    match x {
-        Known::Bus(_) => true,
-        Known::Unknown => false,
-    }
+    known_bus(n, *ends.get(e)?)
 }
 
 // Whether branch e has no line role or two known ends.
+#[tactic(auto, unfolding(crate::specs::Fit::joins))]
 fn joins(n: usize, from: &[i64], to: &[i64], roles: &[u8], e: usize) -> bool
     ensures { result ≡ joins n from.now to.now roles.now e }
 {
-    if is_line(roles, e) {
-        if is_known(end_at(n, from, e)) {
-            return is_known(end_at(n, to, e));
-        }
-        return false;
-    }
-    true
+    !is_line(roles, e) || end_at(n, from, e).is_some() && end_at(n, to, e).is_some()
 }
 
 // Whether no line-role branch has an unknown end.
 fn all_join(n: usize, from: &[i64], to: &[i64], roles: &[u8]) -> bool
     ensures { result ≡ all_join n from.now to.now roles.now }
 {
-    let mut e = 0;
-    while e < from.len() {
-        if joins(n, from, to, roles, e) {
-            e += 1;
-        } else {
-            return false;
-        }
-    }
-    true
+    (0..from.len()).all(|e| joins(n, from, to, roles, e))
 }
 
 // Whether a number is at most 2^100 in size.
+#[tactic(auto, unfolding(crate::specs::Fit::moderate))]
 fn moderate(x: f64) -> bool
     ensures { result ≡ moderate x }
 {
@@ -98,25 +62,15 @@ fn moderate(x: f64) -> bool
 fn all_moderate(list: &[f64]) -> bool
     ensures { result ≡ all_moderate list.now }
 {
-    let mut i = 0;
-    while i < list.len() {
-        if moderate(list[i]) {
-            i += 1;
-        } else {
-            return false;
-        }
-    }
-    true
+    list.iter().all(|&x| moderate(x))
 }
 
 // Whether a box's left isn't above its right nor its top above its bottom.
+#[tactic(auto, unfolding(crate::specs::Fit::ordered))]
 fn ordered(b: Box) -> bool
     ensures { result ≡ ordered b }
 {
-    if b.right < b.left {
-        return false;
-    }
-    !(b.bottom < b.top)
+    !(b.right < b.left) && !(b.bottom < b.top)
 }
 
 // Whether all of k boxes are ordered.
@@ -124,31 +78,18 @@ fn all_ordered(k: usize, boxes: &[f64]) -> bool
     requires { 4 * k ≤ length boxes.now }
     ensures { result ≡ all_ordered k boxes.now }
 {
-    let mut s = 0;
-    while s < k {
-        if ordered(box_at(boxes, s)) {
-            s += 1;
-        } else {
-            return false;
-        }
-    }
-    true
+    (0..k).all(|s| ordered(box_at(boxes, s)))
 }
 
 // Whether the piece numbers are four for each branch number.
 fn fours(pieces: &[f64], branches: &[u32]) -> bool
     ensures { result ≡ eqb (length pieces.now) (4 * length branches.now) }
 {
-    if pieces.len() % 4 != 0 {
-        return false;
-    }
-    if pieces.len() / 4 != branches.len() {
-        return false;
-    }
-    true
+    pieces.len() % 4 == 0 && pieces.len() / 4 == branches.len()
 }
 
 // Whether the drawing fits: 13 is given where it doesn't.
+#[tactic(auto, unfolding(crate::specs::Fit::fits))]
 pub fn fits(
     sub: &[u32],
     from: &[i64],
@@ -162,26 +103,12 @@ pub fn fits(
     ensures { result ≡ fits sub.now from.now to.now boxes.now roles.now pieces.now branches.now }
 {
     let k = station_count(sub);
-    if boxes.len() != 4 * k {
-        return false;
-    }
-    if roles.len() != from.len() {
-        return false;
-    }
-    if !fours(pieces, branches) {
-        return false;
-    }
-    if !all_named(from.len(), branches) {
-        return false;
-    }
-    if !all_join(sub.len(), from, to, roles) {
-        return false;
-    }
-    if !all_moderate(boxes) {
-        return false;
-    }
-    if !all_moderate(pieces) {
-        return false;
-    }
-    all_ordered(k, boxes)
+    boxes.len() == 4 * k
+        && roles.len() == from.len()
+        && fours(pieces, branches)
+        && all_named(from.len(), branches)
+        && all_join(sub.len(), from, to, roles)
+        && all_moderate(boxes)
+        && all_moderate(pieces)
+        && all_ordered(k, boxes)
 }

@@ -10,27 +10,15 @@ use sized::{any_occupied, ill_sized, largest, sized};
 fn sized_ends(l: f64, pieces: &[f64]) -> bool
     ensures { result ≡ sized_ends l pieces.now }
 {
-    let mut i = 0;
-    while i < pieces.len() {
-        if sized(l, pieces[i]) {
-            i += 1;
-        } else {
-            return false;
-        }
-    }
-    true
+    pieces.iter().all(|&x| sized(l, x))
 }
 
 // Whether the boxes are ill sized, or a piece end lies too far out for their size.
+#[tactic(auto, unfolding(crate::specs::Scale::ill_drawn))]
 pub fn ill_drawn(k: usize, stations: &[u32], boxes: &[f64], pieces: &[f64]) -> bool
     requires { (2 * k ≤ length stations.now) × (4 * k ≤ length boxes.now) }
     ensures { result ≡ ill_drawn (boxes_in k boxes.now) (occupied (counts_in k stations.now)) pieces.now }
 {
-    if ill_sized(k, stations, boxes) {
-        return true;
-    }
-    if any_occupied(k, stations) {
-        return !sized_ends(largest(k, stations, boxes), pieces);
-    }
-    false
+    ill_sized(k, stations, boxes)
+        || any_occupied(k, stations) && !sized_ends(largest(k, stations, boxes), pieces)
 }

@@ -1,4 +1,4 @@
--- The order of the keys is IEEE 754's total_order, on all patterns: `total_order_lem`, `before_key`, `key_before`.
+-- The order of the keys is IEEE 754's totalOrder, on all patterns: `total_order_lem`, `before_key`, `key_before`.
 -- Assumes nothing.
 use Rattle.std.proofs.Common.{◌≡◌, ℕ, ◌/◌, ◌%◌, ◌^◌, ◌<◌, ◌≤◌, Bool, true, false, cond, not, ◌&&◌, T, eqb, leb, ◌⊎◌, sym, refl, ap, ◌∙◌, subst, inl, inr, true≢false, le_of_lt, eq-or-lt_of_le, lt_of_not-le, arith, eqb-true, le-leb, leb-false, leb-true}
 use native.Mathlib.Decide.{dec_le}

@@ -1,4 +1,4 @@
--- IEEE 754-2019, clause 5.10: total_order of two binary64 bit patterns, clause by clause. Definitions only.
+-- IEEE 754-2019, clause 5.10: totalOrder of two binary64 bit patterns, clause by clause. Definitions only.
 -- A pattern is a whole number below 2 ^ 64: by clause 3.4 a bit of sign, 11 of exponent and 52 of fraction.
 use Rattle.std.specs.Prelude.{ℕ, ◌/◌, ◌%◌, ◌^◌, Bool, true, false, cond, not, ◌&&◌, ◌==◌, nat_le}
 use Rattle.std.specs.Float.Ieee.{lt, of_bits}

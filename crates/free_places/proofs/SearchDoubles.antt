@@ -21,9 +21,8 @@ use Rattle.proximity.specs.Overlap.{overlap}
 use Rattle.sizes.specs.Size.{Size}
 use Rattle.units.specs.Doubles.{DoublesPoint, DoublesSize, Paired}
 use Rattle.offsets.specs.declared.offset.Offset.{Offset}
-use Rattle.free_places.specs.declared.Found.{Found}
-use Rattle.free_places.specs.declared.Found.TheVariants.{At, Nowhere}
-use Rattle.free_places.specs.Search.{Frame, box_on, buffered, free, place, first_free, or_next, place_for}
+use Rattle.std.specs.Prelude.{Option, Some, None, unwrap_or}
+use Rattle.free_places.specs.Search.{Frame, box_on, buffered, free, place, first_free, place_for}
 use Rattle.free_places.specs.Doubles.{DoublesBox, DoublesFrame, DoublesFound, Small, Reach}
 
 -- ---- 1, 2 and 4
@@ -110,15 +109,15 @@ place_doubles seed seed' z z' widening o a b p q w r =
     record { x = offset_doubles o.a a p.x m w r; y = offset_doubles o.b b p.y m w r }
 
 -- ---- the search
-pick_found : (lo top : ℕ) (b : Bool) (f f' g g' : Found) → DoublesFound lo top f f' → DoublesFound lo top g g' → DoublesFound lo top (pick b f g) (pick b f' g')
+pick_found : (lo top : ℕ) (b : Bool) (f f' g g' : Option Point) → DoublesFound lo top f f' → DoublesFound lo top g g' → DoublesFound lo top (pick b f g) (pick b f' g')
 pick_found lo top true f f' g g' h k = h
 pick_found lo top false f f' g g' h k = k
 
-next_doubles : (lo top : ℕ) (f f' : Found) (d d' : Point) → DoublesFound lo top f f' → DoublesPoint lo top d d' → DoublesPoint lo top (or_next f d) (or_next f' d')
-next_doubles lo top (At c) (At c') d d' h k = h
-next_doubles lo top (At c) Nowhere d d' h k = absurd h
-next_doubles lo top Nowhere (At c') d d' h k = absurd h
-next_doubles lo top Nowhere Nowhere d d' h k = k
+next_doubles : (lo top : ℕ) (f f' : Option Point) (d d' : Point) → DoublesFound lo top f f' → DoublesPoint lo top d d' → DoublesPoint lo top (unwrap_or f d) (unwrap_or f' d')
+next_doubles lo top (Some c) (Some c') d d' h k = h
+next_doubles lo top (Some c) None d d' h k = absurd h
+next_doubles lo top None (Some c') d d' h k = absurd h
+next_doubles lo top None None d d' h k = k
 
 module _ {lo t u : ℕ} (j v : ℕ) (seed seed' : Point) (r r' : Frame) (earlier earlier' : List Box) (p : DoublesPoint lo t seed seed') (q : DoublesFrame lo u r r') (e : Paired (DoublesBox j v) earlier earlier') (R : Reach lo t u) where
   pub found_doubles : (widening : Float) → Stepped 1074 (4 * 2 ^ 1074) widening → (os : List Offset) → Small os → DoublesFound lo (t + 80 * u) (first_free seed r earlier widening os) (first_free seed' r' earlier' widening os)
@@ -130,9 +129,9 @@ module _ {lo t u : ℕ} (j v : ℕ) (seed seed' : Point) (r r' : Frame) (earlier
       let l = first_free seed r earlier widening os in
       let l' = first_free seed' r' earlier' widening os in
       let k : DoublesPoint lo (t + 80 * u) c c' = place_doubles seed seed' r.half r'.half widening o h.0 h.1 p q.half w R in
-      subst (λ (b : Bool). DoublesFound lo (t + 80 * u) (pick (free (buffered c r) earlier) (At c) l) (pick b (At c') l'))
+      subst (λ (b : Bool). DoublesFound lo (t + 80 * u) (pick (free (buffered c r) earlier) (Some c) l) (pick b (Some c') l'))
       (sym (free_of_doubles j v (buffered c r) (buffered c' r') earlier earlier' (buffered_doubles c c' r r' k q R.gap R.box R.buffer) e))
-      (pick_found lo (t + 80 * u) (free (buffered c r) earlier) (At c) (At c') l l' k (found_doubles widening w os h.2))
+      (pick_found lo (t + 80 * u) (free (buffered c r) earlier) (Some c) (Some c') l l' k (found_doubles widening w os h.2))
 
   pub search_doubles : (os : List Offset) → Small os → DoublesPoint lo (t + 80 * u) (place_for seed r earlier os) (place_for seed' r' earlier' os)
   unfolding place_for

@@ -25,9 +25,8 @@ use Rattle.cells.proofs.CellOrder.{stretch_count}
 use Rattle.cells.proofs.CellHalving.{below_most}
 use Rattle.box_order.proofs.Keeping.{stretch_part}
 use Rattle.offsets.specs.declared.offset.Offset.{Offset}
-use Rattle.free_places.specs.declared.Found.{Found}
-use Rattle.free_places.specs.declared.Found.TheVariants.{At, Nowhere}
-use Rattle.free_places.specs.Search.{Frame, free, place, buffered, first_free, or_next, place_for}
+use Rattle.std.specs.Prelude.{Option, Some, None, unwrap_or}
+use Rattle.free_places.specs.Search.{Frame, free, place, buffered, first_free, place_for}
 use Rattle.offset_rule.specs.Table.{inside, skipped, pair_at, pairs_in}
 use Rattle.free_places.specs.Stages.Among.{kept_boxes, boxes_among, Holds}
 use Rattle.network.proofs.Rest.{rest, rest_start, rest_more, rest_end}
@@ -123,19 +122,19 @@ module _ (seed : Point) (r : Frame) (e e' : List Box) (f : (q : Box) → free q 
   first_same widening [] = refl
   first_same widening (o ∷ os) =
       let c = place seed r.half widening o in
-      ap (λ (b : Bool). pick b (At c) (first_free seed r e widening os)) (f (buffered c r))
-      ∙ ap (λ (l : Found). pick (free (buffered c r) e') (At c) l) (first_same widening os)
+      ap (λ (b : Bool). pick b (Some c) (first_free seed r e widening os)) (f (buffered c r))
+      ∙ ap (λ (l : Option Point). pick (free (buffered c r) e') (Some c) l) (first_same widening os)
 
   pub place_same : (os : List Offset) → place_for seed r e os ≡ place_for seed r e' os
   unfolding place_for
   place_same os =
-      ap (λ (x : Found). or_next x (or_next (first_free seed r e f2 os) (or_next (first_free seed r e f4 os) seed))) (first_same f1 os)
-      ∙ ap (λ (x : Found). or_next (first_free seed r e' f1 os) (or_next x (or_next (first_free seed r e f4 os) seed))) (first_same f2 os)
-      ∙ ap (λ (x : Found). or_next (first_free seed r e' f1 os) (or_next (first_free seed r e' f2 os) (or_next x seed))) (first_same f4 os)
+      ap (λ (x : Option Point). unwrap_or x (unwrap_or (first_free seed r e f2 os) (unwrap_or (first_free seed r e f4 os) seed))) (first_same f1 os)
+      ∙ ap (λ (x : Option Point). unwrap_or (first_free seed r e' f1 os) (unwrap_or x (unwrap_or (first_free seed r e f4 os) seed))) (first_same f2 os)
+      ∙ ap (λ (x : Option Point). unwrap_or (first_free seed r e' f1 os) (unwrap_or (first_free seed r e' f2 os) (unwrap_or x seed))) (first_same f4 os)
 
 -- ---- the first free place among the pairs of two lists within the search
 module _ (seed : Point) (r : Frame) (earlier : List Box) (widening : Float) (xs ys : List ℤ) (search : ℕ) where
-  abbrev found : List Offset → Found
+  abbrev found : List Offset → Option Point
   found os = first_free seed r earlier widening os
 
   abbrev spot : ℕ → Point
@@ -145,7 +144,7 @@ module _ (seed : Point) (r : Frame) (earlier : List Box) (widening : Float) (xs 
   abbrev pub onward : ℕ → List Offset
   onward j = skipped search (rest (pair_at xs ys) (length xs) j)
 
-  abbrev all : Found
+  abbrev all : Option Point
   all = found (skipped search (pairs_in xs ys))
 
   abbrev pub First : ℕ → Type 0
@@ -172,53 +171,47 @@ module _ (seed : Point) (r : Frame) (earlier : List Box) (widening : Float) (xs 
       test_is : free (buffered (spot j) r) earlier ≡ b
       test_is = sym (B ∙ ap (λ (q : Box). free q earlier) (P ∙ ap (λ (x : Point). buffered x r) place_is))
 
-      first_at : all ≡ pick b (At c) (found (onward (j + 1)))
+      first_at : all ≡ pick b (Some c) (found (onward (j + 1)))
       unfolding first_free
       first_at =
           sym i ∙ ap found (onward_at ∙ ap (λ (x : Bool). pick x (pair_at xs ys j ∷ onward (j + 1)) (onward (j + 1))) e)
-          ∙ ap (λ (x : Bool). pick x (At (spot j)) (found (onward (j + 1)))) test_is
-          ∙ ap (λ (x : Point). pick b (At x) (found (onward (j + 1)))) (sym place_is)
+          ∙ ap (λ (x : Bool). pick x (Some (spot j)) (found (onward (j + 1)))) test_is
+          ∙ ap (λ (x : Point). pick b (Some x) (found (onward (j + 1)))) (sym place_is)
 
-      pub first_hit : b ≡ true → At c ≡ all
-      first_hit y = sym (first_at ∙ ap (λ (x : Bool). pick x (At c) (found (onward (j + 1)))) y)
+      pub first_hit : b ≡ true → Some c ≡ all
+      first_hit y = sym (first_at ∙ ap (λ (x : Bool). pick x (Some c) (found (onward (j + 1)))) y)
 
       pub first_miss : b ≡ false → First (j + 1)
-      first_miss y = sym (first_at ∙ ap (λ (x : Bool). pick x (At c) (found (onward (j + 1)))) y)
+      first_miss y = sym (first_at ∙ ap (λ (x : Bool). pick x (Some c) (found (onward (j + 1)))) y)
 
-  pub first_end : (j : ℕ) → length xs ≤ j → First j → Nowhere ≡ all
+  pub first_end : (j : ℕ) → length xs ≤ j → First j → None ≡ all
   unfolding first_free skipped
   first_end j h i = sym (ap (λ (os : List Offset). found (skipped search os)) (rest_end (pair_at xs ys) (length xs) j h)) ∙ i
 
 -- ---- the three widenings
-module _ (seed : Point) (r : Frame) (earlier : List Box) (os : List Offset) (o : Found) (O : o ≡ first_free seed r earlier f1 os) where
-  abbrev at2 : Found
+module _ (seed : Point) (r : Frame) (earlier : List Box) (os : List Offset) (o : Option Point) (O : o ≡ first_free seed r earlier f1 os) where
+  abbrev at2 : Option Point
   at2 = first_free seed r earlier f2 os
 
-  abbrev at4 : Found
+  abbrev at4 : Option Point
   at4 = first_free seed r earlier f4 os
 
-  tried : or_next o (or_next at2 (or_next at4 seed)) ≡ place_for seed r earlier os
+  tried : unwrap_or o (unwrap_or at2 (unwrap_or at4 seed)) ≡ place_for seed r earlier os
   unfolding place_for
-  tried = ap (λ (x : Found). or_next x (or_next at2 (or_next at4 seed))) O
+  tried = ap (λ (x : Option Point). unwrap_or x (unwrap_or at2 (unwrap_or at4 seed))) O
 
-  pub found_near : (c : Point) → o ≡ At c → c ≡ place_for seed r earlier os
-  found_near c e = sym (ap (λ (x : Found). or_next x (or_next at2 (or_next at4 seed))) e) ∙ tried
+  pub found_near : (c : Point) → o ≡ Some c → c ≡ place_for seed r earlier os
+  found_near c e = sym (ap (λ (x : Option Point). unwrap_or x (unwrap_or at2 (unwrap_or at4 seed))) e) ∙ tried
 
-  module _ (e : o ≡ Nowhere) (p : Found) (P : p ≡ first_free seed r earlier f2 os) where
-    tried_2 : or_next p (or_next at4 seed) ≡ place_for seed r earlier os
+  module _ (e : o ≡ None) (p : Option Point) (P : p ≡ first_free seed r earlier f2 os) where
+    tried_2 : unwrap_or p (unwrap_or at4 seed) ≡ place_for seed r earlier os
     tried_2 =
-        ap (λ (x : Found). or_next x (or_next at4 seed)) P
-        ∙ sym (ap (λ (x : Found). or_next x (or_next at2 (or_next at4 seed))) e) ∙ tried
+        ap (λ (x : Option Point). unwrap_or x (unwrap_or at4 seed)) P
+        ∙ sym (ap (λ (x : Option Point). unwrap_or x (unwrap_or at2 (unwrap_or at4 seed))) e) ∙ tried
 
-    pub found_wide : (c : Point) → p ≡ At c → c ≡ place_for seed r earlier os
-    found_wide c f = sym (ap (λ (x : Found). or_next x (or_next at4 seed)) f) ∙ tried_2
+    pub found_wide : (c : Point) → p ≡ Some c → c ≡ place_for seed r earlier os
+    found_wide c f = sym (ap (λ (x : Option Point). unwrap_or x (unwrap_or at4 seed)) f) ∙ tried_2
 
-    module _ (f : p ≡ Nowhere) (q : Found) (Q : q ≡ first_free seed r earlier f4 os) where
-      tried_4 : or_next q seed ≡ place_for seed r earlier os
-      tried_4 = ap (λ (x : Found). or_next x seed) Q ∙ sym (ap (λ (x : Found). or_next x (or_next at4 seed)) f) ∙ tried_2
-
-      pub found_widest : (c : Point) → q ≡ At c → c ≡ place_for seed r earlier os
-      found_widest c g = sym (ap (λ (x : Found). or_next x seed) g) ∙ tried_4
-
-      pub found_none : q ≡ Nowhere → seed ≡ place_for seed r earlier os
-      found_none g = sym (ap (λ (x : Found). or_next x seed) g) ∙ tried_4
+    module _ (f : p ≡ None) (q : Option Point) (Q : q ≡ first_free seed r earlier f4 os) where
+      pub found_last : unwrap_or q seed ≡ place_for seed r earlier os
+      found_last = ap (λ (x : Option Point). unwrap_or x seed) Q ∙ sym (ap (λ (x : Option Point). unwrap_or x (unwrap_or at4 seed)) f) ∙ tried_2

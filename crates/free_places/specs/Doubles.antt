@@ -1,11 +1,10 @@
 -- Boxes and frames of two drawings side by side, the second one's doubled, and what a search finds in both. Definitions only.
-use Rattle.std.specs.Prelude.{ℕ, ◌+◌, ◌*◌, ◌^◌, ◌≤◌, ◌≡◌, List, [], ◌∷◌, nat_abs}
+use Rattle.std.specs.Prelude.{ℕ, ◌+◌, ◌*◌, ◌^◌, ◌≤◌, ◌≡◌, List, [], ◌∷◌, nat_abs, Option, Some, None}
 use Rattle.float.specs.Double.{Stepped, Limit, Doubles}
 use Rattle.geometry.specs.declared.Box.{Box}
 use Rattle.units.specs.Doubles.{DoublesPoint, DoublesSize}
 use Rattle.offsets.specs.declared.offset.Offset.{Offset}
-use Rattle.free_places.specs.declared.Found.{Found}
-use Rattle.free_places.specs.declared.Found.TheVariants.{At, Nowhere}
+use Rattle.geometry.specs.declared.Point.{Point}
 use Rattle.free_places.specs.Search.{Frame}
 
 pub record DoublesBox (lo top : ℕ) (b b' : Box) : Type 0 where
@@ -21,11 +20,11 @@ pub record DoublesFrame (lo top : ℕ) (r r' : Frame) : Type 0 where
   pub same : r'.buffer ≡ r.buffer
   pub gap : Stepped 1021 (8 * 2 ^ 1074) r.buffer
 
-abbrev pub DoublesFound : ℕ → ℕ → Found → Found → Type 0
-DoublesFound lo top (At c) (At c') = DoublesPoint lo top c c'
-DoublesFound lo top (At c) Nowhere = ⊥
-DoublesFound lo top Nowhere (At c') = ⊥
-DoublesFound lo top Nowhere Nowhere = Unit
+abbrev pub DoublesFound : ℕ → ℕ → Option Point → Option Point → Type 0
+DoublesFound lo top (Some c) (Some c') = DoublesPoint lo top c c'
+DoublesFound lo top (Some c) None = ⊥
+DoublesFound lo top None (Some c') = ⊥
+DoublesFound lo top None None = Unit
 
 -- offsets of at most 20 either way
 abbrev pub Small : List Offset → Type 0

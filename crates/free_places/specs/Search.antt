@@ -1,5 +1,5 @@
 -- 5. The first free place of one station. Definitions only.
-use Rattle.std.specs.Prelude.{ℕ, ◌<◌, ◌≡◌, ◌⊎◌, Bool, true, false, not, ◌&&◌, List, [], ◌∷◌, ◌++◌, map, length, get_or, Float}
+use Rattle.std.specs.Prelude.{ℕ, ◌<◌, ◌≡◌, ◌⊎◌, Bool, true, false, not, ◌&&◌, List, [], ◌∷◌, ◌++◌, map, length, get_or, Float, Option, Some, None, unwrap_or}
 use Rattle.float.specs.Ops.{int, f0, f1, f2, f4, ◌⊕◌, ◌⊖◌, ◌⊗◌, ◌⊘◌}
 use Rattle.order.specs.Order.{pick}
 use Rattle.order.specs.Table.{table}
@@ -10,8 +10,6 @@ use Rattle.proximity.specs.Overlap.{overlap}
 use Rattle.measures.specs.declared.Measures.{Measures}
 use Rattle.sizes.specs.Size.{Size, size_at, larger}
 use Rattle.offsets.specs.declared.offset.Offset.{Offset}
-use Rattle.free_places.specs.declared.Found.{Found}
-use Rattle.free_places.specs.declared.Found.TheVariants.{At, Nowhere}
 
 -- What a station's interior is drawn in: its half sides, its block f, unit × scale, and its buffer in blocks.
 pub record Frame : Type 0 where
@@ -57,24 +55,19 @@ place seed z widening o =
     point (seed.x ⊕ int o.a ⊗ larger z ⊗ widening) (seed.y ⊕ int o.b ⊗ larger z ⊗ widening)
 
 -- the first free place among these offsets at one widening
-unfoldable pub first_free : Point → Frame → List Box → Float → List Offset → Found
-first_free seed r earlier widening [] = Nowhere
+unfoldable pub first_free : Point → Frame → List Box → Float → List Offset → Option Point
+first_free seed r earlier widening [] = None
 first_free seed r earlier widening (o ∷ os) =
     let later = first_free seed r earlier widening os in
     let c = place seed r.half widening o in
-    pick (free (buffered c r) earlier) (At c) later
-
--- the place found, or p where none was
-abbrev pub or_next : Found → Point → Point
-or_next (At c) p = c
-or_next Nowhere p = p
+    pick (free (buffered c r) earlier) (Some c) later
 
 -- For widening 1, 2, 4 the first free one in this order, and if none is free the seed.
 unfoldable pub place_for : Point → Frame → List Box → List Offset → Point
 place_for seed r earlier os =
-    let at4 = or_next (first_free seed r earlier f4 os) seed in
-    let at2 = or_next (first_free seed r earlier f2 os) at4 in
-    or_next (first_free seed r earlier f1 os) at2
+    let at4 = unwrap_or (first_free seed r earlier f4 os) seed in
+    let at2 = unwrap_or (first_free seed r earlier f2 os) at4 in
+    unwrap_or (first_free seed r earlier f1 os) at2
 
 -- the places of the search, in their order: for widening 1, 2, 4 all offsets
 abbrev pub tries : Point → Size → List Offset → List Point

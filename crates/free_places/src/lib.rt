@@ -16,25 +16,16 @@ use offset_table::{is_inside, pair_at};
 use offsets::offset::Offset;
 use proximity::overlaps;
 
-// A free place, or none.
-#[derive(Clone, Copy)]
-pub enum Found {
-    At(Point),
-    Nowhere,
-}
-
 // Whether p strictly overlaps none of the boxes of a stretch of the kept stations.
 fn is_free(p: Box, boxes: &[f64], sorted: &[u32], t: Stretch) -> bool
     requires { (t.end ≤ length sorted.now) × All (λ s. 4 * s + 3 < length boxes.now) (take t.end sorted.now) }
     ensures { result ≡ free p (boxes_among boxes.now t.first t.end sorted.now) }
 {
     let end = t.end;
-    let mut j = t.first;
-    while j < end {
+    for j in t.first..end {
         if overlaps(p, box_at(boxes, sorted[j] as usize)) {
             return false;
         }
-        j += 1;
     }
     true
 }
@@ -100,7 +91,7 @@ fn first_free(
     sorted: &[u32],
     count: usize,
     most: u64,
-) -> Found
+) -> Option<Point>
     requires { (search ≤ 20) × Holds unit boxes.now count most keys.now sorted.now }
     ensures { result ≡ first_free seed (frame w h f buffer) (kept_boxes boxes.now count sorted.now) widening (skipped search (pairs_in a.now b.now)) }
 {
@@ -121,14 +112,14 @@ fn first_free(
             firsts[i] = t.first;
             ends[i] = t.end;
             if is_free(p, boxes, sorted, t) {
-                return Found::At(c);
+                return Some(c);
             }
             j += 1;
         } else {
             j += 1; // skipped
         }
     }
-    Found::Nowhere
+    None
 }
 
 // The first free place at widening 1, 2, 4, else the seed.
@@ -154,25 +145,17 @@ pub fn place_for(
     let near = first_free(
         seed, w, h, f, buffer, 1.0, a, b, search, unit, boxes, keys, sorted, count, most,
     );
-    match near {
-        Found::At(c) => c,
-        Found::Nowhere => {
-            let wide = first_free(
-                seed, w, h, f, buffer, 2.0, a, b, search, unit, boxes, keys, sorted, count, most,
-            );
-            match wide {
-                Found::At(c) => c,
-                Found::Nowhere => {
-                    let widest = first_free(
-                        seed, w, h, f, buffer, 4.0, a, b, search, unit, boxes, keys, sorted, count,
-                        most,
-                    );
-                    match widest {
-                        Found::At(c) => c,
-                        Found::Nowhere => seed,
-                    }
-                }
-            }
-        }
+    if let Some(c) = near {
+        return c;
     }
+    let wide = first_free(
+        seed, w, h, f, buffer, 2.0, a, b, search, unit, boxes, keys, sorted, count, most,
+    );
+    if let Some(c) = wide {
+        return c;
+    }
+    let widest = first_free(
+        seed, w, h, f, buffer, 4.0, a, b, search, unit, boxes, keys, sorted, count, most,
+    );
+    widest.unwrap_or(seed)
 }

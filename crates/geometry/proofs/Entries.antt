@@ -18,21 +18,19 @@ use Rattle.float.proofs.Floors.{round_neg}
 use Rattle.float.proofs.Sums.{zero_round, add_commutes}
 use Rattle.geometry.specs.declared.Point.{Point}
 use Rattle.geometry.specs.declared.Box.{Box}
-use Rattle.geometry.specs.declared.Clip.{Clip}
-use Rattle.geometry.specs.declared.Clip.TheVariants.{Miss, Part}
-use Rattle.geometry.specs.declared.entry.Entry.TheVariants.{Missed, Place}
-use Rattle.geometry.specs.Clip.{part, cut, clip_by, met, clipped, hits}
-use Rattle.geometry.specs.Entry.{entry_of, enters, is_entered, along_side, place_of}
+use Rattle.std.specs.Prelude.{Option, Some, None, is_some, option_map}
+use Rattle.geometry.specs.Clip.{part, cut, clip_by, clipped, hits}
+use Rattle.geometry.specs.Entry.{enters, along_side, place_of}
 use Rattle.geometry.proofs.Clips.{right_test}
 
 -- a box is entered just where it is hit
-pub hits_enters : (p q : Point) (b : Box) → hits p q b ≡ is_entered (enters p q b)
+pub hits_enters : (p q : Point) (b : Box) → hits p q b ≡ is_some (enters p q b)
 unfolding hits enters
 hits_enters p q b = go (clipped p q b)
   where
-    go : (c : Clip) → met c ≡ is_entered (entry_of c)
-    go Miss = unfold met entry_of is_entered in refl
-    go (Part t0 t1) = unfold met entry_of is_entered in refl
+    go : (c : Option (Float × Float)) → is_some c ≡ is_some (option_map (λ part. part.0) c)
+    go None = refl
+    go (Some (t0, t1)) = refl
 
 -- ---- signs
 twice : (x : Float) → neg (neg x) ≡ x
@@ -204,23 +202,23 @@ swap_max t x y d h k = go (sub_turned y x)
         by (inr e) = zeros e.1 ∙ sym (zeros-2 e.0)
 
 -- what is left begins at t
-StartsAt : Clip → Float → Type 0
-StartsAt Miss t = Unit {0}
-StartsAt (Part t0 t1) t = t0 ≡ t
+StartsAt : Option (Float × Float) → Float → Type 0
+StartsAt None t = Unit {0}
+StartsAt (Some (t0, t1)) t = t0 ≡ t
 
 part_starts : (t0 t1 : Float) → StartsAt (part t0 t1) t0
 unfolding part StartsAt
 part_starts t0 t1 = go (lt t1 t0)
   where
-    go : (b : Bool) → StartsAt (cond b Miss (Part t0 t1)) t0
+    go : (b : Bool) → StartsAt (cond b None (Some (t0, t1))) t0
     go true = tt
     go false = refl
 
-clip_starts : (p q t u : Float) → (eq p f0 ≡ true → lt p f0 ≡ false) → StartsAt (clip_by p q (Part t u)) (cond (lt p f0) (max_of t (q ⊘ p)) t)
+clip_starts : (p q t u : Float) → (eq p f0 ≡ true → lt p f0 ≡ false) → StartsAt (clip_by p q (Some (t, u))) (cond (lt p f0) (max_of t (q ⊘ p)) t)
 unfolding clip_by cut StartsAt
 clip_starts p q t u h = go (eq p f0) (lt q f0) (lt p f0) h
   where
-    go : (a b c : Bool) → (a ≡ true → c ≡ false) → StartsAt (cond a (cond b Miss (Part t u)) (cut c (q ⊘ p) t u)) (cond c (max_of t (q ⊘ p)) t)
+    go : (a b c : Bool) → (a ≡ true → c ≡ false) → StartsAt (cond a (cond b None (Some (t, u))) (cut c (q ⊘ p) t u)) (cond c (max_of t (q ⊘ p)) t)
     go true true c h = tt
     go true false true h = absurd (true≢false (h refl))
     go true false false h = refl
@@ -255,8 +253,8 @@ above_not_below d h = go (lt d f0) refl
 
 -- one direction of the clip test
 module _ (low high start d : Float) where
-  side_starts : (t u : Float) → T (plus t) → StartsAt (clip_by d (high ⊖ start) (clip_by (neg d) (start ⊖ low) (Part t u))) (along_side low high start d t)
-  side_starts t u h = go (clip_by (neg d) (start ⊖ low) (Part t u)) (clip_starts (neg d) (start ⊖ low) t u (zero_not_below (neg d)))
+  side_starts : (t u : Float) → T (plus t) → StartsAt (clip_by d (high ⊖ start) (clip_by (neg d) (start ⊖ low) (Some (t, u)))) (along_side low high start d t)
+  side_starts t u h = go (clip_by (neg d) (start ⊖ low) (Some (t, u))) (clip_starts (neg d) (start ⊖ low) t u (zero_not_below (neg d)))
     where
       first : cond (lt (neg d) f0) (max_of t ((start ⊖ low) ⊘ neg d)) t ≡ cond (lt f0 d) (max_of t ((low ⊖ start) ⊘ d)) t
       first = ap (λ (b : Bool). cond b (max_of t ((start ⊖ low) ⊘ neg d)) t) (neg_lt d) ∙ by (lt f0 d) refl
@@ -273,9 +271,9 @@ module _ (low high start d : Float) where
           by true false k = refl
           by false c k = refl
 
-      go : (c : Clip) → StartsAt c (cond (lt (neg d) f0) (max_of t ((start ⊖ low) ⊘ neg d)) t) → StartsAt (clip_by d (high ⊖ start) c) (along_side low high start d t)
-      go Miss k = unfold clip_by StartsAt in tt
-      go (Part a v) k = subst (StartsAt (clip_by d (high ⊖ start) (Part a v))) (second a (unfold StartsAt in k)) (clip_starts d (high ⊖ start) a v (zero_not_below d))
+      go : (c : Option (Float × Float)) → StartsAt c (cond (lt (neg d) f0) (max_of t ((start ⊖ low) ⊘ neg d)) t) → StartsAt (clip_by d (high ⊖ start) c) (along_side low high start d t)
+      go None k = unfold clip_by StartsAt in tt
+      go (Some (a, v)) k = subst (StartsAt (clip_by d (high ⊖ start) (Some (a, v)))) (second a (unfold StartsAt in k)) (clip_starts d (high ⊖ start) a v (zero_not_below d))
 
 -- ---- both directions
 above_plus : (t r : Float) → T (plus t) → lt t r ≡ true → T (plus r)
@@ -324,20 +322,20 @@ clipped_starts p q b = go (right_test p q b) (side_starts b.left b.right p.x (q.
     along-x : Float
     along-x = along_side b.left b.right p.x (q.x ⊖ p.x) f0
 
-    go : (c : Clip) → StartsAt c along-x → StartsAt (clip_by (q.y ⊖ p.y) (b.bottom ⊖ p.y) (clip_by (neg (q.y ⊖ p.y)) (p.y ⊖ b.top) c)) (along_side b.top b.bottom p.y (q.y ⊖ p.y) along-x)
-    go Miss h = unfold clip_by StartsAt in tt
-    go (Part t u) h = at (unfold StartsAt in h)
+    go : (c : Option (Float × Float)) → StartsAt c along-x → StartsAt (clip_by (q.y ⊖ p.y) (b.bottom ⊖ p.y) (clip_by (neg (q.y ⊖ p.y)) (p.y ⊖ b.top) c)) (along_side b.top b.bottom p.y (q.y ⊖ p.y) along-x)
+    go None h = unfold clip_by StartsAt in tt
+    go (Some (t, u)) h = at (unfold StartsAt in h)
       where
-        at : t ≡ along-x → StartsAt (clip_by (q.y ⊖ p.y) (b.bottom ⊖ p.y) (clip_by (neg (q.y ⊖ p.y)) (p.y ⊖ b.top) (Part t u))) (along_side b.top b.bottom p.y (q.y ⊖ p.y) along-x)
+        at : t ≡ along-x → StartsAt (clip_by (q.y ⊖ p.y) (b.bottom ⊖ p.y) (clip_by (neg (q.y ⊖ p.y)) (p.y ⊖ b.top) (Some (t, u)))) (along_side b.top b.bottom p.y (q.y ⊖ p.y) along-x)
         at e =
-            subst (λ (x : Float). StartsAt (clip_by (q.y ⊖ p.y) (b.bottom ⊖ p.y) (clip_by (neg (q.y ⊖ p.y)) (p.y ⊖ b.top) (Part t u))) (along_side b.top b.bottom p.y (q.y ⊖ p.y) x)) e
+            subst (λ (x : Float). StartsAt (clip_by (q.y ⊖ p.y) (b.bottom ⊖ p.y) (clip_by (neg (q.y ⊖ p.y)) (p.y ⊖ b.top) (Some (t, u)))) (along_side b.top b.bottom p.y (q.y ⊖ p.y) x)) e
             (side_starts b.top b.bottom p.y (q.y ⊖ p.y) t u (subst (λ (x : Float). T (plus x)) (sym e) (along_plus b.left b.right p.x (q.x ⊖ p.x) f0 none_plus)))
 
 -- 02's words: a box that is hit is entered at the largest of 0 and, in each direction that the piece moves in, (edge first met − start) / (end − start)
-pub enters_place : (p q : Point) (b : Box) → enters p q b ≡ cond (hits p q b) (Place (place_of p q b)) Missed
+pub enters_place : (p q : Point) (b : Box) → enters p q b ≡ cond (hits p q b) (Some (place_of p q b)) None
 unfolding enters hits
 enters_place p q b = go (clipped p q b) (clipped_starts p q b)
   where
-    go : (c : Clip) → StartsAt c (place_of p q b) → entry_of c ≡ cond (met c) (Place (place_of p q b)) Missed
-    go Miss h = unfold met entry_of in refl
-    go (Part t0 t1) h = unfold met entry_of StartsAt in ap Place h
+    go : (c : Option (Float × Float)) → StartsAt c (place_of p q b) → option_map (λ part. part.0) c ≡ cond (is_some c) (Some (place_of p q b)) None
+    go None h = refl
+    go (Some (t0, t1)) h = unfold StartsAt in ap Some h

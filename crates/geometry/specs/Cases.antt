@@ -1,14 +1,12 @@
 -- 01's cases marked ● that concern pieces and boxes, as a table and one theorem. Floats stand by their bits.
-use Rattle.std.specs.Prelude.{◌≡◌, refl, ℕ, Bool, true, false, List, [], ◌∷◌, map}
+use Rattle.std.specs.Prelude.{◌≡◌, refl, ℕ, Bool, true, false, List, [], ◌∷◌, map, Float, Option, Some, None}
 use Rattle.std.specs.Float.{binary64}
 use Rattle.std.specs.Float.Ieee.{of_bits, lt, eq, neg, sub, div}
 use Rattle.float.specs.Small.{max_of, min_of}
 use Rattle.float.specs.Ops.{f0, f1}
 use Rattle.geometry.specs.Plane.{point, box_at}
-use Rattle.geometry.specs.declared.entry.Entry.{Entry}
-use Rattle.geometry.specs.declared.entry.Entry.TheVariants.{Missed, Place}
-use Rattle.geometry.specs.Clip.{part, cut, clip_by, met, clipped, hits}
-use Rattle.geometry.specs.Entry.{entry_of, enters}
+use Rattle.geometry.specs.Clip.{part, cut, clip_by, clipped, hits}
+use Rattle.geometry.specs.Entry.{enters}
 
 -- does the piece (0, 0) to (1, 0) hit the box
 abbrev hit : List ℕ → Bool
@@ -21,13 +19,13 @@ boxes =
     ∷ (0x3FF8_0000_0000_0000 ∷ 0 ∷ 0x4000_0000_0000_0000 ∷ 0x3FF0_0000_0000_0000 ∷ []) ∷ []
 
 pub worked : map hit boxes ≡ true ∷ false ∷ []
-unfolding hits clipped clip_by cut part met of_bits lt eq neg sub div max_of min_of
+unfolding hits clipped clip_by cut part of_bits lt eq neg sub div max_of min_of
 worked = refl
 
 -- where that piece enters the box: the first at its end
-abbrev entry : List ℕ → Entry
+abbrev entry : List ℕ → Option Float
 entry b = enters (point f0 f0) (point f1 f0) (box_at (map (of_bits binary64) b) 0)
 
-pub places : map entry boxes ≡ Place f1 ∷ Missed ∷ []
-unfolding enters entry_of clipped clip_by cut part of_bits lt eq neg sub div max_of min_of
+pub places : map entry boxes ≡ Some f1 ∷ None ∷ []
+unfolding enters clipped clip_by cut part of_bits lt eq neg sub div max_of min_of
 places = refl

@@ -1,29 +1,15 @@
 -- The clip test with its place (02, change 9): where a piece enters a box, or a miss. Definitions only.
-use Rattle.std.specs.Prelude.{Bool, true, false, cond, Float}
+use Rattle.std.specs.Prelude.{cond, Float, Option, option_map}
 use Rattle.std.specs.Float.Ieee.{lt}
 use Rattle.float.specs.Small.{max_of}
 use Rattle.float.specs.Ops.{◌⊖◌, ◌⊘◌, f0}
 use Rattle.geometry.specs.declared.Point.{Point}
 use Rattle.geometry.specs.declared.Box.{Box}
-use Rattle.geometry.specs.declared.Clip.{Clip}
-use Rattle.geometry.specs.declared.Clip.TheVariants.{Miss, Part}
-use Rattle.geometry.specs.declared.entry.Entry.{Entry}
-use Rattle.geometry.specs.declared.entry.Entry.TheVariants.{Missed, Place}
 use Rattle.geometry.specs.Clip.{clipped}
 
--- where what is left of a piece begins
-unfoldable pub entry_of : Clip → Entry
-entry_of Miss = Missed
-entry_of (Part t0 t1) = Place t0
-
--- where the piece from p to q enters the box b, or a miss
-unfoldable pub enters : Point → Point → Box → Entry
-enters p q b = entry_of (clipped p q b)
-
--- the box is entered
-unfoldable pub is_entered : Entry → Bool
-is_entered Missed = false
-is_entered (Place t) = true
+-- where the piece from p to q enters the box b: where what is left of it begins; or a miss
+unfoldable pub enters : Point → Point → Box → Option Float
+enters p q b = option_map (λ part. part.0) (clipped p q b)
 
 -- 02's words for the place (proofs Entries): the larger of a number and, where the piece moves by d in a direction, (edge first met − start) / (end − start)
 unfoldable pub along_side : Float → Float → Float → Float → Float → Float

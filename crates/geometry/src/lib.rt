@@ -4,7 +4,7 @@
 ghost use Rattle.std.specs.Prelude.{◌≡◌, ◌+◌, ◌*◌, ◌<◌, length, get_or};
 ghost use Rattle.std.specs.Float.{nan};
 ghost use Rattle.geometry.specs.Plane.{point_at, box_at, shrunk};
-ghost use Rattle.geometry.specs.Clip.{part, clip_by, met, hits};
+ghost use Rattle.geometry.specs.Clip.{part, clip_by, clipped, hits};
 
 use float::small::{max, min};
 
@@ -24,13 +24,6 @@ pub struct Box {
     pub top: f64,
     pub right: f64,
     pub bottom: f64,
-}
-
-// What is left of a piece after some of a box's four sides: nothing, or the part between two places on it.
-#[derive(Clone, Copy)]
-pub enum Clip {
-    Miss,
-    Part(f64, f64),
 }
 
 // The box s of a list that holds four numbers for each.
@@ -59,26 +52,20 @@ pub fn shrunk(b: Box) -> Box
 }
 
 // The part from t0 to t1, unless it is turned round.
-fn part(t0: f64, t1: f64) -> Clip
+fn part(t0: f64, t1: f64) -> Option<(f64, f64)>
     ensures { result ≡ part t0 t1 }
 {
-    if t1 < t0 {
-        Clip::Miss
-    } else {
-        Clip::Part(t0, t1)
-    }
+    if t1 < t0 { None } else { Some((t0, t1)) }
 }
 
-// One side of a box: p is how fast the piece nears it, q how far off it starts.
-fn clip_by(p: f64, q: f64, c: Clip) -> Clip
+// What one side of a box leaves of a piece, of which the others left c: p is how fast the piece nears the side, q how far off it starts.
+fn clip_by(p: f64, q: f64, c: Option<(f64, f64)>) -> Option<(f64, f64)>
     ensures { result ≡ clip_by p q c }
 {
-    let Clip::Part(t0, t1) = c else {
-        return Clip::Miss;
-    };
+    let (t0, t1) = c?;
     if p == 0.0 {
         if q < 0.0 {
-            return Clip::Miss;
+            return None;
         }
         return c;
     }
@@ -88,27 +75,23 @@ fn clip_by(p: f64, q: f64, c: Clip) -> Clip
     part(t0, min(t1, q / p))
 }
 
-// Whether anything is left.
-fn met(c: Clip) -> bool
-    ensures { result ≡ met c }
+// What a box leaves of the piece from p to q: the part between two places on it, or nothing.
+fn clipped(p: Point, q: Point, b: Box) -> Option<(f64, f64)>
+    ensures { result ≡ clipped p q b }
 {
-    if let Clip::Part(_, _) = c {
-        true
-    } else {
-        false
-    }
+    let dx = q.x - p.x;
+    let dy = q.y - p.y;
+    let c1 = clip_by(-dx, p.x - b.left, Some((0.0, 1.0)));
+    let c2 = clip_by(dx, b.right - p.x, c1);
+    let c3 = clip_by(-dy, p.y - b.top, c2);
+    clip_by(dy, b.bottom - p.y, c3)
 }
 
 // Whether the piece from p to q meets the box.
 pub fn piece_hits(p: Point, q: Point, b: Box) -> bool
     ensures { result ≡ hits p q b }
 {
-    let dx = q.x - p.x;
-    let dy = q.y - p.y;
-    let c1 = clip_by(-dx, p.x - b.left, Clip::Part(0.0, 1.0));
-    let c2 = clip_by(dx, b.right - p.x, c1);
-    let c3 = clip_by(-dy, p.y - b.top, c2);
-    met(clip_by(dy, b.bottom - p.y, c3))
+    clipped(p, q, b).is_some()
 }
 
 // Whether the piece from p to q meets the box whose four numbers are b, a part of a box list.

@@ -22,22 +22,17 @@ pub struct Grid {
 }
 
 // The column or row, of so many, of a coordinate.
+#[tactic(auto, unfolding(crate::specs::Stages::Cells::cell_at))]
 pub fn cell(unit: f64, low: f64, most: usize, x: f64) -> usize
     requires { (1 ≤ most) × (most ≤ 16384) }
     ensures { (result ≡ cell_at unit low most x) × (result < most) }
 {
-    let c = cell_key(unit, x - low);
-    if c < 4503599627370496 {
-        return 0;
-    }
-    let n = (c - 4503599627370496) as usize;
-    if n < most {
-        return n;
-    }
-    most - 1
+    let c = cell_key(unit, x - low).saturating_sub(4503599627370496);
+    (c as usize).min(most - 1)
 }
 
 // The column of an x.
+#[tactic(auto, unfolding(crate::specs::Stages::Cells::column_of))]
 pub fn column(g: Grid, x: f64) -> usize
     requires { (1 ≤ g.columns) × (g.columns ≤ 16384) }
     ensures { (result ≡ column_of g x) × (result < g.columns) }
@@ -46,6 +41,7 @@ pub fn column(g: Grid, x: f64) -> usize
 }
 
 // The row of a y.
+#[tactic(auto, unfolding(crate::specs::Stages::Cells::row_of))]
 pub fn row(g: Grid, y: f64) -> usize
     requires { (1 ≤ g.rows) × (g.rows ≤ 16384) }
     ensures { (result ≡ row_of g y) × (result < g.rows) }
@@ -54,22 +50,21 @@ pub fn row(g: Grid, y: f64) -> usize
 }
 
 // The chain of a box.
+#[tactic(auto, unfolding(crate::specs::Stages::Cells::chain_of))]
 pub fn chain_of(g: Grid, b: Box) -> usize
     requires { (1 ≤ g.columns) × (1 ≤ g.rows) × (g.columns ≤ 16384) × (g.rows ≤ 16384) }
     ensures { (result ≡ chain_of g b) × (result ≤ g.columns * g.rows) }
 {
     let c = column(g, b.left);
     let r = row(g, b.top);
-    if c + 1 < column(g, b.right) {
-        return 0;
-    }
-    if r + 1 < row(g, b.bottom) {
+    if c + 1 < column(g, b.right) || r + 1 < row(g, b.bottom) {
         return 0;
     }
     1 + r * g.columns + c
 }
 
 // The grid that the list holds.
+#[tactic(auto, unfolding(crate::specs::Stages::Cells::grid_in))]
 pub fn grid_of(k: usize, frames: &[f64], index: &[u32]) -> Grid
     requires { 4 * k ≤ length frames.now }
     ensures { result ≡ grid_in (boxes_in k frames.now) index.now }

@@ -11,10 +11,8 @@ fn channel_keys(numbers: &[u32], keys: &mut [u64])
     requires { length keys.old ≤ 2 ^ 32 }
     ensures { keys.new ≡ strided 3 0 0 (length keys.old) numbers.now }
 {
-    let mut x = 0;
-    while x < keys.len() {
+    for x in 0..keys.len() {
         keys[x] = at(numbers, 3 * x) as u64;
-        x += 1;
     }
 }
 
@@ -23,10 +21,8 @@ fn copy_order(order: &[u32], numbers: &mut [u32])
     requires { (length order.now ≤ 2 ^ 32) × (3 * length order.now ≤ length numbers.old) }
     ensures { Copied order.now numbers.old numbers.new }
 {
-    let mut j = 0;
-    while j < order.len() {
+    for j in 0..order.len() {
         numbers[3 * j + 2] = order[j];
-        j += 1;
     }
 }
 

@@ -1,3 +1,2 @@
 -- Laws of half-edges by their corner.
 pub mod Rounds
-mod Copying

@@ -1,7 +1,7 @@
--- The half-edges in the order of their first corners: those of one corner stand in one stretch, by number, and halving finds where it begins. Assumes nothing.
+-- The half-edges in the order of their first corners: those of one corner stand in one stretch, by number, and those of lower corners before it. Assumes nothing.
 use mathlib.Core.Path.{◌≡◌, sym, ap, ◌∙◌}
 use mathlib.Core.Logic.{◌⊎◌, ⊎_elim}
-use mathlib.Core.Bool.{Bool, false}
+use mathlib.Core.Bool.{Bool, true, false}
 use mathlib.Core.List.{List, [], ◌∷◌, ◌++◌}
 use Prim.Native.Nat.{ℕ, zero, suc, ◌+◌, ◌-◌, ◌≤◌, ◌<◌, zero-le}
 use native.Mathlib.Omega.{arith}
@@ -9,7 +9,9 @@ use native.Mathlib.Nat.{add-zero, add-suc, suc-add, zero-add}
 use lib.Dec.{ltb, eqb}
 use lib.ListN.{length, get_or, take, drop, drop_of_length-le}
 use lib.Seq.{drop-cons, get_or-take, take_at}
-use borrow.Author.Tests.{lt-ltb, le-ltb, ne_eqb}
+use borrow.Author.Tests.{lt-ltb, le-ltb, ne_eqb, ltb-true, ltb-false}
+use Rattle.std.specs.List.Sorted.{IsPartitionedBy, IsPartitionPoint}
+use Rattle.std.proofs.lemmas.List.Sorted.{IsPartitionedBy-ltb, IsNonDecreasingBy-from_default}
 use Rattle.order.specs.Order.{key_at, sort_by, up_from, count, keep}
 use Rattle.order.proofs.Merging.{le_or_lt, length_sort}
 use Rattle.order.proofs.Laws.{Rising, all_map, all_at, count_yes, count_no, count_nil, count_none, count_sort, rising_sort, sorted, stable, keep_no, length_up, below_sort}
@@ -143,32 +145,17 @@ module _ (corners : List ℕ) where
         keep_past own (round_of corners) (length corners - p) p (omega (arith, length_round)) (λ j g k. ne_eqb (corner_at j) v (λ e. n (omega (arith, from_first p l h, round_rises p j g (omega arith)))))
         ∙ round_out (p + (length corners - p)) (omega arith)
 
-  -- ---- the search by halving
-
-  -- lower corners stand before lo, others from hi on
-  pub record Halving (v lo hi : ℕ) : Type 0 where
-    pub between : lo ≤ hi
-    pub within : hi ≤ length corners
-    pub below : (j : ℕ) → j < lo → corner_at j < v
-    pub above : (j : ℕ) → hi ≤ j → j < length corners → v ≤ corner_at j
-
-  pub halve_start : (v : ℕ) → Halving v 0 (length corners)
-  halve_start v = record { between = zero-le; within = omega arith; below = λ j h. absurd (omega arith); above = λ j h l. absurd (omega arith) }
-
   -- where a list begins with this order, it is read there
   pub round_read : (l : List ℕ) → take (length corners) l ≡ round_of corners → (p : ℕ) → p < length corners → get_or l p 0 ≡ get_or (round_of corners) p 0
   round_read l e p h = sym (get_or-take (length corners) l p 0 h) ∙ ap (λ (k : List ℕ). get_or k p 0) e
 
-  module _ (l : List ℕ) (e : take (length corners) l ≡ round_of corners) (v lo hi m k : ℕ) (g : lo ≤ m) (h : m < hi) (q : k ≡ at corners (get_or l m 0)) (r : Halving v lo hi) where
-    -- k is the corner at the place m between the two
-    mid : k ≡ corner_at m
-    mid = q ∙ ap (at corners) (round_read l e m (omega (arith, r.within)))
+  -- ---- the search: those that start below v stand first
+  pub round_parted : (v : ℕ) → IsPartitionedBy (λ h. ltb (at corners h) v) (round_of corners)
+  round_parted v =
+      IsPartitionedBy-ltb (at corners) (round_of corners) v
+      (IsNonDecreasingBy-from_default (at corners) (round_of corners) 0 (λ i j h l. round_rises i j h (rw length_round at l)))
 
-    pub halve_up : k < v → Halving v (m + 1) hi
-    halve_up c = record { between = omega arith; within = r.within; below = λ j i. let z = round_rises j m (omega arith) (omega (arith, r.within)) in omega (arith, mid); above = r.above }
-
-    pub halve_down : v ≤ k → Halving v lo m
-    halve_down c = record { between = g; within = omega (arith, r.within); below = r.below; above = λ j i n. let z = round_rises m j i n in omega (arith, mid) }
-
-  pub halve_end : (v lo hi : ℕ) → hi ≤ lo → Halving v lo hi → lo ≡ first_at corners v
-  halve_end v lo hi h r = first_is v lo (omega (arith, r.between, r.within)) r.below (λ j i n. r.above j (omega arith) n)
+  pub first_found : (v p : ℕ) → p ≤ length (round_of corners)
+      → IsPartitionPoint (λ h. ltb (at corners h) v ≡ true) (λ h. ltb (at corners h) v ≡ false) (round_of corners) p → p ≡ first_at corners v
+  first_found v p h w =
+      first_is v p (rw length_round at h) (λ j l. ltb-true _ _ (w.0 j 0 zero-le l)) (λ j g l. ltb-false _ _ (w.1 j 0 g (omega (arith, length_round))))

@@ -11,10 +11,8 @@ fn widen(corners: &[u32], keys: &mut [u64])
     requires { length keys.old ≡ length corners.now }
     ensures { keys.new ≡ corners.now }
 {
-    let mut i = 0;
-    while i < corners.len() {
-        keys[i] = corners[i] as u64;
-        i += 1;
+    for (i, &c) in corners.iter().enumerate() {
+        keys[i] = c as u64;
     }
 }
 
@@ -41,27 +39,10 @@ pub fn go_round(corners: &[u32], keys: &mut [u64], around: &mut [u32], spare: &m
     round_all(corners, &mut keys[..n], &mut around[..n], &mut spare[..n]);
 }
 
-// The corner that the half-edge at place p of `around` starts at.
-fn start_at(corners: &[u32], around: &[u32], p: usize) -> u32
-    ensures { result ≡ get_or corners.now (get_or around.now p 0) 0 }
-{
-    at(corners, at(around, p) as usize)
-}
-
 // Where the half-edges that start at corner v begin in `around`, by halving.
 pub fn first_at(corners: &[u32], around: &[u32], v: usize) -> usize
     requires { take (length corners.now) around.now ≡ round_of corners.now }
     ensures { result ≡ first_at corners.now v }
 {
-    let mut lo = 0;
-    let mut hi = corners.len();
-    while lo < hi {
-        let mid = lo + (hi - lo) / 2;
-        if (start_at(corners, around, mid) as usize) < v {
-            lo = mid + 1;
-        } else {
-            hi = mid;
-        }
-    }
-    lo
+    around[..corners.len()].partition_point(|&h| (at(corners, h as usize) as usize) < v)
 }

@@ -120,22 +120,3 @@ has_room s r l k b q m x h =
         never : m * b + k < 0 * 0 → ⊥
         never h = omega arith
     some (suc q) h = omega arith
-
-pub wide_extends : (hi lo s r : ℕ) → 2 ^ 52 ≤ hi → hi < 2 ^ 56 → lo < 2 ^ 54 → IsRoot s r hi → Extends s r (lo / 2 ^ 27) (lo % 2 ^ 27) (2 ^ 27)
-wide_extends hi lo s r a b c x = record {
-  left = x.left;
-  first = omega arith;
-  second = omega arith;
-  enough = big (sq_lt_back (2 ^ 26) (s + 1) (above x.sum x.left));
-  small = sq_lt_back s (2 ^ 28) (under x.sum);
-  base = omega arith;
-}
-  where
-    big : 2 ^ 26 < s + 1 → 2 ^ 27 ≤ 2 * s
-    big h = omega arith
-
-    above : s * s + r ≡ hi → r ≤ 2 * s → 2 ^ 26 * 2 ^ 26 < (s + 1) * (s + 1)
-    above e l = omega arith
-
-    under : s * s + r ≡ hi → s * s < 2 ^ 28 * 2 ^ 28
-    under e = omega arith

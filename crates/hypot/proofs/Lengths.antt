@@ -136,9 +136,6 @@ squares_lt x y p X Y =
     sum : (a b : ℕ) → a < 2 ^ 108 → b < 2 ^ 108 → a + b < 2 ^ 109
     sum a b h k = omega arith
 
-pub wide_lt : (hi lo n : ℕ) → hi * 2 ^ 54 + lo ≡ n → n < 2 ^ 109 → hi < 2 ^ 56
-wide_lt hi lo n e h = omega arith
-
 -- the root is not below the longer side's double
 pub root_ge : (x b s r : ℕ) → s * s + r ≡ 2 * x * (2 * x) + b → r ≤ 2 * s → 2 * x ≤ s
 root_ge x b s r h l = down (sq_lt_back (2 * x) (s + 1) (up (2 * x * (2 * x)) h))

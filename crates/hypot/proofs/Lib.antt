@@ -1,5 +1,4 @@
 -- Laws that the functions' proofs use.
-pub mod Guesses
 pub mod Extend
 pub mod Lengths
 pub mod Words

@@ -9,14 +9,6 @@ use Rattle.float.specs.Stages.Steps.{IsWide}
 use Rattle.float.proofs.Rounding.{sq_lt_back}
 
 -- ---- a square
-pub product : (a b : ℕ) → a < 2 ^ 27 → b < 2 ^ 27 → a * b < 2 ^ 54
-product a b ha hb = lt_of_le_of_lt (mul-le-mul_left a (le_of_lt hb)) (mul-lt-mul_of_pos_right ha (pow_pos 27))
-
-pub products : (v : ℕ) → v < 2 ^ 54 → (v / 2 ^ 27 * (v % 2 ^ 27) < 2 ^ 54) × (v % 2 ^ 27 * (v % 2 ^ 27) < 2 ^ 54) × (v / 2 ^ 27 * (v / 2 ^ 27) < 2 ^ 54)
-products v h =
-    let a : v / 2 ^ 27 < 2 ^ 27 = omega arith in
-    let b : v % 2 ^ 27 < 2 ^ 27 = omega arith in
-    (product (v / 2 ^ 27) (v % 2 ^ 27) a b, product (v % 2 ^ 27) (v % 2 ^ 27) b b, product (v / 2 ^ 27) (v / 2 ^ 27) a a)
 
 square_parts : (a b : ℕ) → IsWide
     (a * a + 2 * (a * b) / 2 ^ 27 + (2 * (a * b) % 2 ^ 27 * 2 ^ 27 + b * b) / 2 ^ 54)
@@ -42,9 +34,6 @@ module _ (hi lo s : ℕ) (H : hi < 2 ^ 54) (L : lo < 2 ^ 54) (S : s ≤ 54) wher
 
   pub top_back : hi / 2 ^ s * 2 ^ s % 2 ^ 64 ≡ hi / 2 ^ s * 2 ^ s
   top_back = mod-eq_of_lt (lt_of_le_of_lt (div-mul-le_self hi (2 ^ s)) (lt_of_lt_of_le H (lit≤ tt)))
-
-  pub top_le : hi / 2 ^ s * 2 ^ s % 2 ^ 64 ≤ hi
-  top_le = subst (λ (a : ℕ). a ≤ hi) (sym top_back) (div-mul-le_self hi (2 ^ s))
 
   low_part : ℕ
   low_part = hi % 2 ^ s * 2 ^ (54 - s)
@@ -96,9 +85,6 @@ module _ (hi lo s : ℕ) (H : hi < 2 ^ 54) (L : lo < 2 ^ 54) (S : s ≤ 54) wher
 -- ---- sums of squares
 pub square_lt : (k v : ℕ) → v < k → v * v < k * k
 square_lt k v h = lt_of_le_of_lt (mul-le-mul_left v (le_of_lt h)) (mul-lt-mul_of_pos_right h (lt_of_le_of_lt zero-le h))
-
-pub high_lt : (hi lo n : ℕ) → IsWide hi lo n → n < 2 ^ 108 → hi < 2 ^ 54
-high_lt hi lo n w h = omega (arith, w.sum)
 
 pub cut_le : (y p : ℕ) → y < 2 ^ 54 → y * y / p < 2 ^ 108
 cut_le y p h = lt_of_le_of_lt (div-le_self (y * y) p) (square_lt (2 ^ 54) y h)

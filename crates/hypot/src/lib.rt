@@ -97,9 +97,7 @@ fn digits(was: Root, w: u64, n: u64) -> Root
 {
     let mut root = was.root;
     let mut rest = was.rest;
-    let mut i = n;
-    while 0 < i {
-        i -= 1;
+    for i in (0..n).rev() {
         let r = 4 * rest + (w >> (2 * i)) % 4;
         let t = 4 * root + 1;
         // 1 where t is at most r, with no branch to predict
@@ -232,6 +230,7 @@ fn lowered(w: u64, g: u64) -> u64
     ensures { (result < 2 ^ 28) × (result * result ≤ w) }
 {
     let mut r = g;
+    // r is the answer, not an index, and nobody knows how far it goes down
     while w < r * r {
         r -= 1;
     }
@@ -244,6 +243,7 @@ fn raised(w: u64, g: u64) -> Root
     ensures { IsRoot result.root result.rest w }
 {
     let mut r = g;
+    // r is the answer, not an index, and nobody knows how far it goes up
     while (r + 1) * (r + 1) <= w {
         r += 1;
     }

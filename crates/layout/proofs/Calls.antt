@@ -1,11 +1,11 @@
 -- The whole call from its parts: the answer and every lent list.
 -- Assumes nothing.
 use mathlib.Core.Path.{◌≡◌, refl, sym, ◌∙◌}
-use Prim.Native.Nat.{ℕ, zero, suc}
 use lib.ListN.{length}
 use Rattle.options.specs.declared.Options.{Options}
-use Rattle.drawing.specs.declared.answer.Answer.{Answer}
-use Rattle.drawing.specs.declared.answer.Answer.TheVariants.{Refused}
+use Rattle.std.specs.Prelude.{Some, None, Result, Err}
+use Rattle.refusals.specs.declared.Refusal.{Refusal}
+use Rattle.drawing.specs.declared.answer.Plot.{Plot}
 use Rattle.drawing.specs.Network.{Network, Lists, Work, Crossings}
 use Rattle.drawing.specs.Drawing.{drawing}
 use Rattle.drawing.specs.Answer.{room_of, early, late, cleared_work, cleared_crossings, call, call_late, call_early, layout_of}
@@ -13,15 +13,10 @@ use Rattle.finish.specs.Stages.Draft.{Drew}
 use Rattle.drawing.specs.Number.{Answered}
 use Rattle.drawing.proofs.Number.{answered}
 
-refused_early : (o : Options) (N : Network) (L : Lists) (W : Work) (X : Crossings) (r : ℕ)
-    → r ≡ early o N (room_of L W X) → (r ≡ 0 → ⊥) → call (Refused r) L W X ≡ layout_of o N L W X
+pub call_early_lem : (o : Options) (N : Network) (L : Lists) (W : Work) (X : Crossings) (r : Refusal)
+    → Some r ≡ early o N (room_of L W X) → Answered o N L W X (call (Err r) L W X)
 unfolding layout_of call_early
-refused_early o N L W X zero e h = absurd (h refl)
-refused_early o N L W X (suc r) e h = rw (sym e)
-
-pub call_early_lem : (o : Options) (N : Network) (L : Lists) (W : Work) (X : Crossings) (r : ℕ)
-    → r ≡ early o N (room_of L W X) → (r ≡ 0 → ⊥) → Answered o N L W X (call (Refused r) L W X)
-call_early_lem o N L W X r e h = answered o N L W X (call (Refused r) L W X) (refused_early o N L W X r e h)
+call_early_lem o N L W X r e = answered o N L W X (call (Err r) L W X) (rw (sym e))
 
 -- Lists of one length are cleared to the same lists.
 pub record Alike (U W : Work) : Type 0 where
@@ -51,8 +46,8 @@ cleared_level : (U X : Crossings) → Level U X → cleared_crossings U ≡ clea
 unfolding cleared_crossings
 cleared_level U X A = rw (A.numbers, A.places, A.ways)
 
-pub call_late_lem : (o : Options) (N : Network) (L L' : Lists) (W U W' : Work) (X Y X' : Crossings) (a : Answer)
-    → 0 ≡ early o N (room_of L W X) → Drew o N (late (drawing o N) (room_of L W X)) L a L'
+pub call_late_lem : (o : Options) (N : Network) (L L' : Lists) (W U W' : Work) (X Y X' : Crossings) (a : Result Plot Refusal)
+    → None ≡ early o N (room_of L W X) → Drew o N (late (drawing o N) (room_of L W X)) L a L'
     → W' ≡ cleared_work U → Alike U W → X' ≡ cleared_crossings Y → Level Y X
     → Answered o N L W X (call a L' W' X')
 unfolding layout_of call_early call_late

@@ -1,53 +1,37 @@
 -- What a call that answers 'drawn' has passed, and what its lists then hold.
 -- Assumes nothing.
 use mathlib.Core.Path.{◌≡◌, refl, sym, ap}
-use Prim.Native.Nat.{ℕ, zero, suc, ◌*◌, ◌≤◌}
+use Prim.Native.Nat.{◌*◌, ◌≤◌}
 use native.Mathlib.Omega.{arith}
 use lib.ListN.{length}
-use lib.Ieee.{Float}
-use Rattle.geometry.specs.declared.Box.{Box}
+use Rattle.std.specs.Prelude.{Option, Some, None, Ok}
 use Rattle.options.specs.declared.Options.{Options}
+use Rattle.refusals.specs.declared.Refusal.{Refusal}
+use Rattle.refusals.proofs.Unless.{accepted}
 use Rattle.drawing.specs.declared.answer.Plot.{Plot}
-use Rattle.drawing.specs.declared.answer.Answer.TheVariants.{Drawn, Refused}
 use Rattle.drawing.specs.Network.{Network, Lists, Work, Crossings}
 use Rattle.drawing.specs.Drawing.{drawing}
-use Rattle.drawing.specs.Answer.{room_of, early, late, answer_by, answer_for, call_late, call_early, layout_of}
+use Rattle.drawing.specs.Answer.{room_of, early, late, plot_of, answer_for, call_late, call_early, layout_of}
 use Rattle.drawing.proofs.Lates.{room_of_lem}
-
-not_drawn : {P : Type 0} (r : ℕ) (p : Plot) → Refused r ≡ Drawn p → P
-not_drawn r p e = let z : ◌≡◌ {A = ℕ} 0 1 = cc in absurd (omega arith)
 
 -- No refusal applies, and the answer has the drawing's unit, bounds and number of pieces.
 pub record Passed (o : Options) (N : Network) (L : Lists) (W : Work) (X : Crossings) (p : Plot) : Type 0 where
-  pub early : 0 ≡ early o N (room_of L W X)
-  pub late : 0 ≡ late (drawing o N) (room_of L W X)
-  pub plot : p ≡ record { unit = (drawing o N).unit; bounds = (drawing o N).bounds; pieces = length (drawing o N).pieces }
-
-answer_drawn : (l : ℕ) (u : Float) (b : Box) (n : ℕ) (p : Plot)
-    → answer_by l u b n ≡ Drawn p → (0 ≡ l) × (p ≡ record { unit = u; bounds = b; pieces = n })
-unfolding answer_by
-answer_drawn zero u b n p e =
-    let h : Drawn (record { unit = u; bounds = b; pieces = n }) ≡ Drawn p = e in
-    let k : record { unit = u; bounds = b; pieces = n } ≡ p = cc in
-    (refl, sym k)
-answer_drawn (suc l) u b n p e = not_drawn (suc l) p e
+  pub early : None ≡ early o N (room_of L W X)
+  pub late : None ≡ late (drawing o N) (room_of L W X)
+  pub plot : p ≡ plot_of (drawing o N)
 
 module _ (o : Options) (N : Network) (L : Lists) (W : Work) (X : Crossings) where
-  passed_by : (r : ℕ) (p : Plot)
-      → (call_early r o N L W X).answer ≡ Drawn p
-      → (0 ≡ r)
-      × (0 ≡ late (drawing o N) (room_of L W X))
-      × (p ≡ record { unit = (drawing o N).unit; bounds = (drawing o N).bounds; pieces = length (drawing o N).pieces })
+  passed_by : (r : Option Refusal) (p : Plot) → (call_early r o N L W X).answer ≡ Ok p → (None ≡ r) × (None ≡ late (drawing o N) (room_of L W X)) × (p ≡ plot_of (drawing o N))
   unfolding call_early call_late answer_for
-  passed_by zero p e = let h = answer_drawn (late (drawing o N) (room_of L W X)) _ _ _ p e in (refl, h.0, h.1)
-  passed_by (suc r) p e = not_drawn (suc r) p e
+  passed_by None p e = let h = accepted (late (drawing o N) (room_of L W X)) p _ (sym e) in (refl, h.0, h.1)
+  passed_by (Some r) p e = cc
 
-  pub passed : (p : Plot) → (layout_of o N L W X).answer ≡ Drawn p → Passed o N L W X p
+  pub passed : (p : Plot) → (layout_of o N L W X).answer ≡ Ok p → Passed o N L W X p
   unfolding layout_of
   passed p e = let h = passed_by (early o N (room_of L W X)) p e in record { early = h.0; late = h.1; plot = h.2 }
 
   -- The lent piece lists hold its pieces.
-  pub pieces_fit : (p : Plot) → (layout_of o N L W X).answer ≡ Drawn p
+  pub pieces_fit : (p : Plot) → (layout_of o N L W X).answer ≡ Ok p
       → (4 * p.pieces ≤ length L.pieces) × (p.pieces ≤ length L.branches)
   unfolding late
   pieces_fit p e =

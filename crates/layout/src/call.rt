@@ -1,34 +1,28 @@
 // The public call.
-ghost use Rattle.std.specs.Prelude.{◌≡◌, min};
+ghost use Rattle.std.specs.Prelude.{◌≡◌};
 ghost use Rattle.drawing.specs.Network.{crossings};
 ghost use Rattle.drawing.specs.Answer.{call, crossing_room};
 ghost use Rattle.drawing.specs.Number.{Answered};
 
 use chart::chart;
 use clear::{clear_crossings, clear_work};
-use drawing::answer::Answer;
+use drawing::answer::Plot;
 use drawing::room::Room;
 use finish::finish;
-use layout_limits::refuse::refusal_of_input;
+use layout_limits::refuse::check_input;
 use network::words::station_count;
 use options::Options;
-
-// The lesser of two numbers.
-fn least(a: usize, b: usize) -> usize
-    ensures { result ≡ min a b }
-{
-    if a <= b { a } else { b }
-}
+use refusals::Refusal;
 
 // How many crossings the crossing list holds: as many as each of its six lists.
 fn crossing_room(room: Room) -> usize
     ensures { result ≡ crossing_room room }
 {
-    let sorts = least(room.sorted, least(room.spare, room.keys));
-    least(
-        room.numbers / 3,
-        least(room.crossings, least(room.ways / 2, sorts)),
-    )
+    let sorts = room.sorted.min(room.spare).min(room.keys);
+    (room.numbers / 3)
+        .min(room.crossings)
+        .min(room.ways / 2)
+        .min(sorts)
 }
 
 // Draws the network into the lent lists.
@@ -62,7 +56,7 @@ pub fn tx_schematic_layout(
     xy: &[f64],
     corners: &[u32],
     twins: &[u32],
-) -> Answer
+) -> Result<Plot, Refusal>
     ensures { Answered o
         (record { station = sub.now; kv = kv.now; from = from.now; to = to.now; service = service.now; xy = xy.now; corners = corners.now; twins = twins.now })
         (record { positions = positions.old; bars = bars.old; boxes = boxes.old; scales = scales.old; roles = roles.old; pieces = pieces.old; branches = branches.old })
@@ -95,12 +89,9 @@ pub fn tx_schematic_layout(
         crossings: crossing_places.len(),
         ways: crossing_ways.len(),
     };
-    let r = refusal_of_input(o, sub, kv, from, to, service, xy, corners, twins, room);
-    if r != 0 {
-        return Answer::Refused(r);
-    }
+    check_input(o, sub, kv, from, to, service, xy, corners, twins, room)?;
     let k = station_count(sub);
-    let c = chart(
+    let course = chart(
         o,
         sub,
         kv,
@@ -138,7 +129,7 @@ pub fn tx_schematic_layout(
         twins,
         k,
         room,
-        c,
+        course,
         stations,
         buses,
         ends,

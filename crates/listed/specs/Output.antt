@@ -1,11 +1,12 @@
 -- The text that `drawlist` writes for the text that it reads. Definitions only.
-use Rattle.std.specs.Prelude.{ℕ, ◌≡◌, cond, List, [], Float}
+use Rattle.std.specs.Prelude.{ℕ, ◌≡◌, cond, List, [], Float, Result, Ok, Err}
 use Rattle.std.specs.Float.{binary64}
 use Rattle.std.specs.Float.Ieee.{of_bits}
 use Rattle.options.specs.declared.Options.{Options}
 use Rattle.options.specs.Options.{defaults}
-use Rattle.drawing.specs.declared.answer.Answer.{Answer}
-use Rattle.drawing.specs.declared.answer.Answer.TheVariants.{Drawn, Refused}
+use Rattle.refusals.specs.declared.Refusal.{Refusal}
+use Rattle.refusals.specs.Refusal.{number}
+use Rattle.drawing.specs.declared.answer.Plot.{Plot}
 use Rattle.drawing.specs.Network.{Network, network, Lists}
 use Rattle.drawing.specs.Answer.{Call}
 use Rattle.small.specs.Small.{zero_numbers, zeros, held_call}
@@ -46,16 +47,16 @@ unfoldable pub plotted : Network → Lists → Call
 plotted N L = held_call list_options N L 128 0
 
 -- what it answers, and what of the result lists after it a listing shows
-pub record Shown (N : Network) (L : Lists) (a : Answer) (roles : List ℕ) (pieces : List Float) (branches : List ℕ) : Type 0 where
+pub record Shown (N : Network) (L : Lists) (a : Result Plot Refusal) (roles : List ℕ) (pieces : List Float) (branches : List ℕ) : Type 0 where
   pub answer_is : a ≡ (plotted N L).answer
   pub roles_are : roles ≡ (plotted N L).lists.roles
   pub pieces_are : pieces ≡ (plotted N L).lists.pieces
   pub branches_are : branches ≡ (plotted N L).lists.branches
 
 -- A drawing is listed piece by piece, a refusal by its number.
-unfoldable pub text_by : Answer → Lists → List ℕ
-text_by (Drawn p) L = listing L.roles L.pieces L.branches p.pieces
-text_by (Refused r) L = refusal r
+unfoldable pub text_by : Result Plot Refusal → Lists → List ℕ
+text_by (Ok p) L = listing L.roles L.pieces L.branches p.pieces
+text_by (Err r) L = refusal (number r)
 
 unfoldable pub text_of : Network → List ℕ
 text_of N = let c = plotted N result_lists in text_by c.answer c.lists

@@ -54,7 +54,7 @@ abbrev times : ℕ → List ℕ → List ℕ
 times zero l = []
 times (suc k) l = l ++ times k l
 
--- well_formed: nothing but the names, one of each, a capital digit in kv, 64 of each
+-- well-formed: nothing but the names, one of each, a capital digit in kv, 64 of each
 well_formed : map ok (
     text [] []
     ∷ text good_bus branch

@@ -12,19 +12,17 @@ use lib.ListN.{length, drop, take, length-append, length-drop}
 use lib.Seq.{take-append_seam}
 use borrow.Author.Tests.{ltb-true}
 use Rattle.listing.specs.declared.input.Counts.{Counts}
-use Rattle.listing.specs.declared.input.Parsed.TheVariants as Parsed
+use Rattle.std.specs.Prelude.{Some}
+use Rattle.std.proofs.lemmas.Option.{cond_some}
+use Rattle.listing.specs.declared.line.Bus.{Bus}
+use Rattle.listing.specs.declared.line.Branch.{Branch}
 use Rattle.fields.specs.Field.{Read, got, wrong, digit, closed, digits_to, positive, whole, hexadecimal, pattern, minus, plus, bus_number}
-use Rattle.listing.specs.Line.{begins, bus_names, branch_names, and_then, Bus, Branch, bus_line, branch_line}
+use Rattle.listing.specs.Line.{begins, bus_names, branch_names, and_then, bus_line, branch_line}
 use Rattle.listing.specs.Input.{Lines, lines, broken, lines_to, Buses, Branches, no_buses, no_branches, add_bus, add_branch, bus_lines, branch_lines, at_end, Input, with_buses, with_branches, parsed, read}
 use Rattle.order.specs.Over.{over}
 use Rattle.listing.specs.LinePlaces.{answer}
 use Rattle.fields.proofs.Fields.{on_test}
 use Rattle.fields.proofs.Bounds.{not_got, limited_got, digits_least}
-
--- the front of a list that s was written over
-pub take_over : {A : Type 0} (s l : List A) → take (length s) (over s l) ≡ s
-unfolding over
-take_over s l = take-append_seam s (drop (length s) l)
 
 -- by what a reader found
 on_read : {B P : Type 0} (r : Read B) → ((v : B) (l : List ℕ) → r ≡ got v l → P) → (r ≡ wrong → P) → P
@@ -105,16 +103,12 @@ parsed_shape t =
     (λ e. simp (parsed, e) (record { kvs = refl; xys = refl; few = omega arith }, no_branches_lem))
 
 -- what the counts say
-pub answered : (p : Input) (c : Counts) → answer p ≡ Parsed.Network c
+pub answered : (p : Input) (c : Counts) → answer p ≡ Some c
     → (p.well_formed ≡ true) × (c.buses ≡ length p.buses.sub) × (c.branches ≡ length p.branches.live)
 unfolding answer
 answered p c e =
-    on_test p.well_formed
-    (λ f. let g : Parsed.Network (record { buses = length p.buses.sub; branches = length p.branches.live }) ≡ Parsed.Network c = simp (answer, f) at e in
-    let h : record { buses = length p.buses.sub; branches = length p.branches.live } ≡ c = cc in
-    (f, sym (ap (λ (q : Counts). q.buses) h), sym (ap (λ (q : Counts). q.branches) h)))
-    (λ f. let g : Parsed.Malformed ≡ Parsed.Network c = simp (answer, f) at e in
-    let z : ◌≡◌ {A = ℕ} 0 1 = cc in absurd (omega arith))
+    let k = cond_some p.well_formed (record { buses = length p.buses.sub; branches = length p.branches.live }) c e in
+    (k.0, ap (λ (q : Counts). q.buses) (sym k.1), ap (λ (q : Counts). q.branches) (sym k.1))
 
 -- ---- how many bytes a field takes
 closed_bytes : (stop w : ℕ) (x : List ℕ) (v : ℕ) (l : List ℕ) → closed stop w x ≡ got v l → length x ≡ length l + 1

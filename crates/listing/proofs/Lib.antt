@@ -1,5 +1,4 @@
 -- Laws that the functions' proofs use.
-pub mod Exact
 pub mod Lines
 pub mod Reading
 pub mod Parsing

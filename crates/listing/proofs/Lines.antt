@@ -1,17 +1,16 @@
 -- What the readers of lines give, field by field. Assumes nothing.
-use mathlib.Core.Path.{◌≡◌, ap, ◌∙◌}
-use mathlib.Core.Bool.{true, false}
-use mathlib.Core.List.{List}
-use Prim.Native.Nat.{ℕ, ◌+◌, ◌≤◌, ◌<◌}
-use lib.ListN.{length, drop, get_or, drop_of_length-le}
-use borrow.Author.Tests.{eq-eqb, ne_eqb}
+use mathlib.Core.Path.{◌≡◌, refl, ap}
+use mathlib.Core.Bool.{◌&&◌, Bool}
+use mathlib.Core.List.{List, [], ◌∷◌}
+use Prim.Native.Nat.{ℕ}
+use lib.Dec.{eqb}
+use Rattle.std.specs.List.{starts_with}
 use Rattle.fields.specs.Field.{Read, got, wrong}
+use Rattle.fields.proofs.Bounds.{whole_most}
+use Rattle.std.proofs.lemmas.List.{take_all}
+use lib.ListN.{drop_of_length-le, length-drop}
+use mir.ValLaws.{to_z-of_z}
 use Rattle.listing.specs.Line.{begins, and_then}
-use Rattle.fields.proofs.Fields.{at_cons}
-
--- an answer whose variant is known
-pub known : {A R : Type 0} (f : R → Read A) {x : Read A} {r q : R} → x ≡ f r → r ≡ q → x ≡ f q
-known f e k = e ∙ ap f k
 
 -- one value, then what follows it
 module _ {A B : Type 0} {r : Read A} (f : A → List ℕ → Read B) where
@@ -24,21 +23,12 @@ module _ {A B : Type 0} {r : Read A} (f : A → List ℕ → Read B) where
   then_wrong e = ap (λ (x : Read A). and_then x f) e
 
 -- a text against given bytes
-module _ (w t : List ℕ) (i j : ℕ) where
-  pub begins_all : length w ≤ i → begins (drop i w) (drop j t) ≡ true
-  unfolding begins
-  begins_all h = simp (drop_of_length-le w h)
+pub begins_is : (w l : List ℕ) → begins w l ≡ starts_with eqb l w
+unfolding begins
+begins_is [] l = refl
+begins_is (c ∷ w) [] = refl
+begins_is (c ∷ w) (b ∷ l) = ap (λ (t : Bool). eqb c b && t) (begins_is w l)
 
-  module _ (h : i < length w) where
-    pub begins_short : length t ≤ j → begins (drop i w) (drop j t) ≡ false
-    unfolding begins
-    begins_short k = simp (at_cons w i h, drop_of_length-le t k)
+pub ruleset begins_laws = (begins_is, take_all, drop_of_length-le, length-drop)
 
-    module _ (k : j < length t) where
-      pub begins_other : (get_or w i 0 ≡ get_or t j 0 → ⊥) → begins (drop i w) (drop j t) ≡ false
-      unfolding begins
-      begins_other e = simp (at_cons w i h, at_cons t j k, begins, ne_eqb _ _ e)
-
-      pub begins_same : get_or w i 0 ≡ get_or t j 0 → begins (drop i w) (drop j t) ≡ begins (drop (i + 1) w) (drop (j + 1) t)
-      unfolding begins
-      begins_same e = simp (at_cons w i h, at_cons t j k, begins, eq-eqb _ _ e)
+pub ruleset line_laws = (whole_most, then_got, then_wrong, to_z-of_z)

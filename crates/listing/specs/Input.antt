@@ -3,7 +3,9 @@ use Rattle.std.specs.Prelude.{ℕ, zero, suc, Bool, true, false, List, [], ◌�
 use Rattle.std.specs.Float.Ieee.{of_bits}
 use Rattle.std.specs.Float.{binary64}
 use Rattle.fields.specs.Field.{Read, got, wrong}
-use Rattle.listing.specs.Line.{begins, bus_names, branch_names, Bus, Branch, bus_line, branch_line}
+use Rattle.listing.specs.declared.line.Bus.{Bus}
+use Rattle.listing.specs.declared.line.Branch.{Branch}
+use Rattle.listing.specs.Line.{begins, bus_names, branch_names, bus_line, branch_line}
 
 -- the buses of a network: substations, the bits of kv, and x and y in turn
 pub record Buses : Type 0 where

@@ -1,5 +1,7 @@
 -- 01, Worked drawings: the lines of drawlist's input, one space between values, each line closed by LF. Definitions only.
-use Rattle.std.specs.Prelude.{ℕ, ◌-◌, ◌^◌, Bool, true, false, ◌&&◌, List, [], ◌∷◌, eqb, ℤ}
+use Rattle.std.specs.Prelude.{ℕ, ◌-◌, ◌^◌, Bool, true, false, ◌&&◌, List, [], ◌∷◌, eqb}
+use Rattle.listing.specs.declared.line.Bus.{Bus}
+use Rattle.listing.specs.declared.line.Branch.{Branch}
 use Rattle.fields.specs.Field.{Read, got, wrong, whole, pattern, bus_number}
 
 -- whether a text begins with the given bytes
@@ -19,19 +21,6 @@ branch_names = 102 ∷ 114 ∷ 111 ∷ 109 ∷ 32 ∷ 116 ∷ 111 ∷ 32 ∷ 108
 unfoldable pub and_then : {A B : Type 0} → Read A → (A → List ℕ → Read B) → Read B
 and_then (got a l) f = f a l
 and_then wrong f = wrong
-
--- a bus: substation, a u32, and the bits of kv, x and y
-pub record Bus : Type 0 where
-  pub sub : ℕ
-  pub kv : ℕ
-  pub x : ℕ
-  pub y : ℕ
-
--- a branch: two bus numbers and live, a u8
-pub record Branch : Type 0 where
-  pub from : ℤ
-  pub to : ℤ
-  pub live : ℕ
 
 -- a bus line: `sub kv x y`
 unfoldable pub bus_line : List ℕ → Read Bus

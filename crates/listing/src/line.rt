@@ -1,100 +1,67 @@
 // A line at a place of a text: its values, and the place after it.
 ghost use Rattle.std.specs.Prelude.{◌≡◌, drop};
+ghost use Rattle.fields.specs.Stages.Places.{field_of};
 ghost use Rattle.listing.specs.Line.{begins as begins_with, bus_line, branch_line};
-ghost use Rattle.listing.specs.LinePlaces.{bus_of, branch_of};
 
-use fields::field::{Field, Signed, bus_number, pattern, whole};
+use fields::field::{Parsed, bus_number, pattern, whole};
 
+// A bus: substation, and the bits of kv, x and y.
 #[derive(Clone, Copy)]
-pub enum BusLine {
-    Bus {
-        sub: u32,
-        kv: u64,
-        x: u64,
-        y: u64,
-        next: usize,
-    },
-    Wrong,
+pub struct Bus {
+    pub sub: u32,
+    pub kv: u64,
+    pub x: u64,
+    pub y: u64,
 }
 
+// A branch: two bus numbers and live.
 #[derive(Clone, Copy)]
-pub enum BranchLine {
-    Branch {
-        from: i64,
-        to: i64,
-        live: u8,
-        next: usize,
-    },
-    Wrong,
+pub struct Branch {
+    pub from: i64,
+    pub to: i64,
+    pub live: u8,
 }
 
 // Whether the text from `at` on begins with the given bytes.
+#[tactic(auto, using(crate::proofs::Lines::begins_laws))]
 pub(crate) fn begins(text: &[u8], at: usize, word: &[u8]) -> bool
     ensures { result ≡ begins_with word.now (drop at text.now) }
 {
-    let mut i = 0;
-    let mut j = at;
-    while i < word.len() {
-        if text.len() <= j {
-            return false;
-        }
-        if word[i] != text[j] {
-            return false;
-        }
-        i += 1;
-        j += 1;
-    }
-    true
+    text.get(at..).unwrap_or(&[]).starts_with(word)
 }
 
-pub(crate) fn bus_line(text: &[u8], at: usize) -> BusLine
-    ensures { bus_line (drop at text.now) ≡ bus_of text.now result }
+#[tactic(auto, using(crate::proofs::Lines::line_laws), unfolding(fields::specs::Stages::Places::field_of, crate::specs::Line::bus_line, crate::specs::Line::and_then))]
+pub(crate) fn bus_line(text: &[u8], at: usize) -> Option<Parsed<Bus>>
+    ensures { bus_line (drop at text.now) ≡ field_of text.now result }
 {
-    let Field::Value {
-        value: sub,
-        next: a,
-    } = whole(text, at, 32, 0xFFFF_FFFF)
-    else {
-        return BusLine::Wrong;
-    };
-    let Field::Value { value: kv, next: b } = pattern(text, a, 32) else {
-        return BusLine::Wrong;
-    };
-    let Field::Value { value: x, next: c } = pattern(text, b, 32) else {
-        return BusLine::Wrong;
-    };
-    let Field::Value { value: y, next } = pattern(text, c, 10) else {
-        return BusLine::Wrong;
-    };
-    BusLine::Bus {
-        sub: sub as u32,
-        kv,
-        x,
-        y,
-        next,
-    }
+    let sub = whole(text, at, b' ', 0xFFFF_FFFF)?;
+    let kv = pattern(text, sub.next, b' ')?;
+    let x = pattern(text, kv.next, b' ')?;
+    let y = pattern(text, x.next, b'\n')?;
+    Some(Parsed {
+        value: Bus {
+            sub: sub.value as u32,
+            kv: kv.value,
+            x: x.value,
+            y: y.value,
+        },
+        next: y.next,
+    })
 }
 
-pub(crate) fn branch_line(text: &[u8], at: usize) -> BranchLine
-    ensures { branch_line (drop at text.now) ≡ branch_of text.now result }
+#[tactic(auto, using(crate::proofs::Lines::line_laws), unfolding(fields::specs::Stages::Places::field_of, crate::specs::Line::branch_line, crate::specs::Line::and_then))]
+pub(crate) fn branch_line(text: &[u8], at: usize) -> Option<Parsed<Branch>>
+    ensures { branch_line (drop at text.now) ≡ field_of text.now result }
 {
-    let Signed::Number {
-        value: from,
-        next: a,
-    } = bus_number(text, at, 32)
-    else {
-        return BranchLine::Wrong;
-    };
-    let Signed::Number { value: to, next: b } = bus_number(text, a, 32) else {
-        return BranchLine::Wrong;
-    };
-    let Field::Value { value: live, next } = whole(text, b, 10, 0xFF) else {
-        return BranchLine::Wrong;
-    };
-    BranchLine::Branch {
-        from,
-        to,
-        live: live as u8,
-        next,
-    }
+    let from = bus_number(text, at, b' ')?;
+    let to = bus_number(text, from.next, b' ')?;
+    let live = whole(text, to.next, b'\n', 0xFF)?;
+    Some(Parsed {
+        value: Branch {
+            from: from.value,
+            to: to.value,
+            live: live.value as u8,
+        },
+        next: live.next,
+    })
 }

@@ -9,8 +9,9 @@ use native.Mathlib.Omega.{arith}
 use lib.Dec.{leb, ltb, eqb}
 use lib.ListN.{length}
 use borrow.Author.Tests.{ltb-true, leb-true, eqb-true, eqb-false, not-true, eq-eqb, ne_eqb}
-use Rattle.mesh.specs.Mesh.{next, end_at, no_twin, at, corner_ok, reversed, pairs, twin_ok, edges_ok, mesh_ok}
-use Rattle.mesh.proofs.Tests.{both, other, all_at, edge_ok}
+use Rattle.mesh.specs.Mesh.{next, end_at, no_twin, at, corner_ok, reversed, pairs, twin_ok, edge_ok, edges_ok, mesh_ok}
+use Rattle.order.proofs.AllTo.{all_to_at}
+use Rattle.mesh.proofs.Tests.{both, other}
 
 -- ---- the half-edge after h
 
@@ -91,7 +92,7 @@ mesh_sound corners twins n t =
     t3 = both _ _ t2.1
 
     edge : (h : ℕ) → h < length corners → (corner_ok corners n h ≡ true) × (twin_ok corners twins h ≡ true)
-    edge h l = both _ _ (all_at (edge_ok corners twins n) (length corners) h l t3.1)
+    edge h l = both _ _ (all_to_at (edge_ok corners twins n) (length corners) h l t3.1)
 
     corner : (h : ℕ) → h < length corners → (ltb (at corners h) n ≡ true) × (not (eqb (at corners h) (end_at corners h)) ≡ true)
     corner h l = both _ _ (edge h l).0

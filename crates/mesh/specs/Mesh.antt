@@ -48,10 +48,14 @@ unfoldable pub twin_ok : List ℕ → List ℕ → ℕ → Bool
 unfolding pairs
 twin_ok corners twins h = eqb (at twins h) no_twin || pairs corners twins h (at twins h)
 
+-- a half-edge's corner and twin are in order
+abbrev pub edge_ok : List ℕ → List ℕ → ℕ → ℕ → Bool
+edge_ok corners twins n h = corner_ok corners n h && twin_ok corners twins h
+
 -- every corner and every twin is in order
 unfoldable pub edges_ok : List ℕ → List ℕ → ℕ → Bool
 unfolding all_to corner_ok twin_ok
-edges_ok corners twins n = all_to (λ h. corner_ok corners n h && twin_ok corners twins h) (length corners)
+edges_ok corners twins n = all_to (edge_ok corners twins n) (length corners)
 
 -- a mesh over n occupied stations is two lists of one length, a multiple of 3 and at most 24,576, of such corners and twins
 unfoldable pub mesh_ok : List ℕ → List ℕ → ℕ → Bool

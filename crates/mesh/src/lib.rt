@@ -2,11 +2,12 @@
 #![tactic(auto)]
 
 ghost use Rattle.std.specs.Prelude.{◌≡◌, ◌+◌, ◌≤◌, ◌<◌, length};
-ghost use Rattle.mesh.specs.Mesh.{next, end_at, corner_ok, reversed, pairs, twin_ok, edges_ok, mesh_ok};
+ghost use Rattle.mesh.specs.Mesh.{next, end_at, corner_ok, reversed, pairs, twin_ok, edge_ok, edges_ok, mesh_ok};
 
 use order::at;
 
 // The half-edge after h in its triangle.
+#[tactic(auto, unfolding(crate::specs::Mesh::next))]
 pub fn next(h: usize) -> usize
     requires { h < 0x1_0000_0002 }
     ensures value { result ≡ next h }
@@ -16,6 +17,7 @@ pub fn next(h: usize) -> usize
 }
 
 // The corner that half-edge h runs to.
+#[tactic(auto, unfolding(crate::specs::Mesh::end_at))]
 pub fn end_at(corners: &[u32], h: usize) -> u32
     requires { h < 0x1_0000_0002 }
     ensures { result ≡ end_at corners.now h }
@@ -24,6 +26,7 @@ pub fn end_at(corners: &[u32], h: usize) -> u32
 }
 
 // Whether half-edge h starts at a corner below n and ends at another.
+#[tactic(auto, unfolding(crate::specs::Mesh::corner_ok))]
 fn corner_ok(corners: &[u32], n: usize, h: usize) -> bool
     requires { h < 0x1_0000_0000 }
     ensures { result ≡ corner_ok corners.now n h }
@@ -36,6 +39,7 @@ fn corner_ok(corners: &[u32], n: usize, h: usize) -> bool
 }
 
 // Whether g starts where h ends, and ends where h starts.
+#[tactic(auto, unfolding(crate::specs::Mesh::reversed))]
 fn reversed(corners: &[u32], h: usize, g: usize) -> bool
     requires { (h < 0x1_0000_0000) × (g < 0x1_0000_0000) }
     ensures { result ≡ reversed corners.now h g }
@@ -47,6 +51,7 @@ fn reversed(corners: &[u32], h: usize, g: usize) -> bool
 }
 
 // Whether g is a half-edge whose twin is h and whose ends are those of h, reversed.
+#[tactic(auto, unfolding(crate::specs::Mesh::pairs))]
 fn pairs(corners: &[u32], twins: &[u32], h: usize, g: usize) -> bool
     requires { (h < 0x1_0000_0000) × (g < 0x1_0000_0000) }
     ensures { result ≡ pairs corners.now twins.now h g }
@@ -60,6 +65,7 @@ fn pairs(corners: &[u32], twins: &[u32], h: usize, g: usize) -> bool
 }
 
 // Whether half-edge h has no twin or one that points back, with the ends reversed.
+#[tactic(auto, unfolding(crate::specs::Mesh::twin_ok))]
 fn twin_ok(corners: &[u32], twins: &[u32], h: usize) -> bool
     requires { h < 0x1_0000_0000 }
     ensures { result ≡ twin_ok corners.now twins.now h }
@@ -71,25 +77,24 @@ fn twin_ok(corners: &[u32], twins: &[u32], h: usize) -> bool
     pairs(corners, twins, h, g as usize)
 }
 
+// Whether half-edge h's corner and twin are in order.
+fn edge_ok(corners: &[u32], twins: &[u32], n: usize, h: usize) -> bool
+    requires { h < 0x1_0000_0000 }
+    ensures { result ≡ edge_ok corners.now twins.now n h }
+{
+    corner_ok(corners, n, h) && twin_ok(corners, twins, h)
+}
+
 // Whether every half-edge's corner and twin are in order.
 fn edges_ok(corners: &[u32], twins: &[u32], n: usize) -> bool
     requires { length corners.now ≤ 24576 }
     ensures { result ≡ edges_ok corners.now twins.now n }
 {
-    let mut h = 0;
-    while h < corners.len() {
-        if !corner_ok(corners, n, h) {
-            return false;
-        }
-        if !twin_ok(corners, twins, h) {
-            return false;
-        }
-        h += 1;
-    }
-    true
+    (0..corners.len()).all(|h| edge_ok(corners, twins, n, h))
 }
 
 // Whether the two lists are a mesh over n occupied stations.
+#[tactic(auto, unfolding(crate::specs::Mesh::mesh_ok))]
 pub fn mesh_ok(corners: &[u32], twins: &[u32], n: usize) -> bool
     ensures { result ≡ mesh_ok corners.now twins.now n }
 {

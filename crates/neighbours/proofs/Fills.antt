@@ -1,5 +1,5 @@
 -- A loop that fills a list with a table, one store a turn: from the front, and in the order of given numbers. Assumes nothing.
-use mathlib.Core.Path.{◌≡◌, refl, sym, ap, ◌∙◌, subst}
+use mathlib.Core.Path.{◌≡◌, sym, ap, ◌∙◌, subst}
 use mathlib.Core.List.{List, ◌++◌}
 use Prim.Native.Nat.{ℕ, suc, ◌+◌, ◌≤◌, ◌<◌}
 use native.Mathlib.Omega.{arith}
@@ -27,9 +27,6 @@ pub record Filled {A : Type 0} (f : ℕ → A) (o : List ℕ) (n : ℕ) (d₀ d 
   pub rest : drop n d ≡ drop n d₀
 
 module _ {A : Type 0} (f : ℕ → A) (o : List ℕ) (n : ℕ) (d₀ : List A) where
-  pub filled_none : Filled f o n d₀ d₀ 0
-  filled_none = record { size = refl; done = λ e q h. absurd (omega arith); rest = refl }
-
   pub filled_more : (d : List A) (c : ℕ) (v : A) → Filled f o n d₀ d c → get_or o c 0 < n → n ≤ length d₀ → v ≡ f (get_or o c 0) → Filled f o n d₀ (set d (get_or o c 0) v) (c + 1)
   filled_more d c v k h m e = record {
     size = length-set d (get_or o c 0) v ∙ k.size;

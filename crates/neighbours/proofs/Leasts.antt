@@ -69,10 +69,6 @@ inf_above : lt f0 (inf false) ≡ true
 unfolding of_bits lt
 inf_above = refl
 
-inf_number : T (not (is_nan (inf false)))
-unfolding is_nan
-inf_number = tt
-
 module _ (d : ℕ → Float) (F : (q : ℕ) → T (fits binary64 (d q))) where
   -- what is least is positive and fits the format
   pub least_above : (P : ℕ → Type 0) (r : Float) → Least d P r → lt f0 r ≡ true

@@ -7,8 +7,8 @@ use native.Mathlib.Omega.{arith}
 use native.Mathlib.Nat.{zero-add}
 use native.Mathlib.Numerals.{add-one}
 use lib.Dec.{T}
-use lib.ListN.{length, get_or, set, take, drop, replicate, length-replicate}
-use lib.Seq.{take-suc-set, take_at, drop-append-add, drop-drop, get_or-set_same, get_or-set_other}
+use lib.ListN.{length, get_or, set, take, drop}
+use lib.Seq.{take-suc-set, take_at, get_or-set_same, get_or-set_other}
 use lib.Ieee.{Float, nan, fits, binary64}
 use borrow.Author.Count.{below_more}
 use Rattle.float.specs.Small.{is_finite}
@@ -50,20 +50,3 @@ numbered_sort ps n ks o p F k e = record {
     front =
         let z : n - 0 ≡ n = omega arith in
         e ∙ ap (λ (t : ℕ). sort_by (key_at ks) (take t o) ++ drop n o) z ∙ ap (λ (t : List ℕ). sort_by (key_at ks) t ++ drop n o) k.listed
-
--- what is cleared is the front
-pub cleared : (n : ℕ) (s t : List ℕ) → t ≡ take 0 s ++ (replicate (n - 0) 0 ++ drop n s) → t ≡ replicate n 0 ++ drop n s
-cleared n s t e = let z : n - 0 ≡ n = omega arith in e ∙ ap (λ (k : ℕ). replicate k 0 ++ drop n s) z
-
--- and what comes after it is what it was
-pub cleared_rest : (r n : ℕ) (s t : List ℕ) → r ≤ n → t ≡ replicate r 0 ++ drop r s → drop n t ≡ drop n s
-cleared_rest r n s t h e =
-    let c : List ℕ = replicate r 0 in
-    let k : ℕ = n - r in
-    let z : n ≡ r + k = omega arith in
-    let w : n ≡ length c + k = z ∙ ap (λ (m : ℕ). m + k) (sym (length-replicate r 0)) in
-    ap (drop n) e ∙ ap (λ (m : ℕ). drop m (c ++ drop r s)) w ∙ drop-append-add c (drop r s) k ∙ drop-drop k r s ∙ ap (λ (m : ℕ). drop m s) (sym z)
-
--- the counts at the front of a list that was cleared there
-pub front_of : (a s t u : List ℕ) (r n : ℕ) → r ≤ n → t ≡ replicate r 0 ++ drop r s → u ≡ a ++ drop n t → u ≡ a ++ drop n s
-front_of a s t u r n h e f = f ∙ ap (λ (l : List ℕ). a ++ l) (cleared_rest r n s t h e)

@@ -16,14 +16,10 @@ fn nearest_distance(points: &[f64], n: usize, i: usize) -> f64
 {
     let x = points[2 * i];
     let y = points[2 * i + 1];
-    let mut best = f64::from_bits(0x7ff0_0000_0000_0000);
-    let mut j = 0;
-    while j < n {
-        if j == i {
-            j += 1;
-        } else {
+    let mut best = f64::INFINITY;
+    for j in 0..n {
+        if j != i {
             best = closer(best, points[2 * j] - x, points[2 * j + 1] - y);
-            j += 1;
         }
     }
     best
@@ -34,10 +30,8 @@ pub fn nearest_of_all(points: &[f64], n: usize, out: &mut [f64])
     requires { (2 * n ≤ length points.now) × (n ≤ length out.old) }
     ensures { out.new ≡ table (nearest points.now n) n ++ drop n out.old }
 {
-    let mut i = 0;
-    while i < n {
+    for i in 0..n {
         out[i] = nearest_distance(points, n, i);
-        i += 1;
     }
 }
 
@@ -69,15 +63,9 @@ fn count_near(points: &[f64], n: usize, radius: f64, i: usize) -> usize
     let x = points[2 * i];
     let y = points[2 * i + 1];
     let mut count = 0;
-    let mut j = 0;
-    while j < n {
-        if j == i {
-            j += 1;
-        } else if is_near(points[2 * j] - x, points[2 * j + 1] - y, radius) {
+    for j in 0..n {
+        if j != i && is_near(points[2 * j] - x, points[2 * j + 1] - y, radius) {
             count += 1;
-            j += 1;
-        } else {
-            j += 1;
         }
     }
     count
@@ -99,10 +87,8 @@ fn counts_of_all(points: &[f64], n: usize, radius: f64, counts: &mut [u32])
     requires { (n < 2 ^ 32) × (2 * n ≤ length points.now) × (n ≤ length counts.old) }
     ensures { counts.new ≡ table (neighbours points.now n radius) n ++ drop n counts.old }
 {
-    let mut i = 0;
-    while i < n {
+    for i in 0..n {
         counts[i] = count_within(points, n, radius, i) as u32;
-        i += 1;
     }
 }
 

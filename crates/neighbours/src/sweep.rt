@@ -17,18 +17,15 @@ fn keys_by_x(points: &[f64], n: usize, keys: &mut [u64], order: &mut [u32]) -> u
     ensures upper_bound { result ≤ n }
     ensures numbered { Numbered points.now result keys.new order.new }
 {
-    let mut i = 0;
-    while i < n {
+    for i in 0..n {
         let x = points[2 * i];
-        if is_finite(x) {
-            keys[i] = order_key(x);
-            order[i] = i as u32;
-            i += 1;
-        } else {
+        if !is_finite(x) {
             return i;
         }
+        keys[i] = order_key(x);
+        order[i] = i as u32;
     }
-    i
+    n
 }
 
 // Those points' numbers by rising x at the front of order, and how many they are: n where every x is finite.
@@ -54,16 +51,14 @@ fn nearest_right(points: &[f64], n: usize, order: &[u32], c: usize, x: f64, y: f
     requires { (2 * n ≤ length points.now) × (n ≤ length order.now) × (c < n) × Swept points.now n order.now × (is_finite x ≡ true) }
     ensures { Least (away points.now order.now x y) (Others c c n) result }
 {
-    let mut best = f64::from_bits(0x7ff0_0000_0000_0000);
-    let mut q = c + 1;
-    while q < n {
+    let mut best = f64::INFINITY;
+    for q in c + 1..n {
         let j = order[q] as usize;
         let d = points[2 * j] - x;
         if best < d {
             return best;
         }
         best = closer(best, d, points[2 * j + 1] - y);
-        q += 1;
     }
     best
 }
@@ -82,15 +77,13 @@ fn nearest_left(
     ensures { Least (away points.now order.now x y) (Others c 0 n) result }
 {
     let mut best = right;
-    let mut q = c;
-    while 0 < q {
-        let j = order[q - 1] as usize;
+    for q in (0..c).rev() {
+        let j = order[q] as usize;
         let d = points[2 * j] - x;
         if best < -d {
             return best;
         }
         best = closer(best, d, points[2 * j + 1] - y);
-        q -= 1;
     }
     best
 }
@@ -112,11 +105,9 @@ pub(crate) fn nearest_in_order(points: &[f64], n: usize, order: &[u32], out: &mu
     requires { (2 * n ≤ length points.now) × (n ≤ length order.now) × (n ≤ length out.old) × Swept points.now n order.now }
     ensures { out.new ≡ table (nearest points.now n) n ++ drop n out.old }
 {
-    let mut c = 0;
-    while c < n {
+    for c in 0..n {
         let i = order[c] as usize;
         out[i] = nearest_at(points, n, order, c);
-        c += 1;
     }
 }
 
@@ -134,8 +125,7 @@ fn count_right(
     ensures { result + how_many (in_reach points.now order.now x y radius) (c + 1) ≡ how_many (in_reach points.now order.now x y radius) n }
 {
     let mut count = 0;
-    let mut q = c + 1;
-    while q < n {
+    for q in c + 1..n {
         let j = order[q] as usize;
         let d = points[2 * j] - x;
         if radius < d {
@@ -143,9 +133,6 @@ fn count_right(
         }
         if is_near(d, points[2 * j + 1] - y, radius) {
             count += 1;
-            q += 1;
-        } else {
-            q += 1;
         }
     }
     count
@@ -165,18 +152,14 @@ fn count_left(
     ensures { result ≡ how_many (in_reach points.now order.now x y radius) c }
 {
     let mut count = 0;
-    let mut q = c;
-    while 0 < q {
-        let j = order[q - 1] as usize;
+    for q in (0..c).rev() {
+        let j = order[q] as usize;
         let d = points[2 * j] - x;
         if radius < -d {
             return count;
         }
         if is_near(d, points[2 * j + 1] - y, radius) {
             count += 1;
-            q -= 1;
-        } else {
-            q -= 1;
         }
     }
     count
@@ -209,10 +192,8 @@ pub(crate) fn counts_in_order(
     requires { (n < 2 ^ 32) × (2 * n ≤ length points.now) × (n ≤ length order.now) × (n ≤ length counts.old) × Swept points.now n order.now }
     ensures { counts.new ≡ table (neighbours points.now n radius) n ++ drop n counts.old }
 {
-    let mut c = 0;
-    while c < n {
+    for c in 0..n {
         let i = order[c] as usize;
         counts[i] = count_at(points, n, order, radius, c) as u32;
-        c += 1;
     }
 }

@@ -59,3 +59,5 @@ module _ (sub : List ℕ) where
   pub counted_all : (k : ℕ) (l : List ℕ) → k ≡ station_count sub → Counted k (length sub) l → counts_in k l ≡ bus_counts sub
   unfolding bus_counts buses_in
   counted_all k l e c = c.counts ∙ ap (table (count_to (length sub))) e
+
+pub ruleset counting = (counted_none, counted_few, counted_more, counted_all)

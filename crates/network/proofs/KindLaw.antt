@@ -13,8 +13,7 @@ use lib.ListN.{length, get_or, get_or-eq_default}
 use Rattle.order.specs.Order.{pick}
 use Rattle.order.proofs.Merging.{le_or_lt}
 use Rattle.order.proofs.Tables.{get_d_any}
-use Rattle.network.specs.declared.words.Known.{Known}
-use Rattle.network.specs.declared.words.Known.TheVariants.{Bus, Unknown}
+use Rattle.std.specs.Prelude.{Option, Some, None}
 use Rattle.network.specs.declared.words.Kind.TheVariants.{Undrawn, Open, Internal, Line}
 use Rattle.network.specs.Words.{station_of, known, live, kind_by, kind_for, kind_of}
 
@@ -34,18 +33,18 @@ IsLive service e = e < length service → get_or service e 0 ≢ 0
 
 -- ---- the definition's words
 
-known_is : (n : ℕ) (z : ℤ) (a : ℕ) → z ≡ pos a → a < n → known n z ≡ Bus a
+known_is : (n : ℕ) (z : ℤ) (a : ℕ) → z ≡ pos a → a < n → known n z ≡ Some a
 unfolding known
-known_is n z a e h = ap (known n) e ∙ ap (λ (b : Bool). pick b (Bus a) Unknown) (lt-ltb a n h)
+known_is n z a e h = ap (known n) e ∙ ap (λ (b : Bool). pick b (Some a) None) (lt-ltb a n h)
 
-known_back : (n : ℕ) (z : ℤ) (a : ℕ) → known n z ≡ Bus a → (z ≡ pos a) × (a < n)
+known_back : (n : ℕ) (z : ℤ) (a : ℕ) → known n z ≡ Some a → (z ≡ pos a) × (a < n)
 unfolding known
 known_back n (pos i) a e = go (ltb i n) refl e
   where
-    go : (b : Bool) → ltb i n ≡ b → pick b (Bus i) Unknown ≡ Bus a → (pos i ≡ pos a) × (a < n)
+    go : (b : Bool) → ltb i n ≡ b → pick b (Some i) None ≡ Some a → (pos i ≡ pos a) × (a < n)
     go true q e = let z : i ≡ a = cc in (ap pos z, omega (arith, ltb-true i n q))
-    go false q e = absurd (let z : ◌≡◌ {A = ℕ} 0 1 = cc in omega arith)
-known_back n (negsuc i) a e = absurd (let z : ◌≡◌ {A = ℕ} 0 1 = cc in omega arith)
+    go false q e = absurd (cc)
+known_back n (negsuc i) a e = absurd (cc)
 
 flag_open : (service : List ℕ) (e : ℕ) → FlagIs0 service e → live service e ≡ false
 unfolding live
@@ -66,8 +65,8 @@ module _ (sub : List ℕ) (from to : List ℤ) (service : List ℕ) (e : ℕ) wh
       → kind_of sub from to service e ≡ kind_by false l one a b
   unfolding kind_of kind_for
   between a b l one j v o =
-      ap (λ (s : Known). kind_for sub (live service e) s (known (length sub) (get_or to e (negsuc 0)))) (known_is (length sub) (get_or from e (negsuc 0)) a j.0 j.1)
-      ∙ ap (kind_for sub (live service e) (Bus a)) (known_is (length sub) (get_or to e (negsuc 0)) b j.2 j.3)
+      ap (λ (s : Option ℕ). kind_for sub (live service e) s (known (length sub) (get_or to e (negsuc 0)))) (known_is (length sub) (get_or from e (negsuc 0)) a j.0 j.1)
+      ∙ ap (kind_for sub (live service e) (Some a)) (known_is (length sub) (get_or to e (negsuc 0)) b j.2 j.3)
       ∙ ap (λ (u : Bool). kind_by u (live service e) (eqb (station_of sub a) (station_of sub b)) a b) (ne_eqb a b j.4)
       ∙ ap (λ (u : Bool). kind_by false u (eqb (station_of sub a) (station_of sub b)) a b) v
       ∙ ap (λ (u : Bool). kind_by false l u a b) o
@@ -89,10 +88,10 @@ module _ (sub : List ℕ) (from to : List ℤ) (service : List ℕ) (e : ℕ) wh
   unfolding kind_of
   kind_other n = by-ends (known (length sub) (get_or from e (negsuc 0))) (known (length sub) (get_or to e (negsuc 0))) refl refl
     where
-      by-ends : (s t : Known) → known (length sub) (get_or from e (negsuc 0)) ≡ s → known (length sub) (get_or to e (negsuc 0)) ≡ t → kind_for sub (live service e) s t ≡ Undrawn
-      by-ends Unknown t p q = unfold kind_for in refl
-      by-ends (Bus a) Unknown p q = unfold kind_for in refl
-      by-ends (Bus a) (Bus b) p q = unfold kind_for in same (eqb a b) refl
+      by-ends : (s t : Option ℕ) → known (length sub) (get_or from e (negsuc 0)) ≡ s → known (length sub) (get_or to e (negsuc 0)) ≡ t → kind_for sub (live service e) s t ≡ Undrawn
+      by-ends None t p q = unfold kind_for in refl
+      by-ends (Some a) None p q = unfold kind_for in refl
+      by-ends (Some a) (Some b) p q = unfold kind_for in same (eqb a b) refl
         where
           same : (u : Bool) → eqb a b ≡ u → kind_by u (live service e) (eqb (station_of sub a) (station_of sub b)) a b ≡ Undrawn
           same true h = unfold kind_by in refl

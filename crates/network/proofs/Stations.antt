@@ -19,17 +19,8 @@ past_suc : (l : List ℕ) (i : ℕ) → past_to l (suc i) ≡ max (past_to l i) 
 unfolding past_to
 past_suc l i = refl
 
-pub past_more : (l : List ℕ) (i k x : ℕ) → x ≡ get_or l i 0 → k ≡ past_to l i → k < x + 1 → x + 1 ≡ past_to l (i + 1)
-past_more l i k x w e h =
-    let p : past_to l (suc i) ≡ max (past_to l i) (suc (get_or l i 0)) = past_suc l i in
-    let q : x + 1 ≡ past_to l (suc i) = omega arith in
-    q ∙ ap (past_to l) (sym (add-one i))
-
-pub past_same : (l : List ℕ) (i k x : ℕ) → x ≡ get_or l i 0 → k ≡ past_to l i → x + 1 ≤ k → k ≡ past_to l (i + 1)
-past_same l i k x w e h =
-    let p : past_to l (suc i) ≡ max (past_to l i) (suc (get_or l i 0)) = past_suc l i in
-    let q : k ≡ past_to l (suc i) = omega arith in
-    q ∙ ap (past_to l) (sym (add-one i))
+pub past_next : (l : List ℕ) (i : ℕ) → past_to l (i + 1) ≡ max (past_to l i) (get_or l i 0 + 1)
+past_next l i = rw (add-one, add-one) (past_suc l i)
 
 past_above : (l : List ℕ) (i n : ℕ) → i < n → get_or l i 0 < past_to l n
 past_above l i zero h = absurd (omega arith)

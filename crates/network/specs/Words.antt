@@ -1,9 +1,7 @@
 -- 01's words for the parts of a network: known and unknown buses, live and open branches, internal branches and lines, occupied stations. Definitions only.
-use Rattle.std.specs.Prelude.{ℕ, zero, suc, max, ◌<◌, ◌≡◌, ◌≢◌, Bool, true, false, not, List, eqb, ltb, ℤ, pos, negsuc, length, get_or}
+use Rattle.std.specs.Prelude.{ℕ, zero, suc, max, ◌<◌, ◌≡◌, ◌≢◌, Bool, true, false, not, List, eqb, ltb, ℤ, pos, negsuc, length, get_or, Option, Some, None}
 use Rattle.order.specs.Order.{pick}
 use Rattle.order.specs.Table.{table, how_many, which}
-use Rattle.network.specs.declared.words.Known.{Known}
-use Rattle.network.specs.declared.words.Known.TheVariants.{Bus, Unknown}
 use Rattle.network.specs.declared.words.Kind.{Kind}
 use Rattle.network.specs.declared.words.Kind.TheVariants.{Undrawn, Open, Internal, Line}
 
@@ -35,9 +33,9 @@ unfoldable pub occupied : List ℕ → List ℕ
 occupied counts = which (is_occupied counts) (length counts)
 
 -- A bus number below 0 or at or past n is unknown, any other known.
-unfoldable pub known : ℕ → ℤ → Known
-known n (pos i) = pick (ltb i n) (Bus i) Unknown
-known n (negsuc i) = Unknown
+unfoldable pub known : ℕ → ℤ → Option ℕ
+known n (pos i) = pick (ltb i n) (Some i) None
+known n (negsuc i) = None
 
 -- A branch is open if its service flag is 0, else live; an absent service flag means live.
 unfoldable pub live : List ℕ → ℕ → Bool
@@ -50,10 +48,10 @@ kind_by false false oneStation a b = Open a b
 kind_by false true true a b = Internal a b
 kind_by false true false a b = Line a b
 
-unfoldable pub kind_for : List ℕ → Bool → Known → Known → Kind
-kind_for sub isLive Unknown t = Undrawn
-kind_for sub isLive (Bus a) Unknown = Undrawn
-kind_for sub isLive (Bus a) (Bus b) = kind_by (eqb a b) isLive (eqb (station_of sub a) (station_of sub b)) a b
+unfoldable pub kind_for : List ℕ → Bool → Option ℕ → Option ℕ → Kind
+kind_for sub isLive None t = Undrawn
+kind_for sub isLive (Some a) None = Undrawn
+kind_for sub isLive (Some a) (Some b) = kind_by (eqb a b) isLive (eqb (station_of sub a) (station_of sub b)) a b
 
 -- what branch e is
 unfoldable pub kind_of : List ℕ → List ℤ → List ℤ → List ℕ → ℕ → Kind

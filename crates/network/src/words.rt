@@ -4,13 +4,6 @@ ghost use Rattle.order.specs.Table.{table};
 ghost use Rattle.network.specs.Words.{station_count, station_of, bus_counts, known, live, kind_by, kind_of, Safe};
 ghost use Rattle.network.specs.Views.{counts_in};
 
-// A bus number below 0 or at or past the bus count is unknown.
-#[derive(Clone, Copy)]
-pub enum Known {
-    Bus(usize),
-    Unknown,
-}
-
 // What a branch is, with its two buses. One with an unknown end, or from a bus to itself, is not drawn.
 #[derive(Clone, Copy)]
 pub enum Kind {
@@ -21,20 +14,14 @@ pub enum Kind {
 }
 
 // How many stations: one more than the highest number, 0 without buses.
+#[tactic(auto, using(crate::proofs::Stations::past_none, crate::proofs::Stations::past_next), unfolding(crate::specs::Words::station_count))]
 pub fn station_count(sub: &[u32]) -> usize
     ensures value { result ≡ station_count sub.now }
     ensures upper_bound { result ≤ 2 ^ 32 }
 {
     let mut k: usize = 0;
-    let mut i = 0;
-    while i < sub.len() {
-        let s = station_of(sub, i);
-        if k < s + 1 {
-            k = s + 1;
-            i += 1;
-        } else {
-            i += 1;
-        }
+    for &s in sub {
+        k = k.max(s as usize + 1);
     }
     k
 }
@@ -44,45 +31,37 @@ pub fn station_of(sub: &[u32], i: usize) -> usize
     ensures value { result ≡ station_of sub.now i }
     ensures upper_bound { result < 2 ^ 32 }
 {
-    if i < sub.len() { sub[i] as usize } else { 0 }
+    order::at(sub, i) as usize
 }
 
-// The bus that a number names, of n.
-pub fn known_bus(n: usize, x: i64) -> Known
+// The bus that a number names, of n: one below 0 or at or past n names none.
+pub fn known_bus(n: usize, x: i64) -> Option<usize>
     ensures { result ≡ known n x }
 {
     if x < 0 {
-        return Known::Unknown;
+        return None;
     }
     let i = x as usize;
-    if i < n {
-        return Known::Bus(i);
-    }
-    Known::Unknown
+    if i < n { Some(i) } else { None }
 }
 
 // Whether branch e is live: its service flag is absent or not 0.
+#[tactic(auto, unfolding(crate::specs::Words::live))]
 pub(crate) fn live(service: &[u8], e: usize) -> bool
     ensures { result ≡ live service.now e }
 {
-    if e < service.len() {
-        service[e] != 0
-    } else {
-        true
-    }
+    service.get(e).copied().unwrap_or(1) != 0
 }
 
-// The bus at the end of branch e, of n; unknown past the list's end.
-fn end_of(n: usize, list: &[i64], e: usize) -> Known
+// The bus at the end of branch e, of n; none past the list's end.
+fn end_of(n: usize, list: &[i64], e: usize) -> Option<usize>
     ensures { result ≡ known n (get_or list.now e (negsuc 0)) }
 {
-    if e < list.len() {
-        return known_bus(n, list[e]);
-    }
-    Known::Unknown
+    known_bus(n, *list.get(e)?)
 }
 
 // What a branch between two known buses is.
+#[tactic(auto, unfolding(crate::specs::Words::kind_by))]
 fn kind_between(sub: &[u32], alive: bool, a: usize, b: usize) -> Kind
     ensures { result ≡ kind_by (eqb a b) alive (eqb (station_of sub.now a) (station_of sub.now b)) a b }
 {
@@ -103,47 +82,34 @@ pub fn kind_of(sub: &[u32], from: &[i64], to: &[i64], service: &[u8], e: usize) 
     ensures value { result ≡ kind_of sub.now from.now to.now service.now e }
     ensures safe { Safe sub.now result }
 {
-    let start = end_of(sub.len(), from, e);
-    let end = end_of(sub.len(), to, e);
-    match start {
-        Known::Unknown => {
-            return Kind::Undrawn;
-        },
-        Known::Bus(a) => {
-            match end {
-                Known::Unknown => {
-                    return Kind::Undrawn;
-                },
-                Known::Bus(b) => {
-                    return kind_between(sub, live(service, e), a, b);
-                },
-            }
-        },
-    }
+    let Some(a) = end_of(sub.len(), from, e) else {
+        return Kind::Undrawn;
+    };
+    let Some(b) = end_of(sub.len(), to, e) else {
+        return Kind::Undrawn;
+    };
+    kind_between(sub, live(service, e), a, b)
 }
 
 // Sets the bus counts of k stations to 0.
+#[tactic(auto, using(crate::proofs::Counts::cleared_none, crate::proofs::Counts::cleared_more))]
 fn clear_counts(k: usize, stations: &mut [u32])
     requires { 2 * k ≤ length stations.old }
     ensures { counts_in k stations.new ≡ table (λ s. 0) k }
 {
-    let mut s = 0;
-    while s < k {
+    for s in 0..k {
         stations[2 * s] = 0;
-        s += 1;
     }
 }
 
 // Counts each bus in its station.
+#[tactic(auto, using(crate::proofs::Stations::station_below, crate::proofs::Counts::counting))]
 fn count_buses(sub: &[u32], k: usize, stations: &mut [u32])
     requires { (k ≡ station_count sub.now) × (length sub.now ≤ 4096) × (2 * k ≤ length stations.old) × (counts_in k stations.old ≡ table (λ s. 0) k) }
     ensures { counts_in k stations.new ≡ bus_counts sub.now }
 {
-    let mut i = 0;
-    while i < sub.len() {
-        let s = station_of(sub, i);
-        stations[2 * s] = stations[2 * s] + 1;
-        i += 1;
+    for &s in sub {
+        stations[2 * s as usize] += 1;
     }
 }
 

@@ -13,33 +13,34 @@ use listing::output::word;
 use offsets::offset::{Offset, offset_at, offset_order};
 
 // The line of an offset; the place after it.
+#[tactic(auto, using(crate::proofs::Lines::line_laws))]
 fn offset_line(o: Offset, at: usize, out: &mut [u8]) -> usize
     requires { at + 24 ≤ length out.old }
     ensures upper_bound { result ≤ at + 24 }
     ensures value { result ≡ at + length (offset_line o) }
     ensures out_after { out.new ≡ put_at out.old at (offset_line o) }
 {
-    let p = signed_field(o.a, 32, at, out);
-    signed_field(o.b, 10, p, out)
+    let p = signed_field(o.a, b' ', at, out);
+    signed_field(o.b, b'\n', p, out)
 }
 
 // The lines of the first `count` offsets; the place after them.
+#[tactic(auto, using(crate::proofs::Lines::lines_laws))]
 fn offset_lines(count: usize, keys: &[u64], sorted: &[u32], at: usize, out: &mut [u8]) -> usize
     requires { at + 24 * count ≤ length out.old }
     ensures upper_bound { result ≤ at + 24 * count }
     ensures value { result ≡ at + length (offset_lines (offsets_in count keys.now sorted.now)) }
     ensures out_after { out.new ≡ put_at out.old at (offset_lines (offsets_in count keys.now sorted.now)) }
 {
-    let mut i = 0;
     let mut p = at;
-    while i < count {
+    for i in 0..count {
         p = offset_line(offset_at(keys, sorted, i), p, out);
-        i += 1;
     }
     p
 }
 
 // Writes the offsets of a search over the front of `out`, and returns the text's length. The other lists are work room.
+#[tactic(auto, using(crate::proofs::Lines::text_laws), unfolding(crate::specs::Stages::Text::offset_names))]
 pub fn print(
     search: usize,
     keys: &mut [u64],

@@ -13,6 +13,7 @@ use std::io::Write;
 use table::print_table;
 
 // Writes the text of the table.
+#[tactic(auto, using(listing::proofs::Writing::front_laws))]
 fn run<W: Write>(output: &mut W, out: &mut [u8]) -> io::Result<()>
     requires { 40348 ≤ length out.old }
     ensures { OnOk result (Appends (W.contents output.old) (W.contents output.new) (offset_text table_pairs)) }

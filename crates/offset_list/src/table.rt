@@ -7,6 +7,7 @@ ghost use Rattle.offset_lines.specs.Stages.Text.{offset_text};
 use offset_lines::print;
 
 // Writes the table's text over the front of `out`, and returns its length. The pairs are generated: no code here reads the table.
+#[tactic(auto, using(crate::proofs::Generated::generated_text))]
 pub(crate) fn print_table(out: &mut [u8]) -> usize
     requires { 40348 ≤ length out.old }
     ensures value { result ≡ length (offset_text table_pairs) }

@@ -5,7 +5,7 @@ use Rattle.order.specs.Table.{table}
 use Rattle.offsets.specs.declared.offset.Offset.{Offset}
 use Rattle.offsets.specs.Offset.{offset_of}
 
--- each pair as one number (`offsetNumber`)
+-- each pair as one number (`offset_number`)
 unfoldable pub codes : List ℕ
 codes =
     840 ∷ 2480 ∷ 2520 ∷ 2522 ∷ 2562 ∷ 4160 ∷ 4162 ∷ 4242 ∷ 4244 ∷ 7482 ∷ 7562 ∷ 7566 ∷ 7646 ∷ 9162 ∷ 9164 ∷ 9202 ∷ 9206 ∷ 9284 ∷ 9288 ∷ 9326 ∷ 9328 ∷ 14204 ∷ 14208 ∷ 14368 ∷ 14372

@@ -41,10 +41,8 @@ fn grid_keys(search: u64, side: u64, keys: &mut [u64])
 {
     let first = 20 - search;
     let count = side * side;
-    let mut i: u64 = 0;
-    while i < count {
+    for i in 0..count {
         keys[i as usize] = offset_number(i / side + first, i % side + first);
-        i += 1;
     }
 }
 

@@ -78,53 +78,39 @@ impl Options {
     }
 
     // Whether every option is in its range.
+    #[tactic(auto, unfolding(crate::specs::Options::in_range))]
     pub fn in_range(self) -> bool
         ensures { result ≡ in_range self }
     {
-        if !(0.0 < self.fill) {
-            return false;
-        }
-        if !(self.fill <= Options::FILL_MOST) {
-            return false;
-        }
-        if !between(0.0, self.tier_radius, Options::RADIUS_MOST) {
-            return false;
-        }
-        if !between(Options::SCALE_LEAST, self.tier_scale_1, Options::SCALE_MOST) {
-            return false;
-        }
-        if !between(Options::SCALE_LEAST, self.tier_scale_2, Options::SCALE_MOST) {
-            return false;
-        }
-        if !search_fits(self.search) {
-            return false;
-        }
-        if !gaps_fit(self.gaps) {
-            return false;
-        }
-        self.route_iterations <= Options::ITERATIONS_MOST
+        0.0 < self.fill
+            && self.fill <= Options::FILL_MOST
+            && between(0.0, self.tier_radius, Options::RADIUS_MOST)
+            && between(Options::SCALE_LEAST, self.tier_scale_1, Options::SCALE_MOST)
+            && between(Options::SCALE_LEAST, self.tier_scale_2, Options::SCALE_MOST)
+            && search_fits(self.search)
+            && gaps_fit(self.gaps)
+            && self.route_iterations <= Options::ITERATIONS_MOST
     }
 }
 
 // Whether lo <= x <= hi.
+#[tactic(auto, unfolding(crate::specs::Options::between))]
 fn between(lo: f64, x: f64, hi: f64) -> bool
     ensures { result ≡ between lo x hi }
 {
-    if lo <= x { x <= hi } else { false }
+    lo <= x && x <= hi
 }
 
 // Whether a search is in its range.
+#[tactic(auto, unfolding(crate::specs::Options::search_fits))]
 fn search_fits(search: i32) -> bool
     ensures { result ≡ search_fits search }
 {
-    if search < 0 {
-        false
-    } else {
-        search <= Options::SEARCH_MOST
-    }
+    0 <= search && search <= Options::SEARCH_MOST
 }
 
 // Whether a gap is in its range.
+#[tactic(auto, unfolding(crate::specs::Options::gap_fits))]
 fn gap_fits(x: f64) -> bool
     ensures { result ≡ gap_fits x }
 {
@@ -132,22 +118,15 @@ fn gap_fits(x: f64) -> bool
 }
 
 // Whether each of the four gaps is in its range.
+#[tactic(auto, unfolding(crate::specs::Options::gaps_fit))]
 fn gaps_fit(g: Gaps) -> bool
     ensures { result ≡ gaps_fit g }
 {
-    if !gap_fits(g.bar_gap) {
-        return false;
-    }
-    if !gap_fits(g.pad) {
-        return false;
-    }
-    if !gap_fits(g.min_bar) {
-        return false;
-    }
-    gap_fits(g.buffer)
+    gap_fits(g.bar_gap) && gap_fits(g.pad) && gap_fits(g.min_bar) && gap_fits(g.buffer)
 }
 
 // A search as a number of offsets, 0 where it is below 0.
+#[tactic(auto, unfolding(crate::specs::Options::search_of))]
 pub fn search_of(search: i32) -> usize
     ensures { result ≡ search_of search }
 {

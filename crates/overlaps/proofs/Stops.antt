@@ -1,5 +1,5 @@
 -- A box whose left side isn't left of another's right side doesn't overlap it, whichever of the two is shrunk. Assumes nothing.
-use mathlib.Core.Path.{◌≡◌, refl, sym, ap, ◌∙◌, subst}
+use mathlib.Core.Path.{◌≡◌, refl, sym, ◌∙◌, subst}
 use mathlib.Core.Bool.{Bool, true, false, ◌&&◌, ◌||◌}
 use Prim.Native.Nat.{ℕ, ◌≤◌, ◌<◌}
 use native.Mathlib.Omega.{arith}
@@ -13,7 +13,7 @@ use Rattle.float.specs.Small.{is_finite}
 use Rattle.float.specs.Ops.{◌⊕◌, ◌⊖◌}
 use Rattle.float.proofs.Keys.{not_both}
 use Rattle.geometry.specs.declared.Box.{Box}
-use Rattle.geometry.specs.Plane.{edge, shrunk}
+use Rattle.geometry.specs.Plane.{edge}
 use Rattle.proximity.specs.Overlap.{meet, overlap}
 use Rattle.placement.proofs.Rank.{rank, Plus, lt_rank, add_up, sub_down, add_number, sub_number, finite_number}
 use Rattle.placement.proofs.Clear.{Good}
@@ -72,21 +72,3 @@ stop p q x s t P X Q h k =
         last : (j : Bool) → (j && false) ≡ false
         last true = refl
         last false = refl
-
--- ---- two boxes by their stations' numbers
-pub paired_above : (p q h : Box) (s t : ℕ) (b : Bool) → t < s → h ≡ shrunk p → b ≡ overlap h q → b ≡ paired p q s t
-unfolding paired
-paired_above p q h s t b l e f =
-    f ∙ ap (λ (x : Box). overlap x q) e ∙ sym (rw (lt-ltb t s l, le-ltb s t (omega arith)) (whole (overlap (shrunk p) q)))
-  where
-    whole : (x : Bool) → x || false ≡ x
-    whole true = refl
-    whole false = refl
-
-pub paired_below : (p q h : Box) (s t : ℕ) (b : Bool) → s < t → h ≡ shrunk q → b ≡ overlap h p → b ≡ paired p q s t
-unfolding paired
-paired_below p q h s t b l e f = f ∙ ap (λ (x : Box). overlap x p) e ∙ sym (rw (lt-ltb s t l, le-ltb t s (omega arith)))
-
-pub paired_same : (p q : Box) (s t : ℕ) → s ≤ t → t ≤ s → false ≡ paired p q s t
-unfolding paired
-paired_same p q s t h l = sym (rw (le-ltb s t l, le-ltb t s h))

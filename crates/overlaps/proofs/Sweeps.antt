@@ -4,10 +4,9 @@ use mathlib.Core.Bool.{Bool, true, false}
 use mathlib.Core.List.{List, [], ◌∷◌, ◌++◌}
 use Prim.Native.Nat.{ℕ, suc, ◌+◌, ◌-◌, ◌*◌, ◌≤◌, ◌<◌}
 use native.Mathlib.Omega.{arith}
-use native.Mathlib.Nat.{zero-add}
 use native.Mathlib.Numerals.{add-one}
 use lib.Dec.{T}
-use lib.ListN.{length, get_or, take, drop, length-drop, drop_of_length-le, get_or-append}
+use lib.ListN.{length, get_or, take, drop, length-drop, get_or-append}
 use lib.Seq.{take_at, get_or-take, get_or-drop, drop-cons, length-take-le}
 use lib.Ieee.{Float, nan, le, fits, binary64}
 use Rattle.float.specs.Small.{is_finite}
@@ -20,8 +19,7 @@ use Rattle.order.proofs.Laws.{All, all_at, all_sort, sorted, count_yes, count_no
 use Rattle.order.proofs.Tables.{length_table, get_d_table, all_which}
 use Rattle.order.proofs.Strides.{length_strided}
 use Rattle.geometry.specs.declared.Box.{Box}
-use Rattle.geometry.specs.Plane.{box_at, shrunk, no_box, box_in}
-use Rattle.proximity.specs.Overlap.{overlap}
+use Rattle.geometry.specs.Plane.{box_at, no_box, box_in}
 use Rattle.network.specs.Words.{is_occupied, occupied}
 use Rattle.network.specs.Views.{counts_in, boxes_in}
 use Rattle.network.proofs.Views.{get_d_boxes}
@@ -136,9 +134,6 @@ module _ (boxes : List Float) (k n : ℕ) (o : List ℕ) (O : n ≤ length o) (c
     found_no q r b h e y f =
         omega (arith, f, ap (count (either bs s)) (next q h) ∙ count_no (either bs s) (get_or o q 0) (drop (q + 1) listed) (e ∙ y))
 
-    pub found_start : Found boxes k n o c s (c + 1) 0
-    found_start = zero-add _
-
     -- none of those left overlaps
     rest_none : (q r : ℕ) → ((i : ℕ) → q ≤ i → i < n → either bs s (get_or o i 0) ≡ false) → Found boxes k n o c s q r → r ≡ count (either bs s) (drop (c + 1) listed)
     rest_none q r z f = omega (arith, f, count_none (either bs s) (drop q listed) (all_by (λ t. either bs s t ≡ false) (drop q listed) here))
@@ -147,9 +142,6 @@ module _ (boxes : List Float) (k n : ℕ) (o : List ℕ) (O : n ≤ length o) (c
         here i h =
             let l : q + i < n = omega (arith, length-drop q listed, long) in
             subst (λ (t : ℕ). either bs s t ≡ false) (sym (get_or-drop q listed i 0 ∙ get_or-take n o (q + i) 0 l)) (z (q + i) (omega arith) l)
-
-    pub found_end : (q r : ℕ) → n ≤ q → Found boxes k n o c s q r → r ≡ count (either bs s) (drop (c + 1) listed)
-    found_end q r h f = rest_none q r (λ i l m. absurd (omega arith)) f
 
     pub found_stop : (p b : Box) (q r : ℕ) → ((i : ℕ) → T (fits binary64 (get_or boxes i nan))) → Finite boxes → 4 * k ≤ length boxes → Sorted boxes k n o
         → s < k → q < n → p ≡ box_at boxes s → b ≡ box_at boxes (get_or o q 0) → le p.right b.left ≡ true → Found boxes k n o c s q r → r ≡ count (either bs s) (drop (c + 1) listed)
@@ -168,12 +160,4 @@ module _ (boxes : List Float) (k n : ℕ) (o : List ℕ) (O : n ≤ length o) (c
             let d : t < k = S.below i v in
             either_paired boxes k s t (box_at boxes s) (box_at boxes t) false h d refl refl
             (sym (stop (box_at boxes s) (box_at boxes t) (left_at boxes (get_or o q 0)) s t (good (4 * s + 2) (omega arith)) (good (4 * get_or o q 0) (omega arith)) (good (4 * t) (omega arith)) met (S.rising q i u v)))
-
-  -- ---- the pairs from place c on
-  pub pairs_next : c < n → (r : ℕ) → r ≡ count (either bs (get_or o c 0)) (drop (c + 1) listed) → pairs bs (drop c listed) ≡ r + pairs bs (drop (c + 1) listed)
-  unfolding pairs
-  pairs_next h r e = ap (pairs bs) (next c h) ∙ ap (λ (x : ℕ). x + pairs bs (drop (c + 1) listed)) (sym e)
-
-  pub pairs_last : n ≤ c → pairs bs (drop c listed) ≡ 0
-  unfolding pairs
-  pairs_last h = ap (pairs bs) (drop_of_length-le listed (subst (λ (l : ℕ). l ≤ c) (sym long) h))
+        -- ---- the pairs from place c on

@@ -16,16 +16,15 @@ use geometry::{Box, box_at, shrunk};
 use proximity::overlaps;
 
 // Whether the boxes p of station s and q of station t overlap, that of the higher number shrunk.
+#[tactic(auto, unfolding(crate::specs::Stages::Sweep::paired))]
 fn paired(p: Box, q: Box, s: usize, t: usize) -> bool
     ensures { result ≡ paired p q s t }
 {
     if t < s {
-        return overlaps(shrunk(p), q);
+        overlaps(shrunk(p), q)
+    } else {
+        s < t && overlaps(shrunk(q), p)
     }
-    if s < t {
-        return overlaps(shrunk(q), p);
-    }
-    false
 }
 
 // The order keys of k boxes' left sides.
@@ -33,10 +32,8 @@ fn left_keys(k: usize, boxes: &[f64], keys: &mut [u64])
     requires { (4 * k ≤ length boxes.now) × (k ≤ length keys.old) × Finite boxes.now }
     ensures { keys.new ≡ table (λ s. order_key (left_at boxes.now s)) k ++ drop k keys.old }
 {
-    let mut s = 0;
-    while s < k {
+    for s in 0..k {
         keys[s] = order_key(boxes[4 * s]);
-        s += 1;
     }
 }
 
@@ -47,14 +44,10 @@ fn list_occupied(k: usize, stations: &[u32], order: &mut [u32]) -> usize
     ensures value { (result ≡ length (occupied (counts_in k stations.now))) × (result ≤ k) }
 {
     let mut c = 0;
-    let mut s = 0;
-    while s < k {
+    for s in 0..k {
         if 0 < stations[2 * s] {
             order[c] = s as u32;
             c += 1;
-            s += 1;
-        } else {
-            s += 1;
         }
     }
     c
@@ -81,6 +74,7 @@ fn by_left(
 }
 
 // How many stations behind place c of the order overlap the one there: none from the first whose left side isn't left of its right side.
+#[tactic(auto, unfolding(order::specs::Order::count))]
 fn count_right(k: usize, boxes: &[f64], n: usize, order: &[u32], c: usize) -> usize
     requires k_in_bounds { (4 * k ≤ length boxes.now) × (n ≤ length order.now) × (c < n) × Finite boxes.now }
     requires sorted { Sorted boxes.now k n order.now }
@@ -90,8 +84,7 @@ fn count_right(k: usize, boxes: &[f64], n: usize, order: &[u32], c: usize) -> us
     let s = order[c] as usize;
     let p = box_at(boxes, s);
     let mut found = 0;
-    let mut q = c + 1;
-    while q < n {
+    for q in c + 1..n {
         let t = order[q] as usize;
         let b = box_at(boxes, t);
         if p.right <= b.left {
@@ -99,30 +92,27 @@ fn count_right(k: usize, boxes: &[f64], n: usize, order: &[u32], c: usize) -> us
         }
         if paired(p, b, s, t) {
             found += 1;
-            q += 1;
-        } else {
-            q += 1;
         }
     }
     found
 }
 
 // The number of pairs that overlap among the first n stations of the order.
+#[tactic(auto, unfolding(crate::specs::Stages::Sweep::pairs))]
 fn count_pairs(k: usize, boxes: &[f64], n: usize, order: &[u32]) -> usize
     requires k_in_bounds { (4 * k ≤ length boxes.now) × (n ≤ length order.now) × (n ≤ 4096) × Finite boxes.now }
     requires sorted { Sorted boxes.now k n order.now }
     ensures { result ≡ pairs (boxes_in k boxes.now) (take n order.now) }
 {
     let mut found = 0;
-    let mut c = 0;
-    while c < n {
+    for c in 0..n {
         found += count_right(k, boxes, n, order, c);
-        c += 1;
     }
     found
 }
 
 // The number of pairs that overlap. `keys`, `order` and `spare` are work lists.
+#[tactic(auto, unfolding(crate::specs::Overlaps::overlaps))]
 pub fn count_overlaps(
     k: usize,
     stations: &[u32],

@@ -21,9 +21,9 @@ use Rattle.geometry.specs.Plane.{origin}
 use Rattle.proximity.specs.Overlap.{overlap}
 use Rattle.seeds.specs.Seed.{place_at}
 use Rattle.offsets.specs.declared.offset.Offset.{Offset}
-use Rattle.free_places.specs.declared.Found.TheVariants.{At}
+use Rattle.std.specs.Prelude.{Some, unwrap_or}
 use Rattle.placement.specs.Place.{box_of, next_place, places_to, places, found_free}
-use Rattle.free_places.specs.Search.{Frame, free, buffered, place, tries, FirstOf, first_free, or_next, place_for, box_on, frame_at}
+use Rattle.free_places.specs.Search.{Frame, free, buffered, place, tries, FirstOf, first_free, place_for, box_on, frame_at}
 use Rattle.turns.specs.Stages.Listed.{Turns}
 use Rattle.order.proofs.Sorting.{map_agree}
 use Rattle.placement.proofs.Placing.{all_of_lem}
@@ -60,25 +60,25 @@ module _ (seed : Point) (r : Frame) (earlier : List Box) where
   is_free c = free (buffered c r) earlier
 
   through : (w : Float) (os : List Offset) (l : List Point)
-      → first is_free seed (map (place seed r.half w) os ++ l) ≡ or_next (first_free seed r earlier w os) (first is_free seed l)
+      → first is_free seed (map (place seed r.half w) os ++ l) ≡ unwrap_or (first_free seed r earlier w os) (first is_free seed l)
   unfolding first first_free
   through w [] l = refl
   through w (o ∷ os) l = go (is_free (place seed r.half w o)) (through w os l)
     where
-      go : (b : Bool) → first is_free seed (map (place seed r.half w) os ++ l) ≡ or_next (first_free seed r earlier w os) (first is_free seed l)
+      go : (b : Bool) → first is_free seed (map (place seed r.half w) os ++ l) ≡ unwrap_or (first_free seed r earlier w os) (first is_free seed l)
           → pick b (place seed r.half w o) (first is_free seed (map (place seed r.half w) os ++ l))
-          ≡ or_next (pick b (At (place seed r.half w o)) (first_free seed r earlier w os)) (first is_free seed l)
+          ≡ unwrap_or (pick b (Some (place seed r.half w o)) (first_free seed r earlier w os)) (first is_free seed l)
       go true h = refl
       go false h = h
 
-  alone : (w : Float) (os : List Offset) → first is_free seed (map (place seed r.half w) os) ≡ or_next (first_free seed r earlier w os) seed
+  alone : (w : Float) (os : List Offset) → first is_free seed (map (place seed r.half w) os) ≡ unwrap_or (first_free seed r earlier w os) seed
   unfolding first first_free
   alone w [] = refl
   alone w (o ∷ os) = go (is_free (place seed r.half w o)) (alone w os)
     where
-      go : (b : Bool) → first is_free seed (map (place seed r.half w) os) ≡ or_next (first_free seed r earlier w os) seed
+      go : (b : Bool) → first is_free seed (map (place seed r.half w) os) ≡ unwrap_or (first_free seed r earlier w os) seed
           → pick b (place seed r.half w o) (first is_free seed (map (place seed r.half w) os))
-          ≡ or_next (pick b (At (place seed r.half w o)) (first_free seed r earlier w os)) seed
+          ≡ unwrap_or (pick b (Some (place seed r.half w o)) (first_free seed r earlier w os)) seed
       go true h = refl
       go false h = h
 
@@ -86,7 +86,7 @@ module _ (seed : Point) (r : Frame) (earlier : List Box) where
   unfolding place_for
   search_is os =
       through f1 os (map (place seed r.half f2) os ++ map (place seed r.half f4) os)
-      ∙ ap (or_next (first_free seed r earlier f1 os)) (through f2 os (map (place seed r.half f4) os) ∙ ap (or_next (first_free seed r earlier f2 os)) (alone f4 os))
+      ∙ ap (unwrap_or (first_free seed r earlier f1 os)) (through f2 os (map (place seed r.half f4) os) ∙ ap (unwrap_or (first_free seed r earlier f2 os)) (alone f4 os))
 
   pub first_free_of : (os : List Offset) → FirstOf (λ c. free (buffered c r) earlier) (tries seed r.half os) seed (place_for seed r earlier os)
   first_free_of os = subst (FirstOf is_free (tries seed r.half os) seed) (search_is os) (first_law is_free seed (tries seed r.half os))

@@ -25,9 +25,9 @@ use Rattle.sizes.proofs.SideSizes.{Sides, table_at}
 use Rattle.offsets.specs.declared.offset.Offset.{Offset}
 use Rattle.offsets.specs.Offset.{offsets}
 use Rattle.turns.specs.Stages.Listed.{Turns}
-use Rattle.free_places.specs.declared.Found.TheVariants.{At}
+use Rattle.std.specs.Prelude.{Some, unwrap_or}
 use Rattle.placement.specs.Place.{box_of, next_place, places_to, places, boxes}
-use Rattle.free_places.specs.Search.{Frame, frame_for, frames, frame_at, box_on, buffered, free, place, first_free, or_next, place_for}
+use Rattle.free_places.specs.Search.{Frame, frame_for, frames, frame_at, box_on, buffered, free, place, first_free, place_for}
 use Rattle.placement.proofs.PlaceLaw.{waits}
 use Rattle.offsets.specs.Complete.{Within}
 use Rattle.offsets.proofs.OffsetLaw.{offsets_within}
@@ -71,20 +71,20 @@ Offsets [] = Unit {0}
 Offsets (o ∷ os) = Within 20 o × Offsets os
 
 module _ (m g : ℕ) (M : m + 8 ≤ 2097) (G : g + 8 ≤ 2097) (H : m ≤ g) (seed : Point) (r : Frame) (earlier : List Box) (S : Near m seed) (Z : Sides g r.half) where
-  first_near : (w : Float) (os : List Offset) (p : Point) → AtMost (1074 + 2) w → Offsets os → Near (g + 8) p → Near (g + 8) (or_next (first_free seed r earlier w os) p)
+  first_near : (w : Float) (os : List Offset) (p : Point) → AtMost (1074 + 2) w → Offsets os → Near (g + 8) p → Near (g + 8) (unwrap_or (first_free seed r earlier w os) p)
   unfolding first_free
   first_near w [] p k O P = P
   first_near w (o ∷ os) p k O P = go (free (buffered (place seed r.half w o) r) earlier) (first_near w os p k O.1 P)
     where
-      go : (b : Bool) → Near (g + 8) (or_next (first_free seed r earlier w os) p) → Near (g + 8) (or_next (pick b (At (place seed r.half w o)) (first_free seed r earlier w os)) p)
+      go : (b : Bool) → Near (g + 8) (unwrap_or (first_free seed r earlier w os) p) → Near (g + 8) (unwrap_or (pick b (Some (place seed r.half w o)) (first_free seed r earlier w os)) p)
       go true h = place_near m g M G H seed r.half S Z w o k O.0
       go false h = h
 
   pub place_for_near : (os : List Offset) → Offsets os → Near (g + 8) (place_for seed r earlier os)
   unfolding place_for
   place_for_near os O =
-      first_near f1 os (or_next (first_free seed r earlier f2 os) (or_next (first_free seed r earlier f4 os) seed)) (most_weaken 1074 (1074 + 2) f1 (lit≤ tt) f1_most) O
-      (first_near f2 os (or_next (first_free seed r earlier f4 os) seed) (most_weaken (1074 + 1) (1074 + 2) f2 (lit≤ tt) f2_most) O
+      first_near f1 os (unwrap_or (first_free seed r earlier f2 os) (unwrap_or (first_free seed r earlier f4 os) seed)) (most_weaken 1074 (1074 + 2) f1 (lit≤ tt) f1_most) O
+      (first_near f2 os (unwrap_or (first_free seed r earlier f4 os) seed) (most_weaken (1074 + 1) (1074 + 2) f2 (lit≤ tt) f2_most) O
       (first_near f4 os seed f4_most O (record { x = most_weaken m (g + 8) seed.x (omega arith) S.x; y = most_weaken m (g + 8) seed.y (omega arith) S.y })))
 
 -- ---- the list of places: each station is placed once, from its seed

@@ -84,13 +84,11 @@ fn place_all(
     ensures { points_in k places.new ≡ Place.places (frames_in m k blocks.now) (skipped search (pairs_in a.now b.now)) (points_in k places.old) (order_in r stations.now) }
 {
     let mut most = 0;
-    let mut p = 0;
-    while p < r {
+    for p in 0..r {
         let s = stations[2 * p + 1] as usize;
         most = place_station(
             s, p, m, blocks, a, b, search, most, places, boxes, keys, sorted,
         );
-        p += 1;
     }
 }
 
@@ -143,11 +141,9 @@ pub fn station_boxes(
     requires { (2 * k ≤ length stations.now) × (3 * k ≤ length blocks.now) × (2 * k ≤ length places.now) × (4 * k ≤ length frames.old) }
     ensures { boxes_in k frames.new ≡ Place.boxes (frames_in m k blocks.now) (counts_in k stations.now) (points_in k places.now) }
 {
-    let mut s = 0;
-    while s < k {
+    for s in 0..k {
         if 0 < stations[2 * s] {
             put_box(frames, s, station_box(s, m, blocks, places));
-            s += 1;
         } else {
             put_box(
                 frames,
@@ -159,7 +155,6 @@ pub fn station_boxes(
                     bottom: 0.0,
                 },
             );
-            s += 1;
         }
     }
 }

@@ -12,23 +12,19 @@ use geometry::Box;
 use hypot::hypot;
 
 // Whether each of l0 to r0 and l1 to r1 begins before the other ends.
+#[tactic(auto, unfolding(crate::specs::Overlap::meet))]
 fn meet(l0: f64, r0: f64, l1: f64, r1: f64) -> bool
     ensures { result ≡ meet l0 r0 l1 r1 }
 {
-    if l0 < r1 {
-        return l1 < r0;
-    }
-    false
+    l0 < r1 && l1 < r0
 }
 
 // Whether two boxes strictly overlap.
+#[tactic(auto, unfolding(crate::specs::Overlap::overlap))]
 pub fn overlaps(p: Box, q: Box) -> bool
     ensures { result ≡ overlap p q }
 {
-    if meet(p.left, p.right, q.left, q.right) {
-        return meet(p.top, p.bottom, q.top, q.bottom);
-    }
-    false
+    meet(p.left, p.right, q.left, q.right) && meet(p.top, p.bottom, q.top, q.bottom)
 }
 
 // The longer of two sides x and y, which the hypotenuse is not below. Branch free.
@@ -62,8 +58,5 @@ pub fn is_near(x: f64, y: f64, radius: f64) -> bool
     if radius < longer(x, y) {
         return false;
     }
-    if abs(x) + abs(y) < radius {
-        return true;
-    }
-    hypot(x, y) <= radius
+    abs(x) + abs(y) < radius || hypot(x, y) <= radius
 }

@@ -24,10 +24,8 @@ fn clear_counters(stations: &mut [u32], k: usize)
     ensures by_index { (s : ℕ) → s < k → get_or stations.new (2 * s + 1) 0 ≡ 0 }
     ensures stations_unchanged { counts_in k stations.new ≡ counts_in k stations.old }
 {
-    let mut s = 0;
-    while s < k {
+    for s in 0..k {
         stations[2 * s + 1] = 0;
-        s += 1;
     }
 }
 
@@ -39,18 +37,15 @@ fn walk(of: &[u32], c: usize, k: usize, sorted: &[u32], stations: &mut [u32], pl
     ensures stations_after { strided 2 1 0 k stations.new ≡ table (λ s. count (λ j. eqb (get_or of.now j 0) s) (take c sorted.now)) k }
     ensures stations_unchanged { counts_in k stations.new ≡ counts_in k stations.old }
 {
-    let mut p = 0;
-    while p < c {
-        let x = sorted[p] as usize;
+    for &n in &sorted[..c] {
+        let x = n as usize;
         let s = of[x] as usize;
         if s < k {
             let r = stations[2 * s + 1];
             places[x] = r;
             stations[2 * s + 1] = r + 1;
-            p += 1;
         } else {
             places[x] = 0;
-            p += 1;
         }
     }
 }

@@ -1,14 +1,14 @@
 -- What crosses to C and Rust: 01's number of an answer and the numbers beside the lists. Definitions only.
-use Rattle.std.specs.Prelude.{◌≡◌}
+use Rattle.std.specs.Prelude.{◌≡◌, Result, Ok, Err}
 use Rattle.float.specs.Ops.{f0}
 use Rattle.options.specs.declared.Options.{Options}
-use Rattle.drawing.specs.declared.answer.Answer.{Answer}
-use Rattle.drawing.specs.declared.answer.Answer.TheVariants as Layouts
+use Rattle.refusals.specs.declared.Refusal.{Refusal}
+use Rattle.refusals.specs.Refusal.{number}
+use Rattle.drawing.specs.declared.answer.Plot.{Plot}
 use Rattle.drawing.specs.Network as Network
 use Rattle.drawing.specs.Answer as Layout
 use Rattle.drawing.specs.Number.{layout_number}
-use Rattle.findings.specs.declared.answer.Audit.{Audit}
-use Rattle.findings.specs.declared.answer.Audit.TheVariants as Audits
+use Rattle.findings.specs.declared.answer.Figures.{Figures}
 use Rattle.findings.specs.Drawn as Drawn
 use Rattle.findings.specs.Answer as Quality
 use Rattle.records.specs.declared.plain.Settings.{Settings}
@@ -31,8 +31,8 @@ options_of s =
     }
 
 -- Number 0 with the unit, the bounds and the count of pieces, or a refusal's number and zeros.
-unfoldable pub plotted : Answer → Plotted
-plotted (Layouts.Drawn p) =
+unfoldable pub plotted : Result Plot Refusal → Plotted
+plotted (Ok p) =
     record {
       number = 0;
       pieces = p.pieces;
@@ -42,13 +42,13 @@ plotted (Layouts.Drawn p) =
       right = p.bounds.right;
       bottom = p.bounds.bottom;
     }
-plotted (Layouts.Refused r) = record { number = r; pieces = 0; unit = f0; left = f0; top = f0; right = f0; bottom = f0 }
+plotted (Err r) = record { number = number r; pieces = 0; unit = f0; left = f0; top = f0; right = f0; bottom = f0 }
 
 -- Number 0 with the audit's four counts, or a refusal's number and zeros.
-unfoldable pub audited : Audit → Audited
-audited (Audits.Audited f) =
+unfoldable pub audited : Result Figures Refusal → Audited
+audited (Ok f) =
     record { number = 0; stations = f.stations; overlaps = f.overlaps; through = f.through; relative = f.relative }
-audited (Audits.Refused r) = record { number = r; stations = 0; overlaps = 0; through = 0; relative = 0 }
+audited (Err r) = record { number = number r; stations = 0; overlaps = 0; through = 0; relative = 0 }
 
 -- a drawing call's numbers and the lists after it
 pub record Drew : Type 0 where

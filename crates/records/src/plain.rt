@@ -2,9 +2,10 @@
 ghost use Rattle.std.specs.Prelude.{◌≡◌};
 ghost use Rattle.records.specs.Plain.{options_of, plotted, audited};
 
-use drawing::answer::Answer;
-use findings::answer::Audit;
+use drawing::answer::Plot;
+use findings::answer::Figures;
 use options::{Gaps, Options};
+use refusals::Refusal;
 
 // The options of a drawing (crate `network`).
 #[repr(C)]
@@ -49,71 +50,80 @@ pub struct Audited {
 }
 
 // Settings as options.
-pub fn options_of(s: Settings) -> Options
-    ensures { result ≡ options_of s }
-{
-    Options {
-        fill: s.fill,
-        tier_radius: s.tier_radius,
-        tier_count_1: s.tier_count_1,
-        tier_count_2: s.tier_count_2,
-        tier_scale_1: s.tier_scale_1,
-        tier_scale_2: s.tier_scale_2,
-        search: s.search,
-        route_iterations: s.route_iterations,
-        gaps: Gaps {
-            bar_gap: s.bar_gap,
-            pad: s.pad,
-            min_bar: s.min_bar,
-            buffer: s.buffer,
-        },
+impl From<Settings> for Options {
+    ghost from_gives = { λ s o. o ≡ options_of s };
+
+    #[tactic(auto, unfolding(crate::specs::Plain::options_of))]
+    fn from(s: Settings) -> Options {
+        Options {
+            fill: s.fill,
+            tier_radius: s.tier_radius,
+            tier_count_1: s.tier_count_1,
+            tier_count_2: s.tier_count_2,
+            tier_scale_1: s.tier_scale_1,
+            tier_scale_2: s.tier_scale_2,
+            search: s.search,
+            route_iterations: s.route_iterations,
+            gaps: Gaps {
+                bar_gap: s.bar_gap,
+                pad: s.pad,
+                min_bar: s.min_bar,
+                buffer: s.buffer,
+            },
+        }
     }
 }
 
 // A drawing's answer as numbers.
-pub fn plot_numbers(a: Answer) -> Plotted
-    ensures { result ≡ plotted a }
-{
-    match a {
-        Answer::Drawn(p) => Plotted {
-            number: 0,
-            pieces: p.pieces,
-            unit: p.unit,
-            left: p.bounds.left,
-            top: p.bounds.top,
-            right: p.bounds.right,
-            bottom: p.bounds.bottom,
-        },
-        Answer::Refused(r) => Plotted {
-            number: r,
-            pieces: 0,
-            unit: 0.0,
-            left: 0.0,
-            top: 0.0,
-            right: 0.0,
-            bottom: 0.0,
-        },
+impl From<Result<Plot, Refusal>> for Plotted {
+    ghost from_gives = { λ a p. p ≡ plotted a };
+
+    #[tactic(auto, unfolding(crate::specs::Plain::plotted))]
+    fn from(a: Result<Plot, Refusal>) -> Plotted {
+        match a {
+            Ok(p) => Plotted {
+                number: 0,
+                pieces: p.pieces,
+                unit: p.unit,
+                left: p.bounds.left,
+                top: p.bounds.top,
+                right: p.bounds.right,
+                bottom: p.bounds.bottom,
+            },
+            Err(r) => Plotted {
+                number: r.number(),
+                pieces: 0,
+                unit: 0.0,
+                left: 0.0,
+                top: 0.0,
+                right: 0.0,
+                bottom: 0.0,
+            },
+        }
     }
 }
 
 // An audit's answer as numbers.
-pub fn audit_numbers(a: Audit) -> Audited
-    ensures { result ≡ audited a }
-{
-    match a {
-        Audit::Audited(f) => Audited {
-            number: 0,
-            stations: f.stations,
-            overlaps: f.overlaps,
-            through: f.through,
-            relative: f.relative,
-        },
-        Audit::Refused(r) => Audited {
-            number: r,
-            stations: 0,
-            overlaps: 0,
-            through: 0,
-            relative: 0,
-        },
+impl From<Result<Figures, Refusal>> for Audited {
+    ghost from_gives = { λ a q. q ≡ audited a };
+
+    #[tactic(auto, unfolding(crate::specs::Plain::audited))]
+    fn from(a: Result<Figures, Refusal>) -> Audited {
+        match a {
+            Ok(f) => Audited {
+                number: 0,
+                stations: f.stations,
+                overlaps: f.overlaps,
+                through: f.through,
+                relative: f.relative,
+            },
+            Err(r) => Audited {
+                number: r.number(),
+                stations: 0,
+                overlaps: 0,
+                through: 0,
+                relative: 0,
+            },
+        }
     }
 }

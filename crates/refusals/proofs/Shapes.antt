@@ -9,6 +9,8 @@ use lib.IntN.{ℤ}
 use lib.ListN.{length}
 use borrow.Author.Tests.{ltb-false, eqb-true}
 use Rattle.network.specs.Words.{station_count}
+use Rattle.std.specs.Prelude.{Some, None}
+use Rattle.refusals.specs.declared.Refusal.TheVariants.{TooMany, KvLength, ToLength, StationNumber, Voltage}
 use Rattle.refusals.specs.Refusal.{refuse, stray_voltage, shape_refusal}
 
 pub test_on : (b : Bool) → not b ≡ false → b ≡ true
@@ -32,15 +34,15 @@ pub record Shape (sub kv : List ℕ) (from to : List ℤ) : Type 0 where
   pub ends : length to ≡ length from
   pub below : station_count sub ≤ length sub
 
-none_of : (a b c d e : Bool) → 0 ≡ refuse a 1 (refuse b 2 (refuse c 3 (refuse d 4 (refuse e 15 0)))) → (a ≡ false) × (b ≡ false) × (c ≡ false) × (d ≡ false) × (e ≡ false)
-none_of true b c d e h = absurd (omega (arith, h))
-none_of false true c d e h = absurd (omega (arith, h))
-none_of false false true d e h = absurd (omega (arith, h))
-none_of false false false true e h = absurd (omega (arith, h))
-none_of false false false false true h = absurd (omega (arith, h))
+none_of : (a b c d e : Bool) → None ≡ refuse a (Some TooMany) (refuse b (Some KvLength) (refuse c (Some ToLength) (refuse d (Some StationNumber) (refuse e (Some Voltage) None)))) → (a ≡ false) × (b ≡ false) × (c ≡ false) × (d ≡ false) × (e ≡ false)
+none_of true b c d e h = cc
+none_of false true c d e h = cc
+none_of false false true d e h = cc
+none_of false false false true e h = cc
+none_of false false false false true h = cc
 none_of false false false false false h = (refl, refl, refl, refl, refl)
 
-pub shape_fits : (sub kv : List ℕ) (from to : List ℤ) → 0 ≡ shape_refusal sub kv from to → Shape sub kv from to
+pub shape_fits : (sub kv : List ℕ) (from to : List ℤ) → None ≡ shape_refusal sub kv from to → Shape sub kv from to
 unfolding shape_refusal
 shape_fits sub kv from to h =
     let z = none_of _ _ _ _ (stray_voltage kv) h in

@@ -1,11 +1,30 @@
--- Refusals 1 to 4, 15 and 6, each by its condition. Definitions only.
-use Rattle.std.specs.Prelude.{ℕ, ◌+◌, ◌*◌, Bool, true, false, not, ◌&&◌, ◌||◌, List, eqb, ltb, ℤ, length, get_or, Float}
+-- 01's numbers of refusals, and refusals 1 to 4, 15 and 6, each by its condition. Definitions only.
+use Rattle.std.specs.Prelude.{ℕ, ◌+◌, ◌*◌, Bool, true, false, not, ◌&&◌, ◌||◌, List, eqb, ltb, ℤ, length, get_or, Float, Option, Some, None, Result, Ok, Err}
 use Rattle.std.specs.Float.{nan, binary64}
 use Rattle.std.specs.Float.Ieee.{lt, of_bits}
 use Rattle.float.specs.Small.{abs_of, is_finite}
 use Rattle.float.specs.Ops.{f0}
 use Rattle.order.specs.Table.{how_many}
 use Rattle.network.specs.Words.{station_count}
+use Rattle.refusals.specs.declared.Refusal.{Refusal}
+use Rattle.refusals.specs.declared.Refusal.TheVariants.{TooMany, KvLength, ToLength, StationNumber, OptionRange, TooFar, ListTooShort, IllSized, Mesh, Crossings, Pieces, NoFit, Malformed, Voltage}
+
+-- 01's number of a refusal; 15 is 02's
+abbrev pub number : Refusal → ℕ
+number TooMany = 1
+number KvLength = 2
+number ToLength = 3
+number StationNumber = 4
+number OptionRange = 5
+number TooFar = 6
+number ListTooShort = 7
+number IllSized = 8
+number Mesh = 9
+number Crossings = 10
+number Pieces = 11
+number NoFit = 13
+number Malformed = 14
+number Voltage = 15
 
 -- 1: more than 4,096 buses or 8,192 branches
 abbrev pub too_many : List ℕ → List ℤ → Bool
@@ -41,15 +60,25 @@ unfoldable pub too_far : ℕ → List Float → Bool
 too_far n xy = ltb 0 (how_many (λ i. far_out (get_or xy (2 * i) nan) (get_or xy (2 * i + 1) nan)) n)
 
 -- r where the condition holds, else what comes after it
-abbrev pub refuse : Bool → ℕ → ℕ → ℕ
+abbrev pub refuse : {A : Type 0} → Bool → A → A → A
 refuse true r later = r
 refuse false r later = later
 
--- 1 to 4, then 15, 0 where none applies: 15 stands directly after 4 and before 5, although its number is higher
-unfoldable pub shape_refusal : List ℕ → List ℕ → List ℤ → List ℤ → ℕ
+-- a value, unless it is refused
+abbrev pub unless : {A : Type 0} → Option Refusal → A → Result A Refusal
+unless None a = Ok a
+unless (Some r) a = Err r
+
+-- 01's number of an answer: 0, or the refusal's
+unfoldable pub number_of : {A : Type 0} → Result A Refusal → ℕ
+number_of (Ok a) = 0
+number_of (Err r) = number r
+
+-- 1 to 4, then 15, none where none applies: 15 stands directly after 4 and before 5, although its number is higher
+unfoldable pub shape_refusal : List ℕ → List ℕ → List ℤ → List ℤ → Option Refusal
 shape_refusal sub kv from to =
-    refuse (too_many sub from) 1
-    (refuse (kv_unlike sub kv) 2
-    (refuse (to_unlike from to) 3
-    (refuse (number_too_high sub) 4
-    (refuse (stray_voltage kv) 15 0))))
+    refuse (too_many sub from) (Some TooMany)
+    (refuse (kv_unlike sub kv) (Some KvLength)
+    (refuse (to_unlike from to) (Some ToLength)
+    (refuse (number_too_high sub) (Some StationNumber)
+    (refuse (stray_voltage kv) (Some Voltage) None))))

@@ -1,65 +1,98 @@
-// The refusals that the input alone decides: 1 to 4, 15 and 6, and whether numbers are finite.
+// What a call is refused for: 01's refusals, and those that the input alone decides, 1 to 4, 15 and 6.
 #![tactic(auto)]
 
 ghost use Rattle.std.specs.Prelude.{◌≡◌, ◌+◌, ◌<◌};
-ghost use Rattle.refusals.specs.Refusal.{is_voltage, stray_voltage, shape_refusal, above, far_out, too_far};
+ghost use Rattle.std.specs.Result.{result_err};
+ghost use Rattle.refusals.specs.Refusal.{number, is_voltage, stray_voltage, shape_refusal, above, far_out, too_far};
 
 use float::bits::of_bits;
 use float::small::{abs, is_finite};
 use geometry::point_at;
 use network::words::station_count;
 
+// Why a call is refused. Each has 01's number.
+#[derive(Clone, Copy, Debug, PartialEq, Eq)]
+pub enum Refusal {
+    // More than 4,096 buses or 8,192 branches.
+    TooMany = 1,
+    // `kv` isn't as long as the bus list.
+    KvLength = 2,
+    // `to` isn't as long as `from`.
+    ToLength = 3,
+    // A substation number is not below the bus count.
+    StationNumber = 4,
+    // An option is out of range.
+    OptionRange = 5,
+    // A bus with two finite coordinates has one above 10^12 in size.
+    TooFar = 6,
+    // A result or work list of fixed length is too short.
+    ListTooShort = 7,
+    // The largest of right − left and bottom − top over occupied stations' boxes is 0, or a corner of these boxes (in the audit, also a piece end) divided by it isn't at most 2^40 in size.
+    IllSized = 8,
+    // The mesh is ill-formed.
+    Mesh = 9,
+    // Crossings, those of cleared paths included, outnumber the lent crossing list.
+    Crossings = 10,
+    // Pieces outnumber the lent piece lists.
+    Pieces = 11,
+    // The audited drawing doesn't fit its network.
+    NoFit = 13,
+    // The program's text is malformed.
+    Malformed = 14,
+    // A `kv` isn't finite and above zero.
+    Voltage = 15,
+}
+
+impl Refusal {
+    // 01's number.
+    pub fn number(self) -> u32
+        ensures { result ≡ number self }
+    {
+        self as u32
+    }
+}
+
 // Whether a pattern is that of a voltage: finite and above zero.
+#[tactic(auto, unfolding(crate::specs::Refusal::is_voltage))]
 fn is_voltage(pattern: u64) -> bool
     ensures { result ≡ is_voltage pattern }
 {
     let v = of_bits(pattern);
-    if is_finite(v) {
-        return 0.0 < v;
-    }
-    false
+    is_finite(v) && 0.0 < v
 }
 
 // 15: whether one of these isn't a voltage.
 fn stray_voltage(kv: &[u64]) -> bool
     ensures { result ≡ stray_voltage kv.now }
 {
-    let mut i = 0;
-    while i < kv.len() {
-        if !is_voltage(kv[i]) {
-            return true;
-        }
-        i += 1;
-    }
-    false
+    kv.iter().any(|&pattern| !is_voltage(pattern))
 }
 
-// 1 to 4, then 15, 0 where none applies.
-pub fn shape_refusal(sub: &[u32], kv: &[u64], from: &[i64], to: &[i64]) -> u32
-    ensures { result ≡ shape_refusal sub.now kv.now from.now to.now }
+// 1 to 4, then 15.
+#[tactic(auto, unfolding(crate::specs::Refusal::shape_refusal))]
+pub fn check_shape(sub: &[u32], kv: &[u64], from: &[i64], to: &[i64]) -> Result<(), Refusal>
+    ensures { result_err result ≡ shape_refusal sub.now kv.now from.now to.now }
 {
-    if sub.len() > 4096 {
-        return 1;
-    }
-    if from.len() > 8192 {
-        return 1;
+    if sub.len() > 4096 || from.len() > 8192 {
+        return Err(Refusal::TooMany);
     }
     if kv.len() != sub.len() {
-        return 2;
+        return Err(Refusal::KvLength);
     }
     if to.len() != from.len() {
-        return 3;
+        return Err(Refusal::ToLength);
     }
     if station_count(sub) > sub.len() {
-        return 4;
+        return Err(Refusal::StationNumber);
     }
     if stray_voltage(kv) {
-        return 15;
+        return Err(Refusal::Voltage);
     }
-    0
+    Ok(())
 }
 
 // Whether a number is above 10^12 in size.
+#[tactic(auto, unfolding(crate::specs::Refusal::above))]
 fn above(x: f64) -> bool
     ensures { result ≡ above x }
 {
@@ -67,19 +100,11 @@ fn above(x: f64) -> bool
 }
 
 // Whether two finite coordinates have one above 10^12 in size.
+#[tactic(auto, unfolding(crate::specs::Refusal::far_out))]
 fn far_out(x: f64, y: f64) -> bool
     ensures { result ≡ far_out x y }
 {
-    if !is_finite(x) {
-        return false;
-    }
-    if !is_finite(y) {
-        return false;
-    }
-    if above(x) {
-        return true;
-    }
-    above(y)
+    is_finite(x) && is_finite(y) && (above(x) || above(y))
 }
 
 // 6: whether one of n buses with two finite coordinates has one above 10^12 in size.
@@ -87,13 +112,8 @@ pub fn too_far(n: usize, xy: &[f64]) -> bool
     requires { n < 0x1_0000_0000 }
     ensures { result ≡ too_far n xy.now }
 {
-    let mut i = 0;
-    while i < n {
+    (0..n).any(|i| {
         let p = point_at(xy, i);
-        if far_out(p.x, p.y) {
-            return true;
-        }
-        i += 1;
-    }
-    false
+        far_out(p.x, p.y)
+    })
 }

@@ -8,65 +8,52 @@
 mod audits;
 mod layouts;
 mod lists;
-mod text;
 mod words;
 
 use std::io;
 use std::io::Read;
-use text::line_end;
-use words::word_at;
 
 // How much of the input is read.
 const MOST_BYTES: u64 = 524288;
 
-const LAYOUT: u8 = 76;
-
-const AUDIT: u8 = 65;
+// How many calls came to each answer, by its number: it is read and printed as one, so names would be turned back into it.
+type Counts = [u64; 16];
 
 // One more of this number.
-fn count(counts: &mut [u64; 16], number: u64) {
-    if number < 16 {
-        let i = number as usize;
-        counts[i] = std::num::wrapping_add_u64(counts[i], 1);
+fn count(counts: &mut Counts, number: u64) {
+    if let Some(n) = counts.get_mut(number as usize) {
+        *n = n.wrapping_add(1);
     }
 }
 
-// Whether the call on one line agrees; if so it is counted by its answer.
-fn agrees(line: &[u8], drawn: &mut [u64; 16], audited: &mut [u64; 16]) -> bool {
-    let mut w = [0u64; 1024];
-    text::words(line, &mut w);
-    let kind = text::kind(line);
-    if kind == LAYOUT {
-        count(drawn, word_at(&w, 25));
-        return layouts::agrees(&w);
+// Whether the call on one line agrees; it is counted by its answer.
+fn agrees(line: &[u8], drawn: &mut Counts, audited: &mut Counts) -> bool {
+    let mut w = [0; 1024];
+    stored::words(line.get(2..).unwrap_or(&[]), &mut w);
+    match line.first() {
+        Some(b'L') => {
+            count(drawn, w[25]);
+            layouts::agrees(&w)
+        }
+        Some(b'A') => {
+            count(audited, w[13]);
+            audits::agrees(&w)
+        }
+        _ => false,
     }
-    if kind == AUDIT {
-        count(audited, word_at(&w, 13));
-        return audits::agrees(&w);
-    }
-    false
 }
 
-// The number of the first line that differs, 0 where none does.
-fn run(text: &[u8], drawn: &mut [u64; 16], audited: &mut [u64; 16]) -> u64 {
-    let mut line = 0;
-    let mut at = 0;
-    while at < text.len() {
-        let end = line_end(text, at);
-        line = std::num::wrapping_add_u64(line, 1);
-        if !agrees(&text[at..end], drawn, audited) {
-            return line;
-        }
-        if end == text.len() {
-            return 0;
-        }
-        at = end + 1;
-    }
-    0
+// The index of the first line that differs, if one does.
+fn run(text: &[u8], drawn: &mut Counts, audited: &mut Counts) -> Option<usize> {
+    text.split_inclusive(|b| *b == b'\n').position(|line| !agrees(
+        line.strip_suffix(b"\n").unwrap_or(line),
+        drawn,
+        audited,
+    ))
 }
 
 // A line for each answer that came.
-fn print_counts(rt: &impl Print, name: &str, counts: &[u64; 16]) -> io::Result<()> {
+fn print_counts(rt: &impl Print, name: &str, counts: &Counts) -> io::Result<()> {
     for (i, n) in counts.iter().enumerate() {
         if *n != 0 {
             println!(rt; "{name}{i}: {n} agree")?;
@@ -76,13 +63,13 @@ fn print_counts(rt: &impl Print, name: &str, counts: &[u64; 16]) -> io::Result<(
 }
 
 fn main(rt: HostRuntime) -> io::Result<()> {
+    // all at once: `rt.lines` would allocate each line, and fail where one is no UTF-8
     let mut text = Vec::new(rt.alloc());
-    let mut drawn = [0u64; 16];
-    let mut audited = [0u64; 16];
+    let mut drawn = [0; 16];
+    let mut audited = [0; 16];
     rt.reader().take(MOST_BYTES).read_to_end(&mut text)?;
-    let line = run(&text, &mut drawn, &mut audited);
-    if line != 0 {
-        return println!(rt; "line {line} differs");
+    if let Some(i) = run(&text, &mut drawn, &mut audited) {
+        return println!(rt; "line {} differs", i.wrapping_add(1));
     }
     print_counts(&rt, "layout ", &drawn)?;
     print_counts(&rt, "audit ", &audited)

@@ -22,6 +22,7 @@ pub struct LineRequest {
 }
 
 // The request of a branch that is no line.
+#[tactic(auto, unfolding(crate::specs::Stages::Requests::nothing_at))]
 fn nothing_at(e: usize) -> LineRequest
     ensures { result ≡ nothing_at e }
 {
@@ -38,6 +39,7 @@ fn nothing_at(e: usize) -> LineRequest
 }
 
 // The request of line e between the buses a and b, whose ends have the rows ra and rb; its exits stand in `places`.
+#[tactic(auto, unfolding(crate::specs::Stages::Requests::line_request))]
 fn line_request(
     sub: &[u32],
     measures: Measures,
@@ -72,6 +74,7 @@ fn line_request(
 }
 
 // The request of branch e.
+#[tactic(auto, unfolding(crate::specs::Stages::Requests::request_of, network::specs::Words::Safe))]
 fn request_of(
     sub: &[u32],
     from: &[i64],
@@ -91,9 +94,7 @@ fn request_of(
     let ra = at(ends, 4 * e);
     let rb = at(ends, 4 * e + 1);
     match kind_of(sub, from, to, service, e) {
-        Kind::Undrawn => nothing_at(e),
-        Kind::Open(_, _) => nothing_at(e),
-        Kind::Internal(_, _) => nothing_at(e),
+        Kind::Undrawn | Kind::Open(_, _) | Kind::Internal(_, _) => nothing_at(e),
         Kind::Line(a, b) => line_request(
             sub, measures, buses, blocks, places, frames, e, a, b, ra, rb,
         ),
@@ -119,8 +120,7 @@ pub fn requests_from(
     ensures result_len { length result ≡ 16 }
 {
     let mut list = [nothing_at(0); 16];
-    let mut i = 0;
-    while i < 16 {
+    for i in 0..16 {
         list[i] = request_of(
             sub,
             from,
@@ -134,7 +134,6 @@ pub fn requests_from(
             frames,
             start + i,
         );
-        i += 1;
     }
     list
 }

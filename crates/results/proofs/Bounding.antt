@@ -1,20 +1,16 @@
 -- The bounds of a drawing station by station, and bars bus by bus: what is left of a scan. Assumes nothing.
 use mathlib.Core.Path.{◌≡◌, sym, ap, ◌∙◌}
-use mathlib.Core.Bool.{Bool, true, false}
 use mathlib.Core.List.{List}
 use Prim.Native.Nat.{ℕ, ◌+◌, ◌*◌, ◌≤◌, ◌<◌}
 use lib.ListN.{get_or}
 use lib.Ieee.{Float}
-use Rattle.order.specs.Order.{pick}
-use Rattle.float.specs.Ops.{f0, f1}
-use Rattle.float.specs.Small.{is_finite}
 use Rattle.geometry.specs.declared.Box.{Box}
 use Rattle.geometry.specs.Plane.{box_at, no_box}
 use Rattle.network.specs.Words.{occupied}
 use Rattle.network.specs.Views.{counts_in, boxes_in}
 use Rattle.network.proofs.Views.{get_d_boxes}
 use Rattle.network.proofs.Rest.{onward, onward_start, onward_yes, onward_no, onward_end}
-use Rattle.results.specs.Bounds.{around, around_all, nowhere, bounds_of}
+use Rattle.results.specs.Bounds.{around, around_all, nowhere}
 
 -- ---- the box around the occupied stations' boxes
 module _ (k : ℕ) (st : List ℕ) (fs : List Float) where
@@ -37,18 +33,3 @@ module _ (k : ℕ) (st : List ℕ) (fs : List Float) where
   pub around_end : (s : ℕ) (b : Box) → k ≤ s → Around s b → b ≡ around_all (boxes_in k fs) nowhere (occupied (counts_in k st))
   unfolding around_all
   around_end s b h i = sym (ap (around_all (boxes_in k fs) b) (onward_end k st s h)) ∙ i
-
--- the bounds by that box, where it is finite and where it isn't
-module _ (bs : List Box) (ss : List ℕ) (b : Box) (t : Bool) (e : b ≡ around_all bs nowhere ss) (f : t ≡ is_finite b.left) where
-  abbrev unit_box : Box
-  unit_box = record { left = f0; top = f0; right = f1; bottom = f1 }
-
-  bounds_by : pick t b unit_box ≡ bounds_of bs ss
-  unfolding bounds_of
-  bounds_by = ap (λ (x : Bool). pick x b unit_box) f ∙ ap (λ (x : Box). pick (is_finite x.left) x unit_box) e
-
-  pub bounds_some : t ≡ true → b ≡ bounds_of bs ss
-  bounds_some h = ap (λ (x : Bool). pick x b unit_box) (sym h) ∙ bounds_by
-
-  pub bounds_none : t ≡ false → unit_box ≡ bounds_of bs ss
-  bounds_none h = ap (λ (x : Bool). pick x b unit_box) (sym h) ∙ bounds_by

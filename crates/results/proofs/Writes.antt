@@ -1,16 +1,14 @@
 -- Lists that are written from the front, some numbers a turn, over any type of elements. Assumes nothing.
 use mathlib.Core.Path.{◌≡◌, refl, sym, ap, ◌∙◌, subst}
-use mathlib.Core.Logic.{◌≢◌}
 use mathlib.Core.List.{List, [], ◌∷◌, ◌++◌, append-nil, append_assoc, map, map-append}
-use Prim.Native.Nat.{ℕ, zero, suc, ◌+◌, ◌≤◌, ◌<◌}
+use Prim.Native.Nat.{ℕ, suc, ◌+◌, ◌≤◌, ◌<◌}
 use native.Mathlib.Omega.{arith}
-use native.Mathlib.Nat.{suc-add}
 use native.Mathlib.Numerals.{add-one}
-use lib.ListN.{length, set, drop, take, replicate, length-append, drop_of_length-le}
+use lib.ListN.{length, set, drop, take, length-append}
 use lib.Seq.{sets, sets-eq, length-sets, take_at, drop-append-add, drop-drop}
 use Rattle.order.specs.Table.{table}
 use Rattle.order.proofs.Tables.{table_zero, table_suc}
-use Rattle.runs.specs.Lists.{flat, after}
+use Rattle.runs.specs.Lists.{flat}
 use Rattle.order.specs.Over.{over}
 
 module _ {A : Type 0} where
@@ -48,31 +46,9 @@ module _ {A : Type 0} where
   unfolding over
   written_all new old l n w = w.is ∙ ap (λ (k : ℕ). new ++ drop k old) (sym w.size)
 
-  -- ---- a list that is filled to its end
-  pub filled_none : (v : A) (old : List A) → Written (replicate 0 v) 0 old old
-  filled_none v old = written_none (replicate 0 v) old refl
-
-  replicate_more : (n : ℕ) (v : A) → replicate (n + 1) v ≡ replicate n v ++ (v ∷ [])
-  replicate_more zero v = refl
-  replicate_more (suc n) v = ap (λ (k : ℕ). replicate k v) (suc-add n 1) ∙ ap (λ (t : List A). v ∷ t) (replicate_more n v)
-
-  pub filled_more : (v : A) (n : ℕ) (old l : List A) → n < length old → Written (replicate n v) n old l → Written (replicate (n + 1) v) (n + 1) old (set l n v)
-  filled_more v n old l h w = written_one (replicate n v) (replicate (n + 1) v) old l v n h (replicate_more n v) w
-
-  pub filled_all : (v : A) (n : ℕ) (old l : List A) → n ≡ length old → Written (replicate n v) n old l → l ≡ replicate (length old) v
-  filled_all v n old l e w =
-      let h : length old ≤ n = omega arith in
-      w.is ∙ ap (λ (t : List A). replicate n v ++ t) (drop_of_length-le old h) ∙ append-nil (replicate n v) ∙ ap (λ (k : ℕ). replicate k v) e
-
-  -- ---- what a call leaves, by its refusal
-  pub after_refusal : (r : ℕ) (new old : List A) → r ≢ 0 → old ≡ after r new old
-  unfolding after
-  after_refusal zero new old n = absurd (n refl)
-  after_refusal (suc r) new old n = refl
-
-  pub after_none : (r n : ℕ) (new all old l : List A) → r ≡ 0 → new ≡ all → Written new n old l → l ≡ after r all old
-  unfolding after
-  after_none r n new all old l e f w = rw (e, ← f) (written_all new old l n w)
+  -- ---- a list that is equal to what is written
+  pub all_written : (n : ℕ) (new all old l : List A) → new ≡ all → Written new n old l → l ≡ over all old
+  all_written n new all old l f w = rw (← f) (written_all new old l n w)
 
 -- ---- the numbers of a table's elements
 module _ {A B : Type 0} (f : A → List B) (g : ℕ → A) where

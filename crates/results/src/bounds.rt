@@ -8,6 +8,7 @@ use float::small::{is_finite, max, min};
 use geometry::{Box, box_at};
 
 // The least box around b and another.
+#[tactic(auto, unfolding(crate::specs::Bounds::around))]
 fn around(b: Box, c: Box) -> Box
     ensures { result ≡ around b c }
 {
@@ -24,38 +25,35 @@ fn around_all(k: usize, stations: &[u32], frames: &[f64]) -> Box
     requires { (2 * k ≤ length stations.now) × (4 * k ≤ length frames.now) }
     ensures { result ≡ around_all (boxes_in k frames.now) nowhere (occupied (counts_in k stations.now)) }
 {
-    let i = f64::from_bits(0x7ff0_0000_0000_0000);
     let mut b = Box {
-        left: i,
-        top: i,
-        right: -i,
-        bottom: -i,
+        left: f64::INFINITY,
+        top: f64::INFINITY,
+        right: f64::NEG_INFINITY,
+        bottom: f64::NEG_INFINITY,
     };
-    let mut s = 0;
-    while s < k {
+    for s in 0..k {
         if 0 < stations[2 * s] {
             b = around(b, box_at(frames, s));
-            s += 1;
-        } else {
-            s += 1;
         }
     }
     b
 }
 
 // The bounds, 0, 0, 1, 1 where no station is occupied.
+#[tactic(auto, unfolding(crate::specs::Bounds::bounds_of))]
 pub fn bounds_of(k: usize, stations: &[u32], frames: &[f64]) -> Box
     requires { (2 * k ≤ length stations.now) × (4 * k ≤ length frames.now) }
     ensures { result ≡ bounds_of (boxes_in k frames.now) (occupied (counts_in k stations.now)) }
 {
     let b = around_all(k, stations, frames);
     if is_finite(b.left) {
-        return b;
-    }
-    Box {
-        left: 0.0,
-        top: 0.0,
-        right: 1.0,
-        bottom: 1.0,
+        b
+    } else {
+        Box {
+            left: 0.0,
+            top: 0.0,
+            right: 1.0,
+            bottom: 1.0,
+        }
     }
 }

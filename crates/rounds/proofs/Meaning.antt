@@ -1,4 +1,5 @@
 -- The rounds over the lists are the rounds of 01, where the lists hold the routing. Assumes nothing.
+use Rattle.std.specs.Prelude.{unwrap_or}
 use mathlib.Core.Path.{◌≡◌, refl, sym, ap, ◌∙◌}
 use mathlib.Core.Logic.{⊎_elim}
 use mathlib.Core.Bool.{true, false, cond}
@@ -19,7 +20,7 @@ use Rattle.order.proofs.Merging.{le_or_lt}
 use Rattle.order.proofs.Tables.{get_d_table, length_table, table_ext}
 use Rattle.order.proofs.Strides.{is_table}
 use Rattle.geometry.specs.declared.Point.{Point}
-use Rattle.crossing.specs.Cross.{param, place_or}
+use Rattle.crossing.specs.Cross.{param}
 use Rattle.channel.specs.declared.Channel.{Channel}
 use Rattle.spacing.specs.Space.{wish_order, in_order, spaced, put_all}
 use Rattle.spacing.proofs.Spacing.{length_order, wish_below}
@@ -130,7 +131,7 @@ module _ (S : Scene) (r : Routing) (occupied : ℕ) (H : RoundLists) (M : Means 
         (le_or_lt count (suc own.step))
 
     -- by the crossing's own numbers
-    wish_by : wish_in H l x ≡ cond (ltb x (first + count)) (place_or (param (before_in H l own.branch first x) (behind_in H l own.branch (first + count) x) (centre_at S (channel_at S r own.channel).low) (centre_at S (channel_at S r own.channel).high)) (get_or ps x nan)) (get_or ps x nan)
+    wish_by : wish_in H l x ≡ cond (ltb x (first + count)) (unwrap_or (param (before_in H l own.branch first x) (behind_in H l own.branch (first + count) x) (centre_at S (channel_at S r own.channel).low) (centre_at S (channel_at S r own.channel).high)) (get_or ps x nan)) (get_or ps x nan)
     unfolding wish_in
     wish_by = rw (M.branch x h, M.channel x h, M.count x h, M.low own.channel (M.known x h), M.high own.channel (M.known x h), get_or-take X l x nan h)
 

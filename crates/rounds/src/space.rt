@@ -8,12 +8,13 @@ ghost use Rattle.grouping.specs.Stages.Grouped.{start_in, member_in};
 
 use channel::Channel;
 use channel::ends::channel;
+use crossings::crossings::{high_at, low_at};
 use crossings::gap::gap_of;
 use geometry::{number_at, point_at};
 use order::at;
 use runs::run::put_point;
 use spacing::space_sorted;
-use wishes::wish::{edge_of, high_at, low_at, point_of, wish_of};
+use wishes::wish::{edge_of, point_of, wish_of};
 
 // Where channel c's crossings begin among those grouped by channel.
 fn start_of(m: usize, ends: &[u32], c: usize) -> usize
@@ -99,12 +100,10 @@ pub(crate) fn write_ranges(
     requires by_index { (d : ℕ) → d < channels → Cornered frames.now stations.now corners.now c (edge_in m ends.now d) }
     ensures { Ranged unit blocks.now frames.now stations.now corners.now m ends.now c channels centres.old centres.new }
 {
-    let mut d = 0;
-    while d < channels {
+    for d in 0..channels {
         let h = edge_of(m, ends, d);
         let r = range_of(unit, blocks, frames, stations, centres, corners, h);
         put_range(centres, c, d, r);
-        d += 1;
     }
 }
 
@@ -138,11 +137,9 @@ fn take_wishes(
     requires { (m ≤ 2 ^ 32) × (base ≤ 2 ^ 32) × (start < 2 ^ 32) × (n ≤ 2 ^ 32) × (n ≤ length ways.old) }
     ensures { ways.new ≡ table (λ i. wish_in (held m base ends.now places.now centres.now corners.now numbers.now) along.now (member_in numbers.now (start + i))) n ++ drop n ways.old }
 {
-    let mut i = 0;
-    while i < n {
+    for i in 0..n {
         let x = member_of(numbers, start + i);
         ways[i] = wish_of(m, base, ends, places, centres, corners, numbers, along, x);
-        i += 1;
     }
 }
 
@@ -158,14 +155,10 @@ fn put_places(
     requires { (start < 2 ^ 32) × (n ≤ length order.now) × (n ≤ length ways.now) }
     ensures { along.new ≡ put_all (map (λ j. member_in numbers.now (start + j)) (take n order.now)) (take n ways.now) along.old }
 {
-    let mut i = 0;
-    while i < n {
+    for i in 0..n {
         let x = member_of(numbers, start + order[i] as usize);
         if x < along.len() {
             along[x] = ways[i];
-            i += 1;
-        } else {
-            i += 1;
         }
     }
 }
@@ -225,13 +218,11 @@ fn round(
     requires ready { Ready (held m base ends.now places.now centres.now corners.now numbers.now) channels most }
     ensures { along.new ≡ spaced_in occupied (held m base ends.now places.now centres.now corners.now numbers.now) channels along.old }
 {
-    let mut c = 0;
-    while c < channels {
+    for c in 0..channels {
         space_one(
             m, base, occupied, ends, places, centres, corners, numbers, channels, most, c, along,
             ways, sorted, spare, keys,
         );
-        c += 1;
     }
 }
 
@@ -258,13 +249,11 @@ pub(crate) fn rounds(
     requires ready { Ready (held m base ends.now places.now centres.now corners.now numbers.now) channels most }
     ensures { along.new ≡ rounds_in occupied (held m base ends.now places.now centres.now corners.now numbers.now) channels iterations along.old }
 {
-    let mut i = 0;
-    while i < iterations {
+    for i in 0..iterations {
         round(
             m, base, occupied, ends, places, centres, corners, numbers, channels, most, along,
             ways, sorted, spare, keys,
         );
-        i += 1;
     }
 }
 
@@ -282,13 +271,11 @@ pub(crate) fn put_points(
     requires { (m ≤ 2 ^ 32) × (n ≤ 2 ^ 32) × (2 * n ≤ length ways.old) }
     ensures { points_in n ways.new ≡ table (point_in m ends.now centres.now corners.now numbers.now along.now) n }
 {
-    let mut x = 0;
-    while x < n {
+    for x in 0..n {
         put_point(
             ways,
             x,
             point_of(m, ends, centres, corners, numbers, along, x),
         );
-        x += 1;
     }
 }

@@ -18,6 +18,9 @@ use Rattle.geometry.specs.declared.Point.{Point}
 use Rattle.geometry.specs.Plane.{point, point_at}
 use Rattle.mesh.specs.Mesh.{mesh_ok}
 use Rattle.mesh.proofs.Meshes.{mesh_sound}
+use Rattle.std.specs.Prelude.{Option, Some, None}
+use Rattle.refusals.specs.declared.Refusal.{Refusal}
+use Rattle.refusals.specs.declared.Refusal.TheVariants as Refusals
 use Rattle.refusals.specs.Refusal.{refuse}
 use Rattle.network.specs.Views.{from_rows_in, to_rows_in, points_in}
 use Rattle.detour.specs.Stages.Paths.{path_in}
@@ -40,37 +43,37 @@ use Rattle.routes.proofs.Few.{length_rounds, routing_short}
 
 -- ---- refusals
 
-room_full : (full : Bool) (room x : ℕ) → full ≡ ltb room x → full ≡ true → 10 ≡ route_refusal true x room
+room_full : (full : Bool) (room x : ℕ) → full ≡ ltb room x → full ≡ true → Some Refusals.Crossings ≡ route_refusal true x room
 unfolding route_refusal
-room_full full room x h e = ap (λ (b : Bool). refuse b 10 0) (sym e ∙ h)
+room_full full room x h e = ap (λ (b : Bool). refuse b (Some Refusals.Crossings) None) (sym e ∙ h)
 
-room_left : (room x : ℕ) → x ≤ room → 0 ≡ route_refusal true x room
+room_left : (room x : ℕ) → x ≤ room → None ≡ route_refusal true x room
 unfolding route_refusal
-room_left room x h = ap (λ (b : Bool). refuse b 10 0) (sym (le-ltb room x h))
+room_left room x h = ap (λ (b : Bool). refuse b (Some Refusals.Crossings) None) (sym (le-ltb room x h))
 
 crossings_many : (S : Scene) (n : ℕ) → length (crossings_of S n) ≡ length (routing S).crossings
 unfolding crossings_of
 crossings_many S n = length_rounds S (routing S) n
 
 module _ (S : Scene) (m : ℕ) (corners before behind : List ℕ) (iterations room : ℕ) (ways : List Float) (rows : SameRows m before behind) where
-  -- late, where it isn't 0
-  led_late : (fits : Bool) (late : ℕ) → 0 < late → late ≡ route_refusal fits (length (crossings_of S iterations)) room → Led S m corners before fits iterations room late behind ways
-  led_late fits late h e =
+  -- r, where it refuses
+  led_late : (fits : Bool) (r : Refusal) → Some r ≡ route_refusal fits (length (crossings_of S iterations)) room → Led S m corners before fits iterations room (Some r) behind ways
+  led_late fits r e =
       record {
         late_is = e;
         from_rows = rows.from;
         to_rows = rows.to;
-        along = λ z i l. absurd (omega arith);
-        short = λ z i l. absurd (omega arith);
+        along = λ z i l. cc;
+        short = λ z i l. cc;
       }
 
-  pub led_nine : (fits : Bool) → fits ≡ false → Led S m corners before fits iterations room 9 behind ways
+  pub led_nine : (fits : Bool) → fits ≡ false → Led S m corners before fits iterations room (Some Refusals.Mesh) behind ways
   unfolding route_refusal
-  led_nine fits e = led_late fits 9 (omega arith) (ap (λ (b : Bool). refuse (not b) 9 (refuse (ltb room (length (crossings_of S iterations))) 10 0)) (sym e))
+  led_nine fits e = led_late fits Refusals.Mesh (ap (λ (b : Bool). refuse (not b) (Some Refusals.Mesh) (refuse (ltb room (length (crossings_of S iterations))) (Some Refusals.Crossings) None)) (sym e))
 
-  pub led_ten : (fits full : Bool) (x : ℕ) → fits ≡ true → x ≡ length (routing S).crossings → full ≡ ltb room x → full ≡ true → Led S m corners before fits iterations room 10 behind ways
+  pub led_ten : (fits full : Bool) (x : ℕ) → fits ≡ true → x ≡ length (routing S).crossings → full ≡ ltb room x → full ≡ true → Led S m corners before fits iterations room (Some Refusals.Crossings) behind ways
   led_ten fits full x e c h z =
-      led_late fits 10 (omega arith)
+      led_late fits Refusals.Crossings
       (room_full full room (length (crossings_of S iterations)) (h ∙ ap (ltb room) (c ∙ sym (crossings_many S iterations))) z
       ∙ ap (λ (b : Bool). route_refusal b (length (crossings_of S iterations)) room) (sym e))
 
@@ -121,7 +124,7 @@ module _ (S : Scene) (m : ℕ) (corners before behind : List ℕ) (iterations ro
       (omega (arith, f.each e (omega arith)))
       (omega (arith, read_zero 3 m behind e h p.counts))
 
-  pub led_none : Led S m corners before true iterations room 0 behind ways
+  pub led_none : Led S m corners before true iterations room None behind ways
   led_none =
       record {
         late_is = room_left room (length (crossings_of S iterations)) (omega (arith, none_many));
@@ -169,7 +172,7 @@ module _ (sub : List ℕ) (from to : List ℤ) (service : List ℕ) (measures : 
   abbrev scene_of : List ℕ → Scene
   scene_of l = scene_in (grid_of l) k c stations centres corners twins
 
-  pub led_full : (iterations : ℕ) (ways : List Float) → r.full ≡ true → Led (scene_of before) (length from) corners before (mesh_ok corners twins c) iterations room 10 ends ways
+  pub led_full : (iterations : ℕ) (ways : List Float) → r.full ≡ true → Led (scene_of before) (length from) corners before (mesh_ok corners twins c) iterations room (Some Refusals.Crossings) ends ways
   led_full iterations ways h =
       led_ten (scene_of before) (length from) corners before ends iterations room ways traced.rows (mesh_ok corners twins c) r.full r.crossings ok (traced.crossings k (grid_of before)) traced.full h
 
@@ -233,7 +236,7 @@ module _ (sub : List ℕ) (from to : List ℤ) (service : List ℕ) (measures : 
       count_short : (e : ℕ) → e < length from → way_count behind e ≤ length corners
       count_short e l = omega (arith, count_is e l, (routing_short S).each e (omega (arith, number)), ap length (scene_corners (grid_of ends) k c stations centres corners twins))
 
-      led_own : Led S (length from) corners before true iterations room 0 behind ways
+      led_own : Led S (length from) corners before true iterations room None behind ways
       led_own =
           record {
             late_is = room_left room (length (crossings_of S iterations)) (omega (arith, crossings_many S iterations, traced.crossings k (grid_of ends), crossings_fit));
@@ -243,8 +246,8 @@ module _ (sub : List ℕ) (from to : List ℤ) (service : List ℕ) (measures : 
             short = λ z e l. (omega (arith, count_short e l, (mesh_room corners twins c ok).0), omega (arith, inside e l, crossings_few h));
           }
 
-      pub led_all : Led (scene_of before) (length from) corners before (mesh_ok corners twins c) iterations room 0 behind ways
+      pub led_all : Led (scene_of before) (length from) corners before (mesh_ok corners twins c) iterations room None behind ways
       led_all =
-          subst (λ (s : Scene). Led s (length from) corners before (mesh_ok corners twins c) iterations room 0 behind ways)
+          subst (λ (s : Scene). Led s (length from) corners before (mesh_ok corners twins c) iterations room None behind ways)
           (scene_same sub from to service measures blocks places frames before ends traced.rows k c stations centres corners twins)
-          (subst (λ (b : Bool). Led S (length from) corners before b iterations room 0 behind ways) (sym ok) led_own)
+          (subst (λ (b : Bool). Led S (length from) corners before b iterations room None behind ways) (sym ok) led_own)

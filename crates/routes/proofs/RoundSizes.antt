@@ -18,9 +18,8 @@ use Rattle.order.specs.Order.{up_from}
 use Rattle.order.proofs.Laws.{All, all_map}
 use Rattle.order.proofs.Tables.{all_which, how_many_le, length_which}
 use Rattle.geometry.specs.declared.Point.{Point}
-use Rattle.crossing.specs.declared.Param.{Param}
-use Rattle.crossing.specs.declared.Param.TheVariants.{At, Parallel}
-use Rattle.crossing.specs.Cross.{param, place_or}
+use Rattle.std.specs.Prelude.{Option as StdOption, Some, None, unwrap_or}
+use Rattle.crossing.specs.Cross.{param}
 use Rattle.crossing.proofs.Crossing.{place_most}
 use Rattle.geometry.proofs.PointSizes.{Near}
 use Rattle.spacing.specs.Space.{wish_order, in_order, spaced}
@@ -33,13 +32,12 @@ use Rattle.routes.specs.Routes.{crossings_of}
 use Rattle.routes.proofs.Few.{length_one, routing_short}
 
 -- a place held to 0..1, or another of any bound
-place_under : (m g : ℕ) (p q u w : Point) (other : Float) → m ≤ 1500 → 1074 ≤ g → Near m p → Near m q → Near m u → Near m w → AtMost g other → AtMost g (place_or (param p q u w) other)
-unfolding place_or
+place_under : (m g : ℕ) (p q u w : Point) (other : Float) → m ≤ 1500 → 1074 ≤ g → Near m p → Near m q → Near m u → Near m w → AtMost g other → AtMost g (unwrap_or (param p q u w) other)
 place_under m g p q u w other M G P Q U W o = go (param p q u w) (place_most m p q u w f0 M P Q U W (f0_most 1074))
   where
-    go : (z : Param) → AtMost 1074 (place_or z f0) → AtMost g (place_or z other)
-    go (At t) h = most_weaken 1074 g t G h
-    go Parallel h = o
+    go : (z : StdOption Float) → AtMost 1074 (unwrap_or z f0) → AtMost g (unwrap_or z other)
+    go (Some t) h = most_weaken 1074 g t G h
+    go None h = o
 
 map_each : (P : Float → Type 0) (f : ℕ → Float) (l : List ℕ) → All (λ x. P (f x)) l → Each P (map f l)
 map_each P f [] a = tt
@@ -155,7 +153,7 @@ module _ (k : ℕ) (K : 1074 + 104 ≤ k) (M : k ≤ 1500) (S : Scene) (F : Firm
           go : (b : Bool) → ltb c.step count ≡ b
               → AtMost 1106
               (cond b
-              (place_or
+              (unwrap_or
               (param
               (cond (eqb c.step 0) (exit_of S (routing S) false (get_or S.lines c.branch none)) (point_of S (routing S) ps (x - 1)))
               (cond (eqb (suc c.step) count) (exit_of S (routing S) true (get_or S.lines c.branch none)) (point_of S (routing S) ps (suc x)))

@@ -21,6 +21,8 @@ use Rattle.crossings.specs.Stages.Store.{Rising}
 use Rattle.routing.specs.Stages.Traced.{Pathless}
 use Rattle.crossings.proofs.Occupied.{occupied_rises}
 use Rattle.wishes.specs.Stages.RoundLists.{station_in}
+use Rattle.std.specs.Prelude.{Option, None}
+use Rattle.refusals.specs.declared.Refusal.{Refusal}
 use Rattle.routes.specs.Routes.{mesh_used, mesh_fits}
 use Rattle.routes.specs.Stages.Routed.{routed_in, Routes}
 use Rattle.routes.specs.Stages.Led.{Led}
@@ -76,7 +78,7 @@ module _ (G : Grid) (k : ℕ) (before corners twins : List ℕ) (iterations : �
 
   -- ---- what routing leaves
 
-  module _ (room late : ℕ) (stations behind : List ℕ) (ways : List Float) (counts : counts_in k stations ≡ counts_in k before) where
+  module _ (room : ℕ) (late : Option Refusal) (stations behind : List ℕ) (ways : List Float) (counts : counts_in k stations ≡ counts_in k before) where
     led_routes : Led routed (length G.from) corners G.ends (mesh_fits corners twins (length occ) iterations) iterations room late behind ways
         → Routes G k before corners twins iterations room late stations behind ways
     led_routes l =
@@ -100,9 +102,9 @@ module _ (G : Grid) (k : ℕ) (before corners twins : List ℕ) (iterations : �
         (subst (λ (s : Scene). Led s (length G.from) corners G.ends (mesh_ok corners twins c) iterations room late behind ways) (scene_used c stations path w o p) l))
 
   pub routes_unused : (room : ℕ) (stations behind : List ℕ) (ways : List Float) → counts_in k stations ≡ counts_in k before → (c : ℕ) (u : Bool) → c ≡ length occ → u ≡ mesh_used c iterations → u ≡ false
-      → Pathless (length G.from) G.ends behind → Routes G k before corners twins iterations room 0 stations behind ways
+      → Pathless (length G.from) G.ends behind → Routes G k before corners twins iterations room None stations behind ways
   routes_unused room stations behind ways counts c u n e t p =
       let w : mesh_used (length occ) iterations ≡ false = used_of c false n (sym e ∙ t) in
-      led_routes room 0 stations behind ways counts
-      (subst (λ (b : Bool). Led routed (length G.from) corners G.ends b iterations room 0 behind ways) (sym (fits_unused w))
+      led_routes room None stations behind ways counts
+      (subst (λ (b : Bool). Led routed (length G.from) corners G.ends b iterations room None behind ways) (sym (fits_unused w))
       (led_none routed (length G.from) corners G.ends behind iterations room ways (scene_unused w) routed_lines p))

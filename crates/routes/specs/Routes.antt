@@ -1,5 +1,7 @@
 -- Where the mesh is looked at, refusals 9 and 10, and the places of crossings after the iterations. Definitions only.
-use Rattle.std.specs.Prelude.{ℕ, Bool, not, ◌&&◌, ◌||◌, List, leb, ltb, Float}
+use Rattle.std.specs.Prelude.{ℕ, Bool, not, ◌&&◌, ◌||◌, List, leb, ltb, Float, Option, Some, None}
+use Rattle.refusals.specs.declared.Refusal.{Refusal}
+use Rattle.refusals.specs.declared.Refusal.TheVariants as Refusals
 use Rattle.refusals.specs.Refusal.{refuse}
 use Rattle.mesh.specs.Mesh.{mesh_ok}
 use Rattle.crossings.specs.Route.{Scene, routing, rounds_to}
@@ -16,6 +18,6 @@ mesh_fits corners twins stations iterations = not (mesh_used stations iterations
 unfoldable pub crossings_of : Scene → ℕ → List Float
 crossings_of S iterations = rounds_to S (routing S) iterations
 
--- 9 or 10, 0 where neither applies, where the crossing list holds so many
-unfoldable pub route_refusal : Bool → ℕ → ℕ → ℕ
-route_refusal fits crossings room = refuse (not fits) 9 (refuse (ltb room crossings) 10 0)
+-- 9 or 10, none where neither applies, where the crossing list holds so many
+unfoldable pub route_refusal : Bool → ℕ → ℕ → Option Refusal
+route_refusal fits crossings room = refuse (not fits) (Some Refusals.Mesh) (refuse (ltb room crossings) (Some Refusals.Crossings) None)

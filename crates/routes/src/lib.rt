@@ -2,6 +2,7 @@
 #![tactic(auto)]
 
 ghost use Rattle.std.specs.Prelude.{◌≡◌, ℕ, ◌+◌, ◌*◌, ◌≤◌, ◌<◌, min, length};
+ghost use Rattle.std.specs.Result.{result_err};
 ghost use Rattle.mesh.specs.Mesh.{mesh_ok};
 ghost use Rattle.network.specs.Views.{order_in};
 ghost use Rattle.crossings.specs.Stages.Store.{Rising};
@@ -15,6 +16,7 @@ ghost use Rattle.routes.specs.Stages.Led.{Led};
 use crossings::corners::occupied_corners;
 use measures::Measures;
 use mesh::mesh_ok;
+use refusals::Refusal;
 use rounds::space_all_rounds;
 use routing::routes::{clear_paths, trace_all};
 
@@ -53,23 +55,23 @@ fn route_used(
     numbers: &mut [u32],
     along: &mut [f64],
     ways: &mut [f64],
-) -> u32
+) -> Result<(), Refusal>
     requires from_len_bound { (length from.now ≤ 8192) × (c ≤ 4096) × (4 * k ≤ length frames.now) × (2 * c + 3 * min (length corners.now) 24576 ≤ length path.old) × (length sub.now ≤ 4096) × Exited (grid sub.now from.now to.now service.now measures ends.old blocks.now places.now frames.now) }
     requires room_in_bounds { (3 * room ≤ length numbers.old) × (room ≤ length along.old) × (2 * room ≤ length ways.old) × (room ≤ length sorted.old) × (room ≤ length spare.old) × (room ≤ length keys.old) }
     requires corners_in_bounds { (4 * length from.now + 4 * min (length corners.now) 24576 + 4 ≤ length ends.old) × (min (length corners.now) 24576 ≤ length sorted.old) × (min (length corners.now) 24576 ≤ length spare.old) × (min (length corners.now) 24576 ≤ length keys.old) }
     requires rising { Rising (order_in c stations.now) }
     requires by_index { (v : ℕ) → v < c → station_in stations.now v < k }
-    ensures { Led (scene_in (grid sub.now from.now to.now service.now measures ends.old blocks.now places.now frames.now) k c stations.now path.old corners.now twins.now) (length from.now) corners.now ends.old (mesh_ok corners.now twins.now c) iterations room result ends.new ways.new }
+    ensures { Led (scene_in (grid sub.now from.now to.now service.now measures ends.old blocks.now places.now frames.now) k c stations.now path.old corners.now twins.now) (length from.now) corners.now ends.old (mesh_ok corners.now twins.now c) iterations room (result_err result) ends.new ways.new }
 {
     if !mesh_ok(corners, twins, c) {
-        return 9;
+        return Err(Refusal::Mesh);
     }
     let t = trace_all(
         sub, from, to, service, corners, twins, c, stations, path, room, keys, sorted, spare, ends,
         numbers, along,
     );
     if t.full {
-        return 10;
+        return Err(Refusal::Crossings);
     }
     space_all_rounds(
         sub,
@@ -97,7 +99,7 @@ fn route_used(
         spare,
         keys,
     );
-    0
+    Ok(())
 }
 
 // Routes the lines of the network, whose exits stand in `places`, through the mesh, where the crossing list holds `room` crossings.
@@ -124,16 +126,16 @@ pub fn route_lines(
     numbers: &mut [u32],
     along: &mut [f64],
     ways: &mut [f64],
-) -> u32
+) -> Result<(), Refusal>
     requires from_len_bound { (length from.now ≤ 8192) × (k ≤ 4096) × (2 * k ≤ length stations.old) × (2 * k ≤ length places.now) × (4 * k ≤ length frames.now) × (2 * k + 3 * min (length corners.now) 24576 ≤ length path.old) × (length sub.now ≤ 4096) × Exited (grid sub.now from.now to.now service.now measures ends.old blocks.now places.now frames.now) }
     requires room_in_bounds { (3 * room ≤ length numbers.old) × (room ≤ length along.old) × (2 * room ≤ length ways.old) × (room ≤ length sorted.old) × (room ≤ length spare.old) × (room ≤ length keys.old) }
     requires corners_in_bounds { (4 * length from.now + 4 * min (length corners.now) 24576 + 4 ≤ length ends.old) × (min (length corners.now) 24576 ≤ length sorted.old) × (min (length corners.now) 24576 ≤ length spare.old) × (min (length corners.now) 24576 ≤ length keys.old) }
-    ensures { Routes (grid sub.now from.now to.now service.now measures ends.old blocks.now places.now frames.now) k stations.old corners.now twins.now iterations room result stations.new ends.new ways.new }
+    ensures { Routes (grid sub.now from.now to.now service.now measures ends.old blocks.now places.now frames.now) k stations.old corners.now twins.now iterations room (result_err result) stations.new ends.new ways.new }
 {
     let c = occupied_corners(k, stations, places, path);
     if !mesh_used(c, iterations) {
         clear_paths(from.len(), ends);
-        return 0;
+        return Ok(());
     }
     route_used(
         iterations, room, sub, from, to, service, corners, twins, measures, k, c, stations, ends,

@@ -57,12 +57,10 @@ pub(crate) fn count_all(
     ensures upper_bound { result ≤ 24576 * m }
 {
     let mut total = 0;
-    let mut e = 0;
-    while e < m {
+    for e in 0..m {
         let a = at(ends, 4 * e + 2);
         let b = at(ends, 4 * e + 3);
         total += count_line(corners, twins, points, around, a, b, trail);
-        e += 1;
     }
     total
 }
@@ -148,14 +146,12 @@ pub(crate) fn store_all(
 {
     let mut x = 0;
     let mut k = 0;
-    let mut e = 0;
-    while e < m {
+    for e in 0..m {
         let c = store_branch(
             corners, twins, points, around, m, e, x, k, trail, ends, numbers, places,
         );
         x = c.crossings;
         k = c.channels;
-        e += 1;
     }
     Counts {
         crossings: x,
@@ -169,9 +165,7 @@ pub(crate) fn clear_marks(m: usize, n: usize, ends: &mut [u32])
     ensures ends_unchanged { take (4 * m) ends.new ≡ take (4 * m) ends.old }
     ensures by_index { (h : ℕ) → h < n → get_or ends.new (4 * (m + h) + 1) 0 ≡ 0 }
 {
-    let mut h = 0;
-    while h < n {
+    for h in 0..n {
         ends[4 * (m + h) + 1] = 0;
-        h += 1;
     }
 }

@@ -24,11 +24,9 @@ pub fn clear_paths(m: usize, ends: &mut [u32])
     requires { (m ≤ 8192) × (4 * m ≤ length ends.old) }
     ensures { Pathless m ends.old ends.new }
 {
-    let mut e = 0;
-    while e < m {
+    for e in 0..m {
         ends[4 * e + 2] = 0;
         ends[4 * e + 3] = 0;
-        e += 1;
     }
 }
 

@@ -120,11 +120,9 @@ fn fill_entries(
     ensures own_after { take (2 * length from.now) own.new ≡ table (entry_station sub.now (kinds sub.now from.now to.now service.now)) (2 * length from.now) }
 {
     let c = 2 * from.len();
-    let mut x = 0;
-    while x < c {
+    for x in 0..c {
         keys[x] = entry_key(sub, from, to, service, places, x);
         own[x] = entry_station(sub, from, to, service, x);
-        x += 1;
     }
 }
 
@@ -135,11 +133,9 @@ fn put_rows(sub: &[u32], from: &[i64], to: &[i64], service: &[u8], rows: &[u32],
     ensures ends_after_2 { to_rows_in (length from.now) ends.new ≡ table (λ e. get_or rows.now (to_entry (kind_of sub.now from.now to.now service.now e) e) 0) (length from.now) }
 {
     let m = from.len();
-    let mut e = 0;
-    while e < m {
+    for e in 0..m {
         ends[4 * e] = at(rows, 2 * e);
         ends[4 * e + 1] = at(rows, to_entry(sub, from, to, service, e));
-        e += 1;
     }
 }
 

@@ -6,7 +6,7 @@ use mathlib.Core.Bool.{Bool, true, false, cond}
 use mathlib.Core.List.{List, [], ◌∷◌, ◌++◌}
 use Prim.Native.Nat.{ℕ, zero, suc, ◌+◌, ◌*◌, ◌^◌, ◌≤◌, ◌<◌}
 use native.Mathlib.Omega.{arith}
-use lib.ListN.{length, get_or, set, length-set, length-append}
+use lib.ListN.{length, set, length-set, length-append}
 use lib.Seq.{take-set-le}
 use lib.Ieee.{Float}
 use Rattle.order.specs.Order.{pick}
@@ -21,7 +21,6 @@ use Rattle.detour.proofs.Shifting.{point_before, path_zero, path_more, path_cons
 use Rattle.detour.proofs.Detours.{length_detour, led_short}
 use Rattle.network.specs.declared.words.Kind.{Kind}
 use Rattle.network.specs.declared.words.Kind.TheVariants.{Undrawn, Open, Internal, Line}
-use Rattle.measures.specs.declared.Measures.{Measures}
 use Rattle.runs.specs.Run.{is_line}
 use Rattle.runs.specs.Stages.Views.{Lead, RunLists, open_from, internal_from, led_in, led_run, line_from, run_from, way_of, way_count, run_in, other_run, Ran}
 
@@ -140,31 +139,6 @@ module _ (led : Bool) (gap : Float) (k : ℕ) (stations : List ℕ) (frames : Li
     L.path ∙ ap (λ (b : Bool). cond b (detour (boxes_in k frames) (occupied (counts_in k stations)) gap s t (path_in 1 count was)) (path_in 1 count was)) (sym h),
     led_short (boxes_in k frames) (occupied (counts_in k stations)) gap s t 1 r count was now L,
   )
-
-  pub led_no : (path : List Point) → led ≡ false → path ≡ led_in led gap k stations frames s t path
-  unfolding led_in
-  led_no path h = ap (λ (b : Bool). cond b (detour (boxes_in k frames) (occupied (counts_in k stations)) gap s t path) path) (sym h)
-
--- ---- the run of a branch, by what it is
-
-module _ (sub : List ℕ) (measures : Measures) (buses ends : List ℕ) (blocks frames : List Float) (e : ℕ) (K : Kind) where
-  pub none_run : K ≡ Undrawn → [] ≡ other_run sub measures buses ends blocks frames e K
-  unfolding other_run
-  none_run h = subst (λ (z : Kind). [] ≡ other_run sub measures buses ends blocks frames e z) (sym h) refl
-
-  pub no_line_run : (a b : ℕ) → K ≡ Line a b → [] ≡ other_run sub measures buses ends blocks frames e K
-  unfolding other_run
-  no_line_run a b h = subst (λ (z : Kind). [] ≡ other_run sub measures buses ends blocks frames e z) (sym h) refl
-
-  pub open_run : (a b : ℕ) → K ≡ Open a b → open_from sub measures buses blocks frames a b ≡ other_run sub measures buses ends blocks frames e K
-  unfolding other_run
-  open_run a b h = subst (λ (z : Kind). open_from sub measures buses blocks frames a b ≡ other_run sub measures buses ends blocks frames e z) (sym h) refl
-
-  pub internal_run : (a b ra rb : ℕ) → K ≡ Internal a b → ra ≡ get_or ends (4 * e) 0 → rb ≡ get_or ends (4 * e + 1) 0
-      → internal_from sub measures buses blocks frames a b ra rb ≡ other_run sub measures buses ends blocks frames e K
-  unfolding other_run
-  internal_run a b ra rb h p q =
-      subst (λ (z : Kind). internal_from sub measures buses blocks frames a b ra rb ≡ other_run sub measures buses ends blocks frames e z) (sym h) (cc (p, q))
 
 -- the runs of all branches that are no lines
 pub other_is : (H : RunLists) (e : ℕ) (K : Kind) → other_run H.sub H.measures H.buses H.ends H.blocks H.frames e K ≡ pick (is_line K) [] (run_in H e K)

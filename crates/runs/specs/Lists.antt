@@ -1,5 +1,5 @@
 -- The drawing as lists of numbers, and a lent list after it. Definitions only.
-use Rattle.std.specs.Prelude.{ℕ, zero, suc, List, [], ◌∷◌, ◌++◌, Float}
+use Rattle.std.specs.Prelude.{List, [], ◌∷◌, ◌++◌, Float, Option, Some, None}
 use Rattle.geometry.specs.declared.Point.{Point}
 use Rattle.geometry.specs.declared.Box.{Box}
 use Rattle.bars.specs.declared.Bar.{Bar}
@@ -23,6 +23,6 @@ abbrev pub piece_numbers : Piece → List Float
 piece_numbers p = p.start.x ∷ p.start.y ∷ p.end.x ∷ p.end.y ∷ []
 
 -- A refusal changes no result list.
-unfoldable pub after : {A : Type 0} → ℕ → List A → List A → List A
-after zero new old = over new old
-after (suc r) new old = old
+unfoldable pub after : {A R : Type 0} → Option R → List A → List A → List A
+after None new old = over new old
+after (Some r) new old = old

@@ -27,6 +27,7 @@ pub fn box_at(list: &[f64], s: usize) -> Box
 }
 
 // The block of station s, unit × scale.
+#[tactic(auto, unfolding(crate::specs::Stages::Views::block_of))]
 fn block_of(unit: f64, blocks: &[f64], s: usize) -> f64
     requires { s < 2 ^ 32 }
     ensures { result ≡ block_of unit blocks.now s }
@@ -35,6 +36,7 @@ fn block_of(unit: f64, blocks: &[f64], s: usize) -> f64
 }
 
 // The bar of bus i of station s.
+#[tactic(auto, unfolding(crate::specs::Stages::Views::bar_of))]
 pub fn bar_of(
     measures: Measures,
     buses: &[u32],
@@ -57,6 +59,7 @@ pub fn bar_of(
 }
 
 // The row end of bus i of station s.
+#[tactic(auto, unfolding(crate::specs::Stages::Views::slot_of))]
 pub fn slot_of(
     measures: Measures,
     buses: &[u32],
@@ -82,6 +85,7 @@ pub fn slot_of(
 }
 
 // The exit of station s towards t, at the height y.
+#[tactic(auto, unfolding(crate::specs::Stages::Views::exit_of))]
 pub fn exit_of(places: &[f64], frames: &[f64], s: usize, t: usize, y: f64) -> Point
     requires { (s < 2 ^ 32) × (t < 2 ^ 32) }
     ensures { result ≡ exit_of places.now frames.now s t y }
@@ -136,6 +140,7 @@ fn put_two(path: &mut [f64], p: Point, q: Point) -> usize
 }
 
 // The run of an open branch between the buses a and b.
+#[tactic(auto, unfolding(crate::specs::Stages::Views::open_from))]
 fn run_open(
     sub: &[u32],
     measures: Measures,
@@ -155,6 +160,7 @@ fn run_open(
 }
 
 // The run of an internal branch between the buses a and b, whose ends have the rows ra and rb.
+#[tactic(auto, unfolding(crate::specs::Stages::Views::internal_from))]
 fn run_internal(
     sub: &[u32],
     measures: Measures,
@@ -180,10 +186,8 @@ fn copy_points(ways: &[f64], w: usize, n: usize, path: &mut [f64], i: usize)
     requires { (2 * (i + n) ≤ length path.old) × (i + n < 2 ^ 32) × (w + n < 2 ^ 32) }
     ensures { Led i n (path_in w n ways.now) path.old path.new }
 {
-    let mut j = 0;
-    while j < n {
+    for j in 0..n {
         put_point(path, i + j, point_at(ways, w + j));
-        j += 1;
     }
 }
 
@@ -198,6 +202,7 @@ fn put_middle(path: &mut [f64], a: Point, ways: &[f64], w: usize, n: usize, b: P
 }
 
 // Leads the path of `count` points behind the first point of a list round boxes, where there are iterations, and answers how many points it has then.
+#[tactic(auto, unfolding(crate::specs::Stages::Views::led_in))]
 fn lead(
     led: bool,
     gap: f64,
@@ -232,6 +237,7 @@ fn put_ends(path: &mut [f64], p: Point, q: Point, r: usize) -> usize
 }
 
 // The run of a line from station s to station t between the slots p and q, whose exits are x and y, by n waypoints, the first of them w. `index` enters boxes, or none.
+#[tactic(auto, unfolding(crate::specs::Stages::Views::led_run))]
 pub fn run_line(
     led: bool,
     gap: f64,
@@ -260,6 +266,7 @@ pub fn run_line(
 }
 
 // Puts the run of branch e at the front of path, and answers how many points it has: none where the branch is a line.
+#[tactic(auto, unfolding(crate::specs::Stages::Views::other_run, network::specs::Words::Safe, network::specs::Views::points_in, order::specs::Table::table_from))]
 pub fn run(
     sub: &[u32],
     from: &[i64],
@@ -279,11 +286,10 @@ pub fn run(
     let ra = at(ends, 4 * e);
     let rb = at(ends, 4 * e + 1);
     match kind_of(sub, from, to, service, e) {
-        Kind::Undrawn => 0,
+        Kind::Undrawn | Kind::Line(_, _) => 0,
         Kind::Open(a, b) => run_open(sub, measures, buses, blocks, frames, a, b, path),
         Kind::Internal(a, b) => run_internal(
             sub, measures, buses, blocks, frames, a, b, ra, rb, path,
         ),
-        Kind::Line(_, _) => 0,
     }
 }

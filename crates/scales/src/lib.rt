@@ -41,15 +41,12 @@ pub fn scales(
 {
     neighbours::neighbour_counts(path, n, o.tier_radius * spacing, spare, keys, sorted);
     let mut j = 0;
-    let mut s = 0;
-    while s < k {
+    for s in 0..k {
         if stations[2 * s] > 0 {
             blocks[3 * s + 2] = tier(o, spare[j] as usize);
             j += 1;
-            s += 1;
         } else {
             blocks[3 * s + 2] = 1.0;
-            s += 1;
         }
     }
 }

@@ -39,10 +39,8 @@ fn clear_points(k: usize, places: &mut [f64])
     requires { 2 * k ≤ length places.old }
     ensures { points_in k places.new ≡ table (λ s. origin) k }
 {
-    let mut s = 0;
-    while s < k {
+    for s in 0..k {
         put_point(places, s, Point { x: 0.0, y: 0.0 });
-        s += 1;
     }
 }
 
@@ -51,8 +49,7 @@ fn add_points(sub: &[u32], xy: &[f64], k: usize, places: &mut [f64])
     requires { (k ≡ station_count sub.now) × (length sub.now ≤ 4096) × (k ≤ 4096) × (2 * k ≤ length places.old) × (points_in k places.old ≡ table (λ s. origin) k) }
     ensures { points_in k places.new ≡ table (λ s. sum_to sub.now xy.now s (length sub.now)) k }
 {
-    let mut i = 0;
-    while i < sub.len() {
+    for i in 0..sub.len() {
         let s = station_of(sub, i);
         let p = point_at(places, s);
         let q = bus_point(xy, i);
@@ -64,7 +61,6 @@ fn add_points(sub: &[u32], xy: &[f64], k: usize, places: &mut [f64])
                 y: p.y + q.y,
             },
         );
-        i += 1;
     }
 }
 
@@ -86,11 +82,9 @@ fn take_means(k: usize, stations: &[u32], places: &mut [f64])
     requires { (k ≤ 4096) × (2 * k ≤ length stations.now) × (2 * k ≤ length places.old) }
     ensures { points_in k places.new ≡ table (λ s. mean (get_or stations.now (2 * s) 0) (point_at places.old s)) k }
 {
-    let mut s = 0;
-    while s < k {
+    for s in 0..k {
         let p = mean_of(stations[2 * s], point_at(places, s));
         put_point(places, s, p);
-        s += 1;
     }
 }
 

@@ -23,13 +23,9 @@ pub fn largest(k: usize, stations: &[u32], frames: &[f64]) -> f64
     ensures { result ≡ largest (boxes_in k frames.now) f0 (occupied (counts_in k stations.now)) }
 {
     let mut l = 0.0;
-    let mut s = 0;
-    while s < k {
+    for s in 0..k {
         if 0 < stations[2 * s] {
             l = larger_side(l, box_at(frames, s));
-            s += 1;
-        } else {
-            s += 1;
         }
     }
     l
@@ -60,16 +56,11 @@ fn all_sized(k: usize, l: f64, stations: &[u32], frames: &[f64]) -> bool
     requires { (2 * k ≤ length stations.now) × (4 * k ≤ length frames.now) }
     ensures { result ≡ all_sized (boxes_in k frames.now) l (occupied (counts_in k stations.now)) }
 {
-    let mut s = 0;
-    while s < k {
+    for s in 0..k {
         if 0 < stations[2 * s] {
-            if sized_box(l, box_at(frames, s)) {
-                s += 1;
-            } else {
+            if !sized_box(l, box_at(frames, s)) {
                 return false;
             }
-        } else {
-            s += 1;
         }
     }
     true
@@ -80,12 +71,10 @@ pub fn any_occupied(k: usize, stations: &[u32]) -> bool
     requires { 2 * k ≤ length stations.now }
     ensures { result ≡ ltb 0 (length (occupied (counts_in k stations.now))) }
 {
-    let mut s = 0;
-    while s < k {
+    for s in 0..k {
         if 0 < stations[2 * s] {
             return true;
         }
-        s += 1;
     }
     false
 }

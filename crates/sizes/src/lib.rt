@@ -36,11 +36,9 @@ pub fn sizes(g: Gaps, k: usize, stations: &[u32], blocks: &mut [f64])
     requires { (2 * k ≤ length stations.now) × (3 * k ≤ length blocks.old) }
     ensures { sizes_in k blocks.new ≡ sizes_for g (counts_in k stations.now) (row_counts_in k stations.now) }
 {
-    let mut s = 0;
-    while s < k {
+    for s in 0..k {
         blocks[3 * s] = width(g, stations[2 * s]);
         blocks[3 * s + 1] = height(g, stations[2 * s + 1]);
-        s += 1;
     }
 }
 
@@ -51,14 +49,10 @@ pub fn sides(k: usize, stations: &[u32], blocks: &[f64], frames: &mut [f64]) -> 
     ensures upper_bound { result ≤ k }
 {
     let mut r = 0;
-    let mut s = 0;
-    while s < k {
+    for s in 0..k {
         if stations[2 * s] > 0 {
             frames[r] = max(blocks[3 * s], blocks[3 * s + 1]);
             r += 1;
-            s += 1;
-        } else {
-            s += 1;
         }
     }
     r

@@ -8,7 +8,9 @@ use lib.ListN.{take, drop, replicate}
 use lib.Ieee.{Float}
 use Rattle.float.specs.Ops.{f0}
 use Rattle.options.specs.declared.Options.{Options}
-use Rattle.drawing.specs.declared.answer.Answer.{Answer}
+use Rattle.std.specs.Prelude.{Result}
+use Rattle.refusals.specs.declared.Refusal.{Refusal}
+use Rattle.drawing.specs.declared.answer.Plot.{Plot}
 use Rattle.drawing.specs.Network.{Network, Lists, Work, Crossings, crossings}
 use Rattle.drawing.proofs.Lent.{work}
 use Rattle.drawing.specs.Answer.{Call, call, layout_of}
@@ -23,7 +25,7 @@ take_replicate {A} (suc s) (suc n) x h = ap (λ (l : List A). x ∷ l) (take_rep
 front : {A : Type 0} (s n : ℕ) (x : A) → s ≤ n → take (s - 0) (drop 0 (replicate n x)) ≡ replicate s x
 front s n x h = ap (λ (k : ℕ). take k (replicate n x)) (sub-zero s) ∙ take_replicate s n x h
 
-pub held_by : (o : Options) (N : Network) (L : Lists) (s c : ℕ) (a : Answer) (L' : Lists) (W' : Work) (X' : Crossings)
+pub held_by : (o : Options) (N : Network) (L : Lists) (s c : ℕ) (a : Result Plot Refusal) (L' : Lists) (W' : Work) (X' : Crossings)
     → (s ≤ 128) × (c ≤ 128)
     → Answered o N L
     (work (take (s - 0) (drop 0 (zero_numbers 128))) (zero_numbers 192) (zero_numbers 320) (zero_numbers 320) (zero_numbers 192) (zero_numbers 192) (zeros 384) (zeros 192) (zeros 256) (zeros 232))

@@ -3,9 +3,10 @@ ghost use Rattle.std.specs.Prelude.{◌≤◌};
 ghost use Rattle.drawing.specs.Network.{network};
 ghost use Rattle.small.specs.Small.{SmallCall};
 
-use drawing::answer::Answer;
+use drawing::answer::Plot;
 use layout::call::tx_schematic_layout;
 use options::Options;
+use refusals::Refusal;
 
 // Draws a network of at most 64 buses and 64 branches, with so many numbers for stations and so many crossings.
 pub fn draw_small(
@@ -27,7 +28,7 @@ pub fn draw_small(
     xy: &[f64],
     corners: &[u32],
     twins: &[u32],
-) -> Answer
+) -> Result<Plot, Refusal>
     requires { (station_room ≤ 128) × (crossing_room ≤ 128) }
     ensures { SmallCall o (network sub.now kv.now from.now to.now service.now xy.now corners.now twins.now)
         (record { positions = positions.old; bars = bars.old; boxes = boxes.old; scales = scales.old; roles = roles.old; pieces = pieces.old; branches = branches.old })

@@ -2,7 +2,6 @@
 mod Back
 mod Cases
 mod Filling
-mod Keys
 mod Passes
 pub mod SpaceSizes
 pub mod Spacing

@@ -1,4 +1,4 @@
--- The three ways to the places of wishes in their order: none, spread evenly, two passes; and the steps to them. Assumes nothing.
+-- No wishes are their places; and the steps from wishes to their places. Assumes nothing.
 use mathlib.Core.Path.{◌≡◌, refl, sym, ap, ◌∙◌}
 use mathlib.Core.Bool.{Bool, true, false, cond}
 use mathlib.Core.List.{List, [], ◌∷◌, map}
@@ -25,20 +25,6 @@ module _ (c : Channel) where
   unfolding spaced
   spaced_none [] h = sym (no_wish (crowded c 0))
   spaced_none (w ∷ ws) h = absurd (omega (arith, h))
-
-  pub spaced_even : (ws : List Float) (last : ℕ) → length ws ≡ last + 1 → true ≡ crowded c last → map (even_at c last) (up_from 0 (last + 1)) ≡ spaced c ws
-  unfolding spaced
-  spaced_even ws last e h =
-      let f : length ws - 1 ≡ last = omega arith in
-      ap (λ (n : ℕ). map (even_at c last) (up_from 0 n)) (sym e)
-      ∙ ap (λ (m : ℕ). map (even_at c m) (up_from 0 (length ws))) (sym f)
-      ∙ ap (λ (b : Bool). chosen b ws) (h ∙ ap (crowded c) (sym f))
-
-  pub spaced_passed : (ws : List Float) (last : ℕ) → length ws ≡ last + 1 → false ≡ crowded c last → backward c (forward_all c ws) ≡ spaced c ws
-  unfolding spaced
-  spaced_passed ws last e h =
-      let f : length ws - 1 ≡ last = omega arith in
-      ap (λ (b : Bool). chosen b ws) (h ∙ ap (crowded c) (sym f))
 
   pub steps : (w l l' : List Float) (ks o o' : List ℕ) → ((i : ℕ) → T (fits binary64 (get_or w i nan)))
       → ks ≡ map wish_key w → o ≡ up_from 0 (length w) → o' ≡ sort_by (key_at ks) o → l ≡ read_back ks o' → l' ≡ spaced c l

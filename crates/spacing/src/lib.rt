@@ -12,11 +12,12 @@ use float::small::{clamp, max, min};
 use order::{key_at, number, sort_by_key};
 
 // The place of a wish in the total order, a NaN last.
+#[tactic(auto, unfolding(crate::specs::Space::wish_key))]
 fn wish_key(x: f64) -> u64
     ensures { result ≡ wish_key x }
 {
-    if x != x {
-        return 0xffff_ffff_ffff_ffff;
+    if x.is_nan() {
+        return u64::MAX;
     }
     order_key(x)
 }
@@ -25,14 +26,13 @@ fn wish_keys(wish: &[f64], keys: &mut [u64])
     requires { length keys.old ≡ length wish.now }
     ensures { keys.new ≡ map wish_key wish.now }
 {
-    let mut i = 0;
-    while i < wish.len() {
-        keys[i] = wish_key(wish[i]);
-        i += 1;
+    for (i, &x) in wish.iter().enumerate() {
+        keys[i] = wish_key(x);
     }
 }
 
 // The wish that has this key.
+#[tactic(auto, unfolding(crate::specs::Space::wish_of))]
 fn wish_of(key: u64) -> f64
     ensures { result ≡ wish_of key }
 {
@@ -47,14 +47,13 @@ fn gather(keys: &[u64], order: &[u32], wish: &mut [f64])
     requires { length wish.old ≡ length order.now }
     ensures { wish.new ≡ read_back keys.now order.now }
 {
-    let mut i = 0;
-    while i < order.len() {
-        wish[i] = wish_of(key_at(keys, order[i]));
-        i += 1;
+    for (i, &x) in order.iter().enumerate() {
+        wish[i] = wish_of(key_at(keys, x));
     }
 }
 
 // Whether wishes numbered 0 to `last` do not fit.
+#[tactic(auto, unfolding(crate::specs::Space::crowded))]
 fn crowded(c: Channel, last: usize) -> bool
     requires { last ≤ 2 ^ 32 }
     ensures { result ≡ crowded c last }
@@ -63,6 +62,7 @@ fn crowded(c: Channel, last: usize) -> bool
 }
 
 // Spread evenly: the place of number i of those to `last`.
+#[tactic(auto, unfolding(crate::specs::Space::even_at))]
 fn even_at(c: Channel, last: usize, i: usize) -> f64
     requires { (last ≤ 2 ^ 32) × (i ≤ 2 ^ 32) }
     ensures { result ≡ even_at c last i }
@@ -77,49 +77,45 @@ fn spread(c: Channel, last: usize, list: &mut [f64])
     requires { (length list.old ≡ last + 1) × (last ≤ 2 ^ 32) }
     ensures { list.new ≡ map (even_at c last) (up_from 0 (last + 1)) }
 {
-    let mut i = 0;
-    while i <= last {
-        list[i] = even_at(c, last, i);
-        i += 1;
+    for (i, place) in list.iter_mut().enumerate() {
+        *place = even_at(c, last, i);
     }
 }
 
 // The first pass: each wish held to the channel, and at least a gap past the place before it.
+#[tactic(auto, unfolding(crate::specs::Space::forward_all))]
 fn forward_pass(c: Channel, list: &mut [f64])
     ensures { list.new ≡ forward_all c list.old }
 {
-    if list.len() > 0 {
-        let mut t = clamp(list[0], c.lo, c.hi);
-        list[0] = t;
-        let mut i = 1;
-        while i < list.len() {
-            let wish = clamp(list[i], c.lo, c.hi);
+    if let Some((first, rest)) = list.split_first_mut() {
+        let mut t = clamp(*first, c.lo, c.hi);
+        *first = t;
+        for x in rest {
+            let wish = clamp(*x, c.lo, c.hi);
             let next = t + c.gap;
             t = max(wish, next);
-            list[i] = t;
-            i += 1;
+            *x = t;
         }
     }
 }
 
 // The second pass, from the last place to the first.
+#[tactic(auto, unfolding(crate::specs::Space::backward))]
 fn backward_pass(c: Channel, list: &mut [f64])
     ensures { list.new ≡ backward c list.old }
 {
-    let n = list.len();
-    if n > 0 {
-        let mut i = n - 1;
-        let mut t = min(list[i], c.hi);
-        list[i] = t;
-        while i > 0 {
-            i -= 1;
-            t = min(list[i], t - c.gap);
-            list[i] = t;
+    if let Some((last, rest)) = list.split_last_mut() {
+        let mut t = min(*last, c.hi);
+        *last = t;
+        for i in (0..rest.len()).rev() {
+            t = min(rest[i], t - c.gap);
+            rest[i] = t;
         }
     }
 }
 
 // Wishes that stand in their order become their places.
+#[tactic(auto, unfolding(crate::specs::Space::spaced))]
 fn place(c: Channel, list: &mut [f64])
     requires { length list.old ≤ 2 ^ 32 }
     ensures { list.new ≡ spaced c list.old }

@@ -3,7 +3,7 @@ use mathlib.Core.Path.{◌≡◌, refl, sym, ap, ◌∙◌, subst}
 use mathlib.Core.Logic.{◌≢◌}
 use mathlib.Core.Bool.{Bool, true, false}
 use mathlib.Core.List.{List}
-use Prim.Native.Nat.{ℕ, zero, suc, ◌+◌, ◌*◌, ◌<◌, min, max}
+use Prim.Native.Nat.{ℕ, zero, suc, ◌+◌, ◌*◌, ◌<◌, max}
 use native.Mathlib.Omega.{arith}
 use native.Mathlib.Nat.{add-zero}
 use native.Mathlib.Numerals.{add-one}
@@ -17,8 +17,7 @@ use Rattle.order.specs.Order.{pick}
 use Rattle.order.specs.Table.{table}
 use Rattle.order.proofs.Tables.{length_table, get_d_table, table_ext}
 use Rattle.order.proofs.Strides.{get_d_strided, get_d_first, strided_ext}
-use Rattle.network.specs.declared.words.Known.{Known}
-use Rattle.network.specs.declared.words.Known.TheVariants.{Bus, Unknown}
+use Rattle.std.specs.Prelude.{Option, Some, None}
 use Rattle.network.specs.declared.words.Kind.{Kind}
 use Rattle.network.specs.declared.words.Kind.TheVariants.{Undrawn, Open, Internal, Line}
 use Rattle.network.specs.Words.{Safe, station_of, kind_by, kind_for, known, live, kind_of, kinds, kind_at}
@@ -27,15 +26,6 @@ use Rattle.bars.specs.Bar.{Span, bare, span_of, include, include_end, include_br
 use Rattle.spans.specs.Stages.Span.{span_at, spans_in, first_with, Included}
 
 -- ---- the two numbers of a bus's rows with one more row
-pub first_none : (first past row : ℕ) → past ≡ 0 → row ≡ first_with first past row
-unfolding first_with
-first_none first zero row h = refl
-first_none first (suc p) row h = absurd (omega arith)
-
-pub first_some : (first past row r : ℕ) → past ≢ 0 → r ≡ min first row → r ≡ first_with first past row
-unfolding first_with
-first_some first zero row r h e = absurd (h refl)
-first_some first (suc p) row r h e = e
 
 span_with : (f p r : ℕ) → span_of (first_with f p r) (max p (r + 1)) ≡ include r (span_of f p)
 unfolding span_of first_with include
@@ -44,10 +34,6 @@ span_with f (suc q) r = let e : max (suc q) (r + 1) ≡ suc (max q r) = omega ar
 
 abbrev pub put : List ℕ → ℕ → ℕ → List ℕ
 put l i r = set (set l (3 * i + 1) (first_with (get_or l (3 * i + 1) 0) (get_or l (3 * i + 2) 0) r)) (3 * i + 2) (max (get_or l (3 * i + 2) 0) (r + 1))
-
-pub put_is : (l : List ℕ) (i r x y : ℕ) → x ≡ first_with (get_or l (3 * i + 1) 0) (get_or l (3 * i + 2) 0) r → y ≡ max (get_or l (3 * i + 2) 0) (r + 1)
-    → set (set l (3 * i + 1) x) (3 * i + 2) y ≡ put l i r
-put_is l i r x y e f = rw (e, f) refl
 
 module _ (l : List ℕ) (i r : ℕ) (h : 3 * i + 2 < length l) where
   abbrev first : ℕ
@@ -136,11 +122,11 @@ apart_by a b false false both e = eqb-false a b e
 apart_by a b false true true e = eqb-false a b e
 apart_by a b false true false e = eqb-false a b e
 
-apart_for : (sub : List ℕ) (isLive : Bool) (s t : Known) → Apart (kind_for sub isLive s t)
+apart_for : (sub : List ℕ) (isLive : Bool) (s t : Option ℕ) → Apart (kind_for sub isLive s t)
 unfolding kind_for
-apart_for sub isLive Unknown t = tt
-apart_for sub isLive (Bus a) Unknown = tt
-apart_for sub isLive (Bus a) (Bus b) = apart_by a b (eqb a b) isLive (eqb (station_of sub a) (station_of sub b)) refl
+apart_for sub isLive None t = tt
+apart_for sub isLive (Some a) None = tt
+apart_for sub isLive (Some a) (Some b) = apart_by a b (eqb a b) isLive (eqb (station_of sub a) (station_of sub b)) refl
 
 apart : (sub : List ℕ) (from to : List ℤ) (service : List ℕ) (e : ℕ) (K : Kind) → kind_of sub from to service e ≡ K → Apart K
 unfolding kind_of
@@ -167,9 +153,6 @@ two sub from to service e K J q s j = subst (Two sub) j (two_of sub K s (apart s
 pub record Bare (i : ℕ) (l₀ l : List ℕ) : Type 0 where
   pub spans : (j : ℕ) → j < i → span_at l j ≡ bare
   pub columns : (j : ℕ) → get_or l (3 * j) 0 ≡ get_or l₀ (3 * j) 0
-
-pub bare_none : (l : List ℕ) → Bare 0 l l
-bare_none l = record { spans = λ j h. absurd (omega arith); columns = λ j. refl }
 
 pub bare_more : (i : ℕ) (l₀ l : List ℕ) → 3 * i + 2 < length l → Bare i l₀ l → Bare (i + 1) l₀ (set l (3 * i + 2) 0)
 unfolding span_of

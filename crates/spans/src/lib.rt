@@ -12,6 +12,7 @@ use network::words::{Kind, kind_of};
 use order::at;
 
 // The first row of a bus and this row, where the bus has rows up to before `past`.
+#[tactic(auto, unfolding(crate::specs::Stages::Span::first_with))]
 fn first_with(first: u32, past: u32, row: u32) -> u32
     ensures { result ≡ first_with first past row }
 {
@@ -78,10 +79,8 @@ fn clear_rows(n: usize, buses: &mut [u32])
     ensures buses_after { spans_in n buses.new ≡ table (λ i. bare) n }
     ensures buses_unchanged { columns_in n buses.new ≡ columns_in n buses.old }
 {
-    let mut i = 0;
-    while i < n {
+    for i in 0..n {
         buses[3 * i + 2] = 0;
-        i += 1;
     }
 }
 
@@ -98,10 +97,8 @@ fn include_all(
     ensures buses_after { spans_in (length sub.now) buses.new ≡ spans sub.now (kinds sub.now from.now to.now service.now) (from_rows_in (length from.now) ends.now) (to_rows_in (length from.now) ends.now) }
     ensures buses_unchanged { columns_in (length sub.now) buses.new ≡ columns_in (length sub.now) buses.old }
 {
-    let mut e = 0;
-    while e < from.len() {
+    for e in 0..from.len() {
         include_branch(sub, from, to, service, ends, e, buses);
-        e += 1;
     }
 }
 

@@ -115,16 +115,13 @@ pub fn relative_lengths(
     }
     let mut t = begun(pieces, branch_of(branches, 0), 0);
     let mut c = 0;
-    let mut j = 1;
-    while j < branches.len() {
+    for j in 1..branches.len() {
         let f = branch_of(branches, j);
         if f == t.branch {
             t = longer(pieces, t, j);
-            j += 1;
         } else {
             c = put_ended(roles, t, c, relative);
             t = begun(pieces, f, j);
-            j += 1;
         }
     }
     put_ended(roles, t, c, relative)

@@ -1,7 +1,6 @@
 -- All pieces as the two passes take them, how many they are, and the loops over all branches.
 -- Assumes nothing.
 use mathlib.Core.Path.{◌≡◌, refl, sym, ap, ◌∙◌, subst}
-use mathlib.Core.Logic.{◌≢◌}
 use mathlib.Core.Bool.{Bool, true, false, not}
 use mathlib.Core.List.{List, [], ◌∷◌, ◌++◌, map, append-nil, append_assoc}
 use Prim.Native.Nat.{ℕ, zero, suc, ◌+◌, ◌*◌, ◌^◌, ◌-◌, ◌≤◌, ◌<◌}
@@ -22,13 +21,13 @@ use Rattle.network.proofs.Branches.{kind_safe}
 use Rattle.network.specs.Views.{points_in}
 use Rattle.measures.specs.declared.Measures.{Measures}
 use Rattle.runs.specs.Run.{Piece, apart, pieces, is_line, all_pieces}
-use Rattle.runs.specs.Lists.{flat, piece_numbers, after}
+use Rattle.runs.specs.Lists.{flat, piece_numbers}
 use Rattle.order.specs.Over.{over}
 use Rattle.runs.specs.Stages.Views.{RunLists, open_from, internal_from, line_from, run_from, run_in, other_run, way_count, way_of, Fits, Ran}
 use Rattle.runs.proofs.Paths.{run_few, other_is}
 use Rattle.requests.specs.declared.request.LineRequest.{LineRequest}
 use Rattle.pieces.specs.Stages.Pieces.{piece, branch_of, Put}
-use Rattle.survey.specs.Stages.Runs.{run_at, runs_in, pass_run, pass_at, pass_in, others_in, block_in, FitAll, RoomIf}
+use Rattle.survey.specs.Stages.Runs.{run_at, runs_in, pass_run, pass_at, pass_in, others_in, block_in, FitAll, HasRoom}
 use Rattle.requests.specs.Stages.Requests.{Lists, lists, nothing_at, line_request, request_of, FilledTo}
 use Rattle.pieces.specs.Stages.Passes.{RoomFor, Passed}
 use Rattle.survey.specs.Stages.Lines.{request_run, request_pieces, list_pieces, Asks, AskAll}
@@ -345,23 +344,18 @@ module _ (H : RunLists) (from to : List ℤ) (service : List ℕ) (w : Bool) (at
 pub unwritten : {X : Type 0} → false ≡ true → X
 unwritten k = absurd (let z : ◌≡◌ {A = ℕ} 0 1 = ap (λ (x : Bool). pick x 1 0) k in omega arith)
 
-pub kept : {A : Type 0} (l : ℕ) (new old : List A) → l ≢ 0 → old ≡ after l new old
-unfolding after
-kept zero new old h = absurd (h refl)
-kept (suc l) new old h = refl
-
-module _ {r : ℕ} {ps : List Piece} {n n' : List Float} {b b' : List ℕ} (w : Put 0 r ps n n' b b') (l : ℕ) (z : l ≡ 0) where
-  pub whole_four : n' ≡ after l (flat piece_numbers ps) n
-  unfolding after over
+module _ {r : ℕ} {ps : List Piece} {n n' : List Float} {b b' : List ℕ} (w : Put 0 r ps n n' b b') where
+  pub whole_four : n' ≡ over (flat piece_numbers ps) n
+  unfolding over
   whole_four =
       let e : 4 * r ≡ length (flat piece_numbers ps) = omega (arith, w.count, length_flat ps) in
-      w.four ∙ ap (λ (k : ℕ). flat piece_numbers ps ++ drop k n) e ∙ ap (λ (k : ℕ). after k (flat piece_numbers ps) n) (sym z)
+      w.four ∙ ap (λ (k : ℕ). flat piece_numbers ps ++ drop k n) e
 
-  pub whole_one : b' ≡ after l (map branch_of ps) b
-  unfolding after over
+  pub whole_one : b' ≡ over (map branch_of ps) b
+  unfolding over
   whole_one =
       let e : r ≡ length (map branch_of ps) = omega (arith, w.count, length-map ps branch_of) in
-      w.one ∙ ap (λ (k : ℕ). map branch_of ps ++ drop k b) e ∙ ap (λ (k : ℕ). after k (map branch_of ps) b) (sym z)
+      w.one ∙ ap (λ (k : ℕ). map branch_of ps ++ drop k b) e
 
 module _ (H : RunLists) (from to : List ℤ) (service : List ℕ) (path : List Float) (fit : FitAll from H.ends path) (small : length from ≤ 8192) where
   abbrev all : List Piece
@@ -389,20 +383,20 @@ module _ (H : RunLists) (from to : List ℤ) (service : List ℕ) (path : List F
   pub lines_below : (s : ℕ) → s ≡ 0 + length others → s + length (pass_in true H from to service) < 2 ^ 64
   lines_below s c = omega (arith, c, few_others, pass_small H from to service path fit small)
 
-  module _ (l : ℕ) (n : List Float) (b : List ℕ) (room : RoomIf l all n b) (z : l ≡ 0) where
+  module _ (n : List Float) (b : List ℕ) (room : HasRoom all n b) where
     pub others_room_at : RoomFor true 0 others n b
-    others_room_at = (omega (arith, few_others), λ k. (omega (arith, (room z).0, sum), omega (arith, (room z).1, sum)))
+    others_room_at = (omega (arith, few_others), λ k. (omega (arith, room.0, sum), omega (arith, room.1, sum)))
 
     pub lines_room_at : (s : ℕ) (n' : List Float) (b' : List ℕ) → s ≡ 0 + length others → length n' ≡ length n → length b' ≡ length b
         → RoomFor true s (pass_in true H from to service) n' b'
     lines_room_at s n' b' c d f =
-        (omega (arith, c, few_others, pass_small H from to service path fit small), λ k. (omega (arith, (room z).0, sum, c), omega (arith, (room z).1, sum, c)))
+        (omega (arith, c, few_others, pass_small H from to service path fit small), λ k. (omega (arith, room.0, sum, c), omega (arith, room.1, sum, c)))
 
     pub both_written : {s r : ℕ} {n' n'' : List Float} {b' b'' : List ℕ} → Passed true 0 s others n n' b b' → Passed true s r (pass_in true H from to service) n' n'' b' b''
         → Put 0 r all n n'' b b''
     both_written P Q =
         let k : length (others ++ pass_in true H from to service) ≡ length all = length-append others (pass_in true H from to service) ∙ sym sum in
-        let X = passed_more P Q (omega (arith, few_others, length-append others (pass_in true H from to service), pass_small H from to service path fit small), λ h. (omega (arith, (room z).0), omega (arith, (room z).1))) in
+        let X = passed_more P Q (omega (arith, few_others, length-append others (pass_in true H from to service), pass_small H from to service path fit small), λ h. (omega (arith, room.0), omega (arith, room.1))) in
         put_of (X.written refl) (ap (λ (y : List Piece). y ++ pass_in true H from to service) (others_are H from to service) ∙ sym (all_passes H from to service))
 
   -- how many pieces the survey counts

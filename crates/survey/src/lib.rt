@@ -4,13 +4,14 @@
 pub mod lines;
 
 ghost use Rattle.std.specs.Prelude.{◌≡◌, map, ◌<◌, ◌≤◌, ◌^◌, length};
+ghost use Rattle.order.specs.Over.{over};
 ghost use Rattle.network.specs.Words.{kinds};
 ghost use Rattle.runs.specs.Run.{all_pieces};
-ghost use Rattle.runs.specs.Lists.{flat, piece_numbers, after};
+ghost use Rattle.runs.specs.Lists.{flat, piece_numbers};
 ghost use Rattle.runs.specs.Stages.Views.{held, lead, Stands};
 ghost use Rattle.pieces.specs.Stages.Pieces.{branch_of};
 ghost use Rattle.pieces.specs.Stages.Passes.{RoomFor, Passed};
-ghost use Rattle.survey.specs.Stages.Runs.{runs_in, others_in, FitAll, RoomIf};
+ghost use Rattle.survey.specs.Stages.Runs.{runs_in, others_in, FitAll, HasRoom};
 
 use crate::lines::lead_lines;
 use measures::Measures;
@@ -39,13 +40,11 @@ fn pass_others(
     ensures { Passed write first result (others_in sub.now measures buses.now ends.now blocks.now frames.now from.now to.now service.now) numbers.old numbers.new branches.old branches.new }
 {
     let mut next = first;
-    let mut e = 0;
-    while e < from.len() {
+    for e in 0..from.len() {
         let c = run(
             sub, from, to, service, measures, buses, ends, blocks, frames, e, path,
         );
         next = tally(write, next, e, path, c, numbers, branches);
-        e += 1;
     }
     next
 }
@@ -119,9 +118,8 @@ pub fn survey(
     )
 }
 
-// Writes all pieces, those of lines last; nothing where the layout is refused, l its number.
+// Writes all pieces, those of lines last.
 pub fn write_pieces(
-    l: u32,
     sub: &[u32],
     from: &[i64],
     to: &[i64],
@@ -145,13 +143,10 @@ pub fn write_pieces(
     requires from_len_bound { (length from.now ≤ 8192) × (length sub.now ≤ 4096) }
     requires fit_all { FitAll from.now ends.now path.old }
     requires stands { Stands k stations.now frames.now index.now }
-    requires room_if { RoomIf l (all_pieces (kinds sub.now from.now to.now service.now) (runs_in (held sub.now measures buses.now ends.now blocks.now places.now frames.now (lead led gap k stations.now ways.now)) from.now to.now service.now)) numbers.old branches.old }
-    ensures numbers_after { numbers.new ≡ after l (flat piece_numbers (all_pieces (kinds sub.now from.now to.now service.now) (runs_in (held sub.now measures buses.now ends.now blocks.now places.now frames.now (lead led gap k stations.now ways.now)) from.now to.now service.now))) numbers.old }
-    ensures branches_after { branches.new ≡ after l (map branch_of (all_pieces (kinds sub.now from.now to.now service.now) (runs_in (held sub.now measures buses.now ends.now blocks.now places.now frames.now (lead led gap k stations.now ways.now)) from.now to.now service.now))) branches.old }
+    requires has_room { HasRoom (all_pieces (kinds sub.now from.now to.now service.now) (runs_in (held sub.now measures buses.now ends.now blocks.now places.now frames.now (lead led gap k stations.now ways.now)) from.now to.now service.now)) numbers.old branches.old }
+    ensures numbers_after { numbers.new ≡ over (flat piece_numbers (all_pieces (kinds sub.now from.now to.now service.now) (runs_in (held sub.now measures buses.now ends.now blocks.now places.now frames.now (lead led gap k stations.now ways.now)) from.now to.now service.now))) numbers.old }
+    ensures branches_after { branches.new ≡ over (map branch_of (all_pieces (kinds sub.now from.now to.now service.now) (runs_in (held sub.now measures buses.now ends.now blocks.now places.now frames.now (lead led gap k stations.now ways.now)) from.now to.now service.now))) branches.old }
 {
-    if l != 0 {
-        return;
-    }
     let next = pass_others(
         true, 0, sub, from, to, service, measures, buses, ends, blocks, frames, path, numbers,
         branches,

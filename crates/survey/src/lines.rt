@@ -65,14 +65,12 @@ fn lead_requests(
     ensures { Passed write first result (list_pieces (lead led gap k stations.now ways.now) frames.now ends.now list.now) numbers.old numbers.new branches.old branches.new }
 {
     let mut next = first;
-    let mut i = 0;
-    while i < list.len() {
+    for i in 0..list.len() {
         let r = request_at(list, i);
         next = lead_line(
             r, write, next, led, gap, k, stations, frames, index, ends, ways, path, numbers,
             branches,
         );
-        i += 1;
     }
     next
 }

@@ -16,13 +16,12 @@ use Rattle.order.proofs.Merging.{le_or_lt}
 use Rattle.order.proofs.Tables.{how_many_zero, how_many_yes, how_many_no}
 use Rattle.geometry.specs.declared.Point.{Point}
 use Rattle.geometry.specs.declared.Box.{Box}
-use Rattle.network.specs.declared.words.Known.{Known}
-use Rattle.first_box.specs.declared.FirstHit.{FirstHit}
+use Rattle.std.specs.Prelude.{Option, is_some}
 use Rattle.first_box.specs.First.{first_hit}
 use Rattle.fit.specs.Fit.{is_line, end_at}
 use Rattle.stretches.specs.Relative.{piece_start, piece_end}
 use Rattle.through.specs.declared.through.LinePiece.{LinePiece}
-use Rattle.through.specs.Through.{station_at, is_hit, crosses, runs_through, through}
+use Rattle.through.specs.Through.{station_at, crosses, runs_through, through}
 use Rattle.through.specs.Stages.Pieces.{more, Pictured, Seen, Begins}
 
 module _ (bs : List Box) (ss sub : List ℕ) (from to : List ℤ) (roles : List ℕ) (pieces : List Float) (branches : List ℕ) where
@@ -65,21 +64,21 @@ module _ (bs : List Box) (ss sub : List ℕ) (from to : List ℤ) (roles : List 
       i ∙ ap (λ (n : ℕ). how_many (runs_through bs ss sub from to roles pieces branches) n) q
 
 -- one piece, by its ends and its branch's two stations
-pub crosses_by : (bs : List Box) (ss sub : List ℕ) (from to : List ℤ) (pieces : List Float) (e j : ℕ) (p q : Point) (x y : Known) (a b : ℕ) (h : FirstHit) (r : Bool)
+pub crosses_by : (bs : List Box) (ss sub : List ℕ) (from to : List ℤ) (pieces : List Float) (e j : ℕ) (p q : Point) (x y : Option ℕ) (a b : ℕ) (h : Option ℕ) (r : Bool)
     → p ≡ piece_start pieces j → q ≡ piece_end pieces j → x ≡ end_at (length sub) from e → a ≡ station_at sub x → y ≡ end_at (length sub) to e → b ≡ station_at sub y
-    → h ≡ first_hit bs ss p q a b → r ≡ is_hit h → r ≡ crosses bs ss sub from to pieces e j
+    → h ≡ first_hit bs ss p q a b → r ≡ is_some h → r ≡ crosses bs ss sub from to pieces e j
 unfolding crosses
 crosses_by bs ss sub from to pieces e j p q x y a b h r pe qe xe ae ye be he re =
     let ax : a ≡ station_at sub (end_at (length sub) from e) = ae ∙ ap (station_at sub) xe in
     let by : b ≡ station_at sub (end_at (length sub) to e) = be ∙ ap (station_at sub) ye in
-    re ∙ ap is_hit he
-    ∙ ap (λ (z : Point). is_hit (first_hit bs ss z q a b)) pe
-    ∙ ap (λ (z : Point). is_hit (first_hit bs ss (piece_start pieces j) z a b)) qe
-    ∙ ap (λ (z : ℕ). is_hit (first_hit bs ss (piece_start pieces j) (piece_end pieces j) z b)) ax
-    ∙ ap (λ (z : ℕ). is_hit (first_hit bs ss (piece_start pieces j) (piece_end pieces j) (station_at sub (end_at (length sub) from e)) z)) by
+    re ∙ ap is_some he
+    ∙ ap (λ (z : Point). is_some (first_hit bs ss z q a b)) pe
+    ∙ ap (λ (z : Point). is_some (first_hit bs ss (piece_start pieces j) z a b)) qe
+    ∙ ap (λ (z : ℕ). is_some (first_hit bs ss (piece_start pieces j) (piece_end pieces j) z b)) ax
+    ∙ ap (λ (z : ℕ). is_some (first_hit bs ss (piece_start pieces j) (piece_end pieces j) (station_at sub (end_at (length sub) from e)) z)) by
 
 -- ---- the pieces of lines one after the other
-pub pictured : (sub : List ℕ) (from to : List ℤ) (pieces : List Float) (count j e : ℕ) (p q : Point) (x y : Known) (a b : ℕ)
+pub pictured : (sub : List ℕ) (from to : List ℤ) (pieces : List Float) (count j e : ℕ) (p q : Point) (x y : Option ℕ) (a b : ℕ)
     → p ≡ piece_start pieces j → q ≡ piece_end pieces j → x ≡ end_at (length sub) from e → a ≡ station_at sub x → y ≡ end_at (length sub) to e → b ≡ station_at sub y
     → Pictured count j e sub from to pieces (record { j = j; count = count; on = true; p = p; q = q; a = a; b = b })
 pictured sub from to pieces count j e p q x y a b pe qe xe ae ye be = record { number = refl; before = refl; there = refl; begins = pe; ends = qe; first = ae ∙ ap (station_at sub) xe; second = be ∙ ap (station_at sub) ye }
@@ -120,11 +119,11 @@ module _ (sub : List ℕ) (from to : List ℤ) (roles : List ℕ) (pieces : List
   pub seen_end : (j count i : ℕ) (p q : Point) (a b : ℕ) → j ≤ i → Skipped roles branches j i → i ≤ length branches → length branches ≤ i → Seen sub from to roles pieces branches j count (record { j = i; count = count; on = false; p = p; q = q; a = a; b = b })
   seen_end j count i p q a b h k w l = record { later = h; before = refl; passed = k; within = w; line = λ on. absurd (subst T (sym on) tt); ended = λ _. l }
 
-  pub seen_hit : (h : FirstHit) (j c : ℕ) (x : Bool) (r : LinePiece) → x ≡ is_hit h → x ≡ true → Seen sub from to roles pieces branches j (c + 1) r → Seen sub from to roles pieces branches j (more h c) r
+  pub seen_hit : (h : Option ℕ) (j c : ℕ) (x : Bool) (r : LinePiece) → x ≡ is_some h → x ≡ true → Seen sub from to roles pieces branches j (c + 1) r → Seen sub from to roles pieces branches j (more h c) r
   unfolding more
   seen_hit h j c x r e z S = subst (λ (t : Bool). Seen sub from to roles pieces branches j (cond t (c + 1) c) r) (sym (sym e ∙ z)) S
 
-  pub seen_free : (h : FirstHit) (j c : ℕ) (x : Bool) (r : LinePiece) → x ≡ is_hit h → x ≡ false → Seen sub from to roles pieces branches j c r → Seen sub from to roles pieces branches j (more h c) r
+  pub seen_free : (h : Option ℕ) (j c : ℕ) (x : Bool) (r : LinePiece) → x ≡ is_some h → x ≡ false → Seen sub from to roles pieces branches j c r → Seen sub from to roles pieces branches j (more h c) r
   unfolding more
   seen_free h j c x r e z S = subst (λ (t : Bool). Seen sub from to roles pieces branches j (cond t (c + 1) c) r) (sym (sym e ∙ z)) S
 
@@ -165,19 +164,19 @@ module _ (sub : List ℕ) (from to : List ℤ) (roles : List ℕ) (pieces : List
     abbrev pub pieces_left : LinePiece → ℕ
     pieces_left s = length branches - s.j
 
-    module _ (s : LinePiece) (on : s.on ≡ true) (C : Counting s) (h : FirstHit) (e : h ≡ first_hit bs ss s.p s.q s.a s.b) where
-      hit_is : is_hit h ≡ crosses bs ss sub from to pieces (get_or branches s.j 0) s.j
-      hit_is = let P = (C.line on).2 in crosses_by bs ss sub from to pieces (get_or branches s.j 0) s.j s.p s.q (end_at (length sub) from (get_or branches s.j 0)) (end_at (length sub) to (get_or branches s.j 0)) s.a s.b h (is_hit h) P.begins P.ends refl P.first refl P.second e refl
+    module _ (s : LinePiece) (on : s.on ≡ true) (C : Counting s) (h : Option ℕ) (e : h ≡ first_hit bs ss s.p s.q s.a s.b) where
+      hit_is : is_some h ≡ crosses bs ss sub from to pieces (get_or branches s.j 0) s.j
+      hit_is = let P = (C.line on).2 in crosses_by bs ss sub from to pieces (get_or branches s.j 0) s.j s.p s.q (end_at (length sub) from (get_or branches s.j 0)) (end_at (length sub) to (get_or branches s.j 0)) s.a s.b h (is_some h) P.begins P.ends refl P.first refl P.second e refl
 
-      crossed_next : (x : Bool) → is_hit h ≡ x → Crossed bs ss sub from to roles pieces branches (s.j + 1) (cond x (s.count + 1) s.count) × (cond x (s.count + 1) s.count ≤ s.j + 1)
+      crossed_next : (x : Bool) → is_some h ≡ x → Crossed bs ss sub from to roles pieces branches (s.j + 1) (cond x (s.count + 1) s.count) × (cond x (s.count + 1) s.count ≤ s.j + 1)
       crossed_next true z =
-          (crossed_yes bs ss sub from to roles pieces branches s.j (get_or branches s.j 0) (is_line roles (get_or branches s.j 0)) refl refl s.count (is_hit h) (C.line on).1 hit_is z C.crossed, omega (arith, C.few))
+          (crossed_yes bs ss sub from to roles pieces branches s.j (get_or branches s.j 0) (is_line roles (get_or branches s.j 0)) refl refl s.count (is_some h) (C.line on).1 hit_is z C.crossed, omega (arith, C.few))
       crossed_next false z =
-          (crossed_no bs ss sub from to roles pieces branches s.j (get_or branches s.j 0) (is_line roles (get_or branches s.j 0)) refl refl s.count (is_hit h) (C.line on).1 hit_is z C.crossed, omega (arith, C.few))
+          (crossed_no bs ss sub from to roles pieces branches s.j (get_or branches s.j 0) (is_line roles (get_or branches s.j 0)) refl refl s.count (is_some h) (C.line on).1 hit_is z C.crossed, omega (arith, C.few))
 
       -- the next piece looked at, and fewer are left
       pub counting_next : (r : LinePiece) → Seen sub from to roles pieces branches (s.j + 1) (more h s.count) r → Counting r × (pieces_left r < pieces_left s)
       unfolding more
       counting_next r S =
-          let k = crossed_next (is_hit h) refl in
-          (counting_from (s.j + 1) (cond (is_hit h) (s.count + 1) s.count) r k.1 k.0 S, omega (arith, S.later, S.within, (C.line on).0))
+          let k = crossed_next (is_some h) refl in
+          (counting_from (s.j + 1) (cond (is_some h) (s.count + 1) s.count) r k.1 k.0 S, omega (arith, S.later, S.within, (C.line on).0))

@@ -1,29 +1,21 @@
 -- The audit's lines through boxes: the pieces of lines that hit a box of a station that isn't one of the line's own. Definitions only.
-use Rattle.std.specs.Prelude.{ℕ, Bool, true, false, ◌&&◌, List, ℤ, length, get_or, Float}
+use Rattle.std.specs.Prelude.{ℕ, Bool, ◌&&◌, List, ℤ, length, get_or, Float, is_some, Option, Some, None}
 use Rattle.order.specs.Table.{how_many}
 use Rattle.geometry.specs.declared.Box.{Box}
-use Rattle.network.specs.declared.words.Known.{Known}
-use Rattle.network.specs.declared.words.Known.TheVariants.{Bus, Unknown}
 use Rattle.network.specs.Words.{station_of}
-use Rattle.first_box.specs.declared.FirstHit.{FirstHit}
-use Rattle.first_box.specs.declared.FirstHit.TheVariants.{Free, At}
 use Rattle.first_box.specs.First.{first_hit}
 use Rattle.fit.specs.Fit.{is_line, end_at}
 use Rattle.stretches.specs.Relative.{piece_start, piece_end}
 
 -- the station of a bus, and no station's number for an unknown one
-unfoldable pub station_at : List ℕ → Known → ℕ
-station_at sub (Bus i) = station_of sub i
-station_at sub Unknown = length sub
-
-unfoldable pub is_hit : FirstHit → Bool
-is_hit Free = false
-is_hit (At s) = true
+unfoldable pub station_at : List ℕ → Option ℕ → ℕ
+station_at sub (Some i) = station_of sub i
+station_at sub None = length sub
 
 -- piece j, as one of branch e, hits a box other than those of the branch's two stations
 unfoldable pub crosses : List Box → List ℕ → List ℕ → List ℤ → List ℤ → List Float → ℕ → ℕ → Bool
 crosses bs ss sub from to pieces e j =
-    is_hit
+    is_some
     (first_hit
     bs
     ss

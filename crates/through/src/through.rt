@@ -3,34 +3,23 @@ ghost use Rattle.std.specs.Prelude.{◌≡◌, ◌+◌, ◌*◌, ◌≤◌, ◌<
 ghost use Rattle.network.specs.Words.{occupied};
 ghost use Rattle.network.specs.Views.{counts_in, boxes_in};
 ghost use Rattle.grid.specs.Stages.Cells.{Indexed};
-ghost use Rattle.through.specs.Through.{station_at, is_hit, through};
+ghost use Rattle.through.specs.Through.{station_at, through};
 ghost use Rattle.through.specs.Stages.Pieces.{more, Pictured, Seen, Begins};
 
 use box_cells::build::index_boxes;
 use detour::boxes::{BoxIndex, box_index, first_hit};
-use first_box::FirstHit;
 use fit::fit::{branch_of, end_at, is_line};
 use geometry::Point;
-use network::words::{Known, station_of};
+use network::words::station_of;
 use stretches::relative::{piece_end, piece_start};
 
 // The station of a bus, and no station's number for an unknown one.
-fn station_at(sub: &[u32], x: Known) -> usize
+fn station_at(sub: &[u32], x: Option<usize>) -> usize
     ensures { result ≡ station_at sub.now x }
 {
     match x {
-        Known::Bus(i) => station_of(sub, i),
-        Known::Unknown => sub.len(),
-    }
-}
-
-// Whether a box was hit.
-fn is_hit(x: FirstHit) -> bool
-    ensures { result ≡ is_hit x }
-{
-    match x {
-        FirstHit::Free => false,
-        FirstHit::At(_) => true,
+        Some(i) => station_of(sub, i),
+        None => sub.len(),
     }
 }
 
@@ -111,7 +100,7 @@ fn look_from(
 // The piece looked at after s, which hits h or nothing.
 fn next_piece(
     s: LinePiece,
-    h: FirstHit,
+    h: Option<usize>,
     sub: &[u32],
     from: &[i64],
     to: &[i64],
@@ -122,7 +111,7 @@ fn next_piece(
     requires { (s.j < length branches.now) × (s.count ≤ s.j) × (length pieces.now ≡ 4 * length branches.now) }
     ensures { Seen sub.now from.now to.now roles.now pieces.now branches.now (s.j + 1) (more h s.count) result }
 {
-    if is_hit(h) {
+    if h.is_some() {
         return look_from(s.count + 1, s.j + 1, sub, from, to, roles, pieces, branches);
     }
     look_from(s.count, s.j + 1, sub, from, to, roles, pieces, branches)

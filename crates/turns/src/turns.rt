@@ -22,16 +22,12 @@ fn list_occupied(k: usize, stations: &[u32], keys: &mut [u64], sorted: &mut [u32
     ensures { Listed (counts_in k stations.now) k keys.new sorted.new result }
 {
     let mut r = 0;
-    let mut s = 0;
-    while s < k {
+    for s in 0..k {
         let count = stations[2 * s];
         keys[s] = falling(count as u64);
         if 0 < count {
             sorted[r] = s as u32;
             r += 1;
-            s += 1;
-        } else {
-            s += 1;
         }
     }
     r
@@ -42,10 +38,8 @@ fn fill_keys(k: usize, keys: &mut [u64])
     requires { k ≤ length keys.old }
     ensures { (s : ℕ) → s < k → get_or keys.new s 0 ≡ falling 0 }
 {
-    let mut s = 0;
-    while s < k {
+    for s in 0..k {
         keys[s] = 0xffff_ffff_ffff_ffff;
-        s += 1;
     }
 }
 
@@ -56,15 +50,11 @@ fn top_keys(sub: &[u32], kv: &[u64], k: usize, keys: &mut [u64])
     requires by_index_2 { (s : ℕ) → s < k → get_or keys.old s 0 ≡ falling 0 }
     ensures { (s : ℕ) → s < k → get_or keys.new s 0 ≡ falling (top_to sub.now kv.now s (length sub.now)) }
 {
-    let mut i = 0;
-    while i < sub.len() {
+    for i in 0..sub.len() {
         let s = sub[i] as usize;
         let v = falling(key_of_bits(kv[i]));
         if v < keys[s] {
             keys[s] = v;
-            i += 1;
-        } else {
-            i += 1;
         }
     }
 }
@@ -75,10 +65,8 @@ fn put_order(r: usize, sorted: &[u32], stations: &mut [u32])
     ensures stations_after { order_in r stations.new ≡ take r sorted.now }
     ensures by_index { (k : ℕ) → counts_in k stations.new ≡ counts_in k stations.old }
 {
-    let mut p = 0;
-    while p < r {
+    for p in 0..r {
         stations[2 * p + 1] = sorted[p];
-        p += 1;
     }
 }
 

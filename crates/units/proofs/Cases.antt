@@ -5,7 +5,7 @@ use lib.Ieee.{Float, binary64, of_bits, lt, mul, div}
 use Rattle.float.specs.Small.{max_of}
 use Rattle.order.specs.Order.{up_from, keep}
 use Rattle.order.specs.Table.{table_from}
-use Rattle.order.specs.Median.{median_of, or_else}
+use Rattle.order.specs.Median.{median_of}
 use Rattle.network.specs.declared.words.Kind.{Kind}
 use Rattle.options.specs.Options.{defaults}
 use Rattle.network.specs.Words.{past_to, station_count, bus_counts, occupied}
@@ -16,5 +16,5 @@ use Rattle.units.specs.Unit.{coordinates, spacing_of, spacing, typical, unit_for
 -- No buses: unit 0.45 with the defaults, 0.45 by its pattern.
 pub no_buses : (xy : List Float) (ks : List Kind)
     → unit_for defaults.fill (spacing (seeds [] xy) (bus_counts [])) (typical (sizes defaults.gaps [] ks (bus_counts [])) (bus_counts [])) ≡ of_bits binary64 0x3FDC_CCCC_CCCC_CCCD
-unfolding defaults past_to station_count bus_counts seeds sizes occupied keep up_from table_from coordinates spacing_of spacing sides typical unit_for median_of or_else max_of lt mul div of_bits
+unfolding defaults past_to station_count bus_counts seeds sizes occupied keep up_from table_from coordinates spacing_of spacing sides typical unit_for median_of max_of lt mul div of_bits
 no_buses xy ks = refl

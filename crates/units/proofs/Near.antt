@@ -1,4 +1,5 @@
 -- Spacing depends only on the points that it is said to be of, the first n of a list. Assumes nothing.
+use Rattle.std.specs.Prelude.{unwrap_or}
 use mathlib.Core.Path.{◌≡◌, refl, sym, ap, ◌∙◌}
 use mathlib.Core.List.{List, ◌++◌}
 use Prim.Native.Nat.{ℕ, zero, suc, ◌+◌, ◌*◌, ◌≤◌, ◌<◌}
@@ -10,7 +11,7 @@ use lib.Ieee.{Float, nan}
 use Rattle.float.specs.Ops.{f1}
 use Rattle.order.specs.Order.{pick}
 use Rattle.order.specs.Table.{table}
-use Rattle.order.specs.Median.{median_of, or_else}
+use Rattle.order.specs.Median.{median_of}
 use Rattle.order.proofs.Tables.{length_table, table_ext}
 use Rattle.geometry.specs.declared.Point.{Point}
 use Rattle.geometry.specs.Plane.{point, point_at}
@@ -47,14 +48,14 @@ module _ (ps : List Float) (n : ℕ) where
   -- the spacing of the first n points
   pub spacing_take : spacing_of qs n ≡ spacing_of ps n
   unfolding spacing_of
-  spacing_take = ap (λ (l : List Float). or_else (median_of l) f1) (table_ext (nearest qs n) (nearest ps n) n nearest_take)
+  spacing_take = ap (λ (l : List Float). unwrap_or (median_of l) f1) (table_ext (nearest qs n) (nearest ps n) n nearest_take)
 
 -- the spacing by a list that has the distances at its front
-pub spacing_of_lem : (ps l out : List Float) (n : ℕ) (r : Float) → out ≡ table (nearest ps n) n ++ drop n l → r ≡ or_else (median_of (take n out)) f1 → r ≡ spacing_of ps n
+pub spacing_of_lem : (ps l out : List Float) (n : ℕ) (r : Float) → out ≡ table (nearest ps n) n ++ drop n l → r ≡ unwrap_or (median_of (take n out)) f1 → r ≡ spacing_of ps n
 unfolding spacing_of
 spacing_of_lem ps l out n r e f =
     let t : take n out ≡ table (nearest ps n) n = ap (take n) e ∙ take_at (table (nearest ps n) n) (drop n l) n (length_table (nearest ps n) n) in
-    f ∙ ap (λ (q : List Float). or_else (median_of q) f1) t
+    f ∙ ap (λ (q : List Float). unwrap_or (median_of q) f1) t
 
 -- ---- with the points of the occupied stations at the front of the list
 module _ (ps : List Float) (n : ℕ) (seeds : List Point) (counts : List ℕ) (e : n ≡ length (occupied counts)) (t : take (2 * n) ps ≡ coordinates seeds (occupied counts)) where

@@ -1,6 +1,7 @@
 -- Spacing, unit and scales in two drawings, the second one's seeds doubled: spacing and unit are doubled, the scales are the same. Assumes nothing.
+use Rattle.std.specs.Prelude.{Option, Some, None, IsSome, unwrap_or}
 use mathlib.Core.Path.{◌≡◌, refl, sym, ap, ◌∙◌, subst}
-use mathlib.Core.Bool.{Bool, true, false, not, ◌&&◌, cond}
+use mathlib.Core.Bool.{Bool, true, false, true≢false, not, ◌&&◌, cond}
 use mathlib.Core.List.{List, [], ◌∷◌}
 use Prim.Native.Nat.{ℕ, zero, suc, ◌+◌, ◌*◌, ◌/◌, ◌^◌, ◌≤◌, ◌<◌}
 use native.Mathlib.Nat.{le_refl, le_of_lt, le_of_eq, zero-add}
@@ -17,9 +18,7 @@ use Rattle.float.proofs.DoublePairs.{lt_of_doubles, le_of_doubles, key_of_double
 use Rattle.order.specs.Order.{pick}
 use Rattle.order.specs.Table.{table_from, table, how_many}
 use Rattle.order.proofs.Tables.{how_many_ext}
-use Rattle.order.specs.Median.{finite_of, insert_float, sort_floats, middle, median_of, or_else}
-use Rattle.order.specs.declared.Middle.{Middle}
-use Rattle.order.specs.declared.Middle.TheVariants.{At, Absent}
+use Rattle.order.specs.Median.{finite_of, insert_float, sort_floats, middle, median_of}
 use Rattle.geometry.specs.declared.Point.{Point}
 use Rattle.geometry.specs.Plane.{point_at}
 use Rattle.proximity.specs.Near.{distance, nearer, nearest_to, nearest, near, within, neighbours}
@@ -145,11 +144,11 @@ paired_at lo top (x ∷ xs) [] d d' h k i = absurd h
 paired_at lo top (x ∷ xs) (x' ∷ xs') d d' h k zero = h.0
 paired_at lo top (x ∷ xs) (x' ∷ xs') d d' h k (suc i) = paired_at lo top xs xs' d d' h.1 k i
 
-abbrev pub DoublesMiddle : ℕ → ℕ → Middle → Middle → Type 0
-DoublesMiddle lo top (At x) (At x') = Doubles lo top x x'
-DoublesMiddle lo top (At x) Absent = ⊥
-DoublesMiddle lo top Absent (At x') = ⊥
-DoublesMiddle lo top Absent Absent = Unit
+abbrev pub DoublesMiddle : ℕ → ℕ → Option Float → Option Float → Type 0
+DoublesMiddle lo top (Some x) (Some x') = Doubles lo top x x'
+DoublesMiddle lo top (Some x) None = ⊥
+DoublesMiddle lo top None (Some x') = ⊥
+DoublesMiddle lo top None None = Unit
 
 middle_doubles : (lo top : ℕ) (xs xs' : List Float) → Paired (Doubles lo top) xs xs' → DoublesMiddle lo top (middle xs) (middle xs')
 unfolding middle
@@ -164,20 +163,14 @@ pub median_doubles : (lo top : ℕ) → top < 2 ^ 2097 → (xs xs' : List Float)
 unfolding median_of
 median_doubles lo top r xs xs' h = middle_doubles lo top (sort_floats (finite_of xs)) (sort_floats (finite_of xs')) (sort_paired lo top r (finite_of xs) (finite_of xs') (finite_paired lo top xs xs' h))
 
--- there is a median
-abbrev pub Some : Middle → Type 0
-Some (At x) = Unit
-Some Absent = ⊥
-
-or_doubles : (lo top : ℕ) (m m' : Middle) → Some m → DoublesMiddle lo top m m' → Doubles lo top (or_else m f1) (or_else m' f1)
-unfolding or_else
-or_doubles lo top (At x) (At x') e h = h
-or_doubles lo top (At x) Absent e h = absurd h
-or_doubles lo top Absent m' e h = absurd e
+or_doubles : (lo top : ℕ) (m m' : Option Float) → IsSome m → DoublesMiddle lo top m m' → Doubles lo top (unwrap_or m f1) (unwrap_or m' f1)
+or_doubles lo top (Some x) (Some x') e h = h
+or_doubles lo top (Some x) None e h = absurd h
+or_doubles lo top None m' e h = absurd (true≢false (sym e))
 
 -- ---- spacing and unit
 pub spacing_doubles : {i t : ℕ} (lo top : ℕ) → i ≡ 52 + lo → lo ≤ 2045 → (t + t) * (t + t) + (t + t) * (t + t) ≤ top * top → Limit (t + t) → Limit top
-    → (ps ps' : List Float) (n : ℕ) → ((s : ℕ) → s < n → DoublesPoint i t (point_at ps s) (point_at ps' s)) → Some (median_of (table (nearest ps n) n)) → Doubles lo top (spacing_of ps n) (spacing_of ps' n)
+    → (ps ps' : List Float) (n : ℕ) → ((s : ℕ) → s < n → DoublesPoint i t (point_at ps s) (point_at ps' s)) → IsSome (median_of (table (nearest ps n) n)) → Doubles lo top (spacing_of ps n) (spacing_of ps' n)
 unfolding spacing_of
 spacing_doubles lo top e r h d l ps ps' n P some = or_doubles lo top _ _ some (median_doubles lo top l.room _ _ (table_paired lo top e r h d l ps ps' n P 0 n (le_of_eq (zero-add n))))
 

@@ -1,4 +1,5 @@
 -- Seeds within 2 ^ (m - 1074) give a spacing within four times that, and a unit within 16 times the spacing. A median is one of the finite numbers of its list. Assumes nothing.
+use Rattle.std.specs.Prelude.{unwrap_or}
 use mathlib.Core.Path.{◌≡◌, refl, sym, subst}
 use mathlib.Core.Logic.{◌⊎◌, inl, inr}
 use Prim.Native.Nat.{ℕ, zero, suc, ◌+◌, ◌*◌, ◌/◌, ◌≤◌, ◌<◌}
@@ -21,7 +22,7 @@ use Rattle.float.proofs.Bounds.{hypot_plus}
 use Rattle.float.proofs.Each.{Each, each_at}
 use Rattle.order.specs.Order.{pick}
 use Rattle.order.specs.Table.{table_from, table}
-use Rattle.order.specs.Median.{finite_of, insert_float, sort_floats, middle, median_of, or_else}
+use Rattle.order.specs.Median.{finite_of, insert_float, sort_floats, middle, median_of}
 use Rattle.geometry.specs.declared.Point.{Point}
 use Rattle.geometry.specs.Plane.{point_at}
 use Rattle.geometry.proofs.PointSizes.{Near}
@@ -56,12 +57,12 @@ module _ (Q : Float → Type 0) where
   sort_each [] h = tt
   sort_each (x ∷ xs) h = insert_each x (sort_floats xs) h.0 (sort_each xs h.1)
 
-  middle_each : (l : List Float) (d : Float) → Q d → Each Q l → Q (or_else (middle l) d)
-  unfolding middle or_else
+  middle_each : (l : List Float) (d : Float) → Q d → Each Q l → Q (unwrap_or (middle l) d)
+  unfolding middle
   middle_each [] d q h = q
   middle_each (x ∷ xs) d q h = each_at Q (x ∷ xs) (length (x ∷ xs) / 2) x (omega arith) h
 
-  pub median_each : (xs : List Float) (d : Float) → Q d → Each (λ x. T (is_finite x) → Q x) xs → Q (or_else (median_of xs) d)
+  pub median_each : (xs : List Float) (d : Float) → Q d → Each (λ x. T (is_finite x) → Q x) xs → Q (unwrap_or (median_of xs) d)
   unfolding median_of
   median_each xs d q h = middle_each (sort_floats (finite_of xs)) d q (sort_each (finite_of xs) (finite_each xs h))
 
@@ -173,7 +174,7 @@ one_least = least_lit 1074 f1 tt
 pub typical_least : (zs : List Size) (counts : List ℕ) → AtLeast 1074 (typical zs counts)
 unfolding typical
 typical_least zs counts =
-    max_least 1074 (or_else (median_of (sides zs (occupied counts))) f1) f1
+    max_least 1074 (unwrap_or (median_of (sides zs (occupied counts))) f1) f1
     (median_each (λ x. T (is_finite x)) (sides zs (occupied counts)) f1 f1_most.finite (finite_any (sides zs (occupied counts)))) one_plus one_least
 
 -- a maximum with 1 has its sign clear
@@ -199,7 +200,7 @@ pub typical_positive : (zs : List Size) (counts : List ℕ) → T (positive (typ
 typical_positive zs counts = least_positive 1074 (typical zs counts) (typical_least zs counts) (at zs counts)
   where
     at : (zs : List Size) (counts : List ℕ) → T (plus (typical zs counts))
-    at zs counts = unfold typical in one_or_plus (or_else (median_of (sides zs (occupied counts))) f1) (median_each (λ x. T (is_finite x)) (sides zs (occupied counts)) f1 f1_most.finite (finite_any (sides zs (occupied counts))))
+    at zs counts = unfold typical in one_or_plus (unwrap_or (median_of (sides zs (occupied counts))) f1) (median_each (λ x. T (is_finite x)) (sides zs (occupied counts)) f1 f1_most.finite (finite_any (sides zs (occupied counts))))
 
 -- ---- the unit
 sixteen : AtMost (1074 + 4) (of_bits binary64 0x4030_0000_0000_0000)

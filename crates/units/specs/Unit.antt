@@ -1,9 +1,9 @@
 -- 4. Spacing is the median of each occupied seed's least positive distance to another (1 if none). Unit = fill × spacing / typical. Definitions only.
-use Rattle.std.specs.Prelude.{ℕ, List, [], ◌∷◌, length, Float}
+use Rattle.std.specs.Prelude.{ℕ, List, [], ◌∷◌, length, Float, unwrap_or}
 use Rattle.float.specs.Small.{max_of}
 use Rattle.float.specs.Ops.{f1, ◌⊗◌, ◌⊘◌}
 use Rattle.order.specs.Table.{table}
-use Rattle.order.specs.Median.{median_of, or_else}
+use Rattle.order.specs.Median.{median_of}
 use Rattle.geometry.specs.declared.Point.{Point}
 use Rattle.proximity.specs.Near.{nearest}
 use Rattle.network.specs.Words.{occupied}
@@ -17,7 +17,7 @@ coordinates seeds (s ∷ ss) = (place_at seeds s).x ∷ (place_at seeds s).y ∷
 
 -- the median of the least positive distance of each of these n points to another of them
 unfoldable pub spacing_of : List Float → ℕ → Float
-spacing_of ps n = or_else (median_of (table (nearest ps n) n)) f1
+spacing_of ps n = unwrap_or (median_of (table (nearest ps n) n)) f1
 
 -- that of the occupied stations' seeds
 unfoldable pub spacing : List Point → List ℕ → Float
@@ -26,7 +26,7 @@ spacing seeds counts = let ss = occupied counts in spacing_of (coordinates seeds
 
 -- typical is the median larger side, at least 1 (1 without stations)
 unfoldable pub typical : List Size → List ℕ → Float
-typical zs counts = max_of (or_else (median_of (sides zs (occupied counts))) f1) f1
+typical zs counts = max_of (unwrap_or (median_of (sides zs (occupied counts))) f1) f1
 
 -- of a fill, the spacing and the typical side
 unfoldable pub unit_for : Float → Float → Float → Float

@@ -1,16 +1,15 @@
 // Spacing, the typical side and the unit.
 #![tactic(auto)]
 
-ghost use Rattle.std.specs.Prelude.{◌≡◌, ◌*◌, ◌≤◌, ◌^◌, length, take};
+ghost use Rattle.std.specs.Prelude.{◌≡◌, ◌*◌, ◌≤◌, ◌^◌, length, take, unwrap_or};
 ghost use Rattle.float.specs.Ops.{f1};
-ghost use Rattle.order.specs.Median.{median_of, or_else};
+ghost use Rattle.order.specs.Median.{median_of};
 ghost use Rattle.network.specs.Words.{occupied};
 ghost use Rattle.network.specs.Views.{counts_in, points_in};
 ghost use Rattle.units.specs.Unit.{coordinates, spacing_of, typical, unit_for};
 ghost use Rattle.sizes.specs.Stages.Views.{sizes_in};
 
 use float::small::max;
-use order::Middle;
 
 // The points of the occupied stations at the front of path, and how many they are.
 pub fn coordinates(k: usize, stations: &[u32], places: &[f64], path: &mut [f64]) -> usize
@@ -20,28 +19,14 @@ pub fn coordinates(k: usize, stations: &[u32], places: &[f64], path: &mut [f64])
     ensures upper_bound { result ≤ k }
 {
     let mut r = 0;
-    let mut s = 0;
-    while s < k {
+    for s in 0..k {
         if stations[2 * s] > 0 {
             path[2 * r] = places[2 * s];
             path[2 * r + 1] = places[2 * s + 1];
             r += 1;
-            s += 1;
-        } else {
-            s += 1;
         }
     }
     r
-}
-
-// A median, 1 where there is none.
-fn or_one(m: Middle) -> f64
-    ensures { result ≡ or_else m f1 }
-{
-    match m {
-        Middle::At(x) => x,
-        Middle::Absent => 1.0,
-    }
 }
 
 // The median of the first n values, 1 where there is none. The other lists are work lists.
@@ -53,9 +38,9 @@ fn median_of(
     spare: &mut [u32],
 ) -> f64
     requires { (n ≤ 2 ^ 32) × (n ≤ length values.now) × (n ≤ length keys.old) × (n ≤ length sorted.old) × (n ≤ length spare.old) }
-    ensures { result ≡ or_else (median_of (take n values.now)) f1 }
+    ensures { result ≡ unwrap_or (median_of (take n values.now)) f1 }
 {
-    or_one(order::median(&values[..n], keys, sorted, spare))
+    order::median(&values[..n], keys, sorted, spare).unwrap_or(1.0)
 }
 
 // The spacing of the first n points. The other lists are work lists.

@@ -1,5 +1,5 @@
 -- The search round the first corner, as the loop of `start` takes it over one stretch of the half-edges by corner. Assumes nothing.
-use mathlib.Core.Path.{◌≡◌, sym, ap, ◌∙◌}
+use mathlib.Core.Path.{◌≡◌, refl, sym, ap, ◌∙◌}
 use mathlib.Core.List.{List, [], ◌∷◌}
 use Prim.Native.Nat.{ℕ, suc, ◌+◌, ◌≤◌, ◌<◌}
 use native.Mathlib.Omega.{arith}
@@ -26,6 +26,11 @@ module _ (corners : List ℕ) (centre : ℕ → Point) (va vb : ℕ) where
       → sought corners centre va vb (h ∷ hs) ≡ elim x as (λ _. Step) [ Out e ↦ Out e | Home ↦ Home | Lost ↦ sought corners centre va vb hs ]
   unfolding sought
   sought_at h hs x q = ap (λ (o : Step). elim o as (λ _. Step) [ Out e ↦ Out e | Home ↦ Home | Lost ↦ sought corners centre va vb hs ]) q
+
+  sought_found : (h : ℕ) (hs : List ℕ) (x : Step) → leave corners centre va vb h ≡ x → (x ≡ Lost → ⊥) → sought corners centre va vb (h ∷ hs) ≡ x
+  sought_found h hs (Out e) q n = sought_at h hs (Out e) q
+  sought_found h hs Home q n = sought_at h hs Home q
+  sought_found h hs Lost q n = absurd (n refl)
 
   -- va's half-edges from place p on
   abbrev rest : ℕ → List ℕ
@@ -67,11 +72,8 @@ module _ (corners : List ℕ) (centre : ℕ → Point) (va vb : ℕ) where
         answer : started corners centre va vb ≡ sought corners centre va vb (h ∷ rest (suc p))
         answer = s.same ∙ ap (sought corners centre va vb) one_more
 
-        pub seek_out : (g : ℕ) → x ≡ Out g → Out g ≡ started corners centre va vb
-        seek_out g z = sym (answer ∙ sought_at h (rest (suc p)) (Out g) (sym w ∙ z))
-
-        pub seek_home : x ≡ Home → Home ≡ started corners centre va vb
-        seek_home z = sym (answer ∙ sought_at h (rest (suc p)) Home (sym w ∙ z))
+        pub seek_found : (x ≡ Lost → ⊥) → x ≡ started corners centre va vb
+        seek_found n = sym (answer ∙ sought_found h (rest (suc p)) x (sym w) n)
 
         pub seek_on : x ≡ Lost → Seeking (p + 1)
         seek_on z =

@@ -15,8 +15,8 @@ use Rattle.walk.specs.declared.Step.TheVariants.{Out, Home, Lost}
 use Rattle.walk.specs.Trace.{Walk, home_of, started, after, walk, traced, Trailed}
 
 -- the half-edge after one below 2^32 - 1, a multiple of 3, is below it too
-pub next_fits : (h e : ℕ) → e ≡ next h → h < 4294967295 → e < 4294967295
-next_fits h e q l = omega (arith, next_below 4294967295 h (omega arith) l)
+pub next_fits : (h : ℕ) → h < 4294967295 → next h < 4294967295
+next_fits h l = next_below 4294967295 h (omega arith) l
 
 module _ (corners twins : List ℕ) (centre : ℕ → Point) (va vb : ℕ) where
   abbrev whole : Walk
@@ -32,7 +32,6 @@ module _ (corners twins : List ℕ) (centre : ℕ → Point) (va vb : ℕ) where
     pub left : ℕ
     pub steps : n + left ≡ length corners
     pub list : now ≡ done ++ drop n before
-    pub long : length now ≡ length before
     pub edges : whole.edges ≡ done ++ (rest left x).edges
     pub kept : whole.kept ≡ (rest left x).kept
 
@@ -45,7 +44,6 @@ module _ (corners twins : List ℕ) (centre : ℕ → Point) (va vb : ℕ) where
         left = length corners;
         steps = omega arith;
         list = refl;
-        long = refl;
         edges = ap (λ y. (rest (length corners) y).edges) (sym e);
         kept = ap (λ y. (rest (length corners) y).kept) (sym e);
       }
@@ -67,7 +65,6 @@ module _ (corners twins : List ℕ) (centre : ℕ → Point) (va vb : ℕ) where
                   ap (λ z. set z n h) (g.list ∙ ap (λ z. g.done ++ z) (drop-cons before n 0 (omega arith)))
                   ∙ set_at g.done (get_or before n 0) (drop (suc n) before) h n g.count
                   ∙ simp (append_assoc, add-one);
-              long = length-set now n h ∙ g.long;
               edges = g.edges ∙ ap (λ z. g.done ++ (rest z (Out h)).edges) e ∙ sym (append_assoc g.done (h ∷ []) _);
               kept = g.kept ∙ ap (λ z. (rest z (Out h)).kept) e;
             }
@@ -81,15 +78,12 @@ module _ (corners twins : List ℕ) (centre : ℕ → Point) (va vb : ℕ) where
     spent zero x e = (refl, refl)
     spent (suc k) x e = absurd (omega arith)
 
-    at_home : (k : ℕ) → Over k Home
+    still : (k : ℕ) (x : Step) → ((h : ℕ) → x ≡ Out h → ⊥) → Over k x
     unfolding walk home_of
-    at_home zero = (refl, refl)
-    at_home (suc k) = (refl, refl)
-
-    at_loss : (k : ℕ) → Over k Lost
-    unfolding walk home_of
-    at_loss zero = (refl, refl)
-    at_loss (suc k) = (refl, refl)
+    still zero x f = (refl, refl)
+    still (suc k) (Out h) f = absurd (f h refl)
+    still (suc k) Home f = (refl, refl)
+    still (suc k) Lost f = (refl, refl)
 
     finish : (x : Step) (k : Bool) → k ≡ home_of x → (g : Going before now n x) → Over g.left x → Trailed whole before now n k
     finish x k e g o =
@@ -105,13 +99,10 @@ module _ (corners twins : List ℕ) (centre : ℕ → Point) (va vb : ℕ) where
         → Going before (set now n h) (n + 1) y
     going h x y l s e f g = subst (Going before (set now n h) (n + 1)) (sym f) (cross h l s (subst (Going before now n) e g))
 
-    pub ended : (x : Step) (k : Bool) → length corners ≤ n → k ≡ home_of x → Going before now n x → Trailed whole before now n k
-    ended x k l e g = finish x k e g (spent g.left x (omega (arith, g.steps)))
+    pub ended : (x : Step) (k : Bool) → length corners ≤ n → k ≡ home_of x → Going before now n x → Trailed whole before now (length corners) k
+    ended x k l e g =
+        let over : n ≡ length corners = omega (arith, g.steps) in
+        subst (λ m. Trailed whole before now m k) over (finish x k e g (spent g.left x (omega (arith, g.steps))))
 
-    pub arrived : (x : Step) → x ≡ Home → Going before now n x → Trailed whole before now n true
-    unfolding home_of
-    arrived x e g = let r = subst (Going before now n) e g in finish Home true refl r (at_home r.left)
-
-    pub lost : (x : Step) → x ≡ Lost → Going before now n x → Trailed whole before now n false
-    unfolding home_of
-    lost x e g = let r = subst (Going before now n) e g in finish Lost false refl r (at_loss r.left)
+    pub stopped : (x : Step) (k : Bool) → ((h : ℕ) → x ≡ Out h → ⊥) → k ≡ home_of x → Going before now n x → Trailed whole before now n k
+    stopped x k f e g = finish x k e g (still g.left x f)

@@ -11,7 +11,7 @@ use half_edges::first_at;
 use mesh::{end_at, next};
 use order::at;
 
-// A walk's crossings: how many, and whether the path keeps them.
+// A walk's crossings: how many, and whether the path keeps them. No Option: a cleared path's crossings stay in their channels, so their number is read either way.
 #[derive(Clone, Copy)]
 pub struct Trail {
     pub count: usize,
@@ -19,6 +19,7 @@ pub struct Trail {
 }
 
 // Whether the piece from corner va to corner vb crosses half-edge h.
+#[tactic(auto, unfolding(crate::specs::Trace::crosses_edge))]
 fn crosses_edge(corners: &[u32], points: &[f64], va: usize, vb: usize, h: usize) -> bool
     requires { (va < 0x1_0000_0000) × (vb < 0x1_0000_0000) × (h < 0xffff_ffff) }
     ensures { result ≡ crosses_edge corners.now (point_at points.now) va vb h }
@@ -34,16 +35,14 @@ fn crosses_edge(corners: &[u32], points: &[f64], va: usize, vb: usize, h: usize)
 }
 
 // How the line leaves corner va in the triangle of half-edge h, which starts there.
+#[tactic(auto, using(crate::proofs::Steps::next_fits), unfolding(crate::specs::Trace::leave))]
 fn leave(corners: &[u32], points: &[f64], va: usize, vb: usize, h: usize) -> Step
     requires { (va < 0x1_0000_0000) × (vb < 0x1_0000_0000) × (h < 0xffff_ffff) }
     ensures { result ≡ leave corners.now (point_at points.now) va vb h }
 {
     let e = next(h);
     let f = next(e);
-    if at(corners, e) as usize == vb {
-        return Step::Home;
-    }
-    if at(corners, f) as usize == vb {
+    if at(corners, e) as usize == vb || at(corners, f) as usize == vb {
         return Step::Home;
     }
     if crosses_edge(corners, points, va, vb, e) {
@@ -58,28 +57,21 @@ fn start(corners: &[u32], points: &[f64], around: &[u32], va: usize, vb: usize) 
     requires around_value { take (length corners.now) around.now ≡ round_of corners.now }
     ensures { result ≡ started corners.now (point_at points.now) va vb }
 {
-    let mut p = first_at(corners, around, va);
-    while p < corners.len() {
+    for p in first_at(corners, around, va)..corners.len() {
         let h = at(around, p) as usize;
         if at(corners, h) as usize != va {
             return Step::Lost;
         }
         match leave(corners, points, va, vb, h) {
-            Step::Out(e) => {
-                return Step::Out(e);
-            },
-            Step::Home => {
-                return Step::Home;
-            },
-            Step::Lost => {
-                p += 1;
-            },
+            Step::Lost => {},
+            x => return x,
         }
     }
     Step::Lost
 }
 
 // The first of two half-edges that the line crosses.
+#[tactic(auto, unfolding(crate::specs::Trace::out_by))]
 fn out_by(corners: &[u32], points: &[f64], va: usize, vb: usize, e: usize, f: usize) -> Step
     requires { (va < 0x1_0000_0000) × (vb < 0x1_0000_0000) × (e < 0xffff_ffff) × (f < 0xffff_ffff) }
     ensures { result ≡ out_by corners.now (point_at points.now) va vb e f }
@@ -94,6 +86,7 @@ fn out_by(corners: &[u32], points: &[f64], va: usize, vb: usize, e: usize, f: us
 }
 
 // How the line goes on in the triangle of half-edge g, which it comes in through.
+#[tactic(auto, using(crate::proofs::Steps::next_fits), unfolding(crate::specs::Trace::pass_on))]
 fn pass_on(corners: &[u32], points: &[f64], va: usize, vb: usize, g: usize) -> Step
     requires { (va < 0x1_0000_0000) × (vb < 0x1_0000_0000) × (g < 0xffff_ffff) }
     ensures { result ≡ pass_on corners.now (point_at points.now) va vb g }
@@ -107,6 +100,7 @@ fn pass_on(corners: &[u32], points: &[f64], va: usize, vb: usize, g: usize) -> S
 }
 
 // What the walk does after it has crossed half-edge h.
+#[tactic(auto, unfolding(crate::specs::Trace::after))]
 fn after(corners: &[u32], twins: &[u32], points: &[f64], va: usize, vb: usize, h: u32) -> Step
     requires { (va < 0x1_0000_0000) × (vb < 0x1_0000_0000) }
     ensures { result ≡ after corners.now twins.now (point_at points.now) va vb h }
@@ -119,14 +113,11 @@ fn after(corners: &[u32], twins: &[u32], points: &[f64], va: usize, vb: usize, h
 }
 
 // Whether a walk that makes no more crossings keeps those it has made.
+#[tactic(auto, unfolding(crate::specs::Trace::home_of))]
 fn home(x: Step) -> bool
     ensures { result ≡ home_of x }
 {
-    match x {
-        Step::Out(_) => false,
-        Step::Home => true,
-        Step::Lost => false,
-    }
+    matches!(x, Step::Home)
 }
 
 // The walk of one line from corner va to corner vb: the half-edges that it crosses, in order, at the front of `trail`.
@@ -144,30 +135,18 @@ pub fn trace(
     ensures { Trailed (traced corners.now twins.now (point_at points.now) va vb) trail.old trail.new result.count result.kept }
 {
     let mut x = start(corners, points, around, va, vb);
-    let mut n = 0;
-    while n < corners.len() {
-        match x {
-            Step::Out(h) => {
-                trail[n] = h;
-                n += 1;
-                x = after(corners, twins, points, va, vb, h);
-            },
-            Step::Home => {
-                return Trail {
-                    count: n,
-                    kept: true,
-                };
-            },
-            Step::Lost => {
-                return Trail {
-                    count: n,
-                    kept: false,
-                };
-            },
-        }
+    for n in 0..corners.len() {
+        let Step::Out(h) = x else {
+            return Trail {
+                count: n,
+                kept: home(x),
+            };
+        };
+        trail[n] = h;
+        x = after(corners, twins, points, va, vb, h);
     }
     Trail {
-        count: n,
+        count: corners.len(),
         kept: home(x),
     }
 }

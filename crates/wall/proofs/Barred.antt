@@ -25,7 +25,7 @@ use Rattle.bars.proofs.SpanLaw as SpanLaw
 use Rattle.bars.proofs.SpanLaw.{SpanIs, span_law}
 use Rattle.runs.specs.Lists.{bar_numbers}
 use Rattle.drawing.specs.declared.answer.Plot.{Plot}
-use Rattle.drawing.specs.declared.answer.Answer.TheVariants.{Drawn}
+use Rattle.std.specs.Prelude.{Ok}
 use Rattle.drawing.specs.Network.{Network, Lists, Work, Crossings}
 use Rattle.drawing.specs.Drawing.{drawing, planned}
 use Rattle.drawing.specs.Answer.{layout_of}
@@ -48,7 +48,7 @@ lengthened_is o f b = go (lt (b.y1 ⊖ b.y0) (o.gaps.min_bar ⊗ f))
     go true = refl
     go false = refl
 
-module _ (o : Options) (N : Network) (L : Lists) (W : Work) (X : Crossings) (p : Plot) (drawn : (layout_of o N L W X).answer ≡ Drawn p) where
+module _ (o : Options) (N : Network) (L : Lists) (W : Work) (X : Crossings) (p : Plot) (drawn : (layout_of o N L W X).answer ≡ Ok p) where
   abbrev exit : Lists
   exit = (layout_of o N L W X).lists
 

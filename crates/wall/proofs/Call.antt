@@ -1,8 +1,6 @@
 -- What a call that answers 'drawn' has passed, and the lists after it. Assumes nothing.
-use Prim.Native.Nat.{ℕ, zero, suc}
 use mathlib.Core.Path.{◌≡◌, sym, ap, subst, ◌∙◌}
 use mathlib.Core.Bool.{Bool, true, false, not, ◌&&◌}
-use native.Mathlib.Omega.{arith}
 use lib.Dec.{T}
 use lib.ListN.{length}
 use lib.Ieee.Fits.{and_l, and_r}
@@ -10,24 +8,27 @@ use Rattle.float.specs.Small.{is_finite}
 use Rattle.options.specs.declared.Options.{Options}
 use Rattle.options.specs.Options.{in_range}
 use Rattle.network.specs.Words.{station_count}
+use Rattle.std.specs.Prelude.{Option, Some, None, Ok}
+use Rattle.std.specs.Option.{option_or}
+use Rattle.refusals.specs.declared.Refusal.{Refusal}
+use Rattle.refusals.specs.declared.Refusal.TheVariants as Refusals
 use Rattle.refusals.specs.Refusal.{refuse, shape_refusal, too_far}
 use Rattle.runs.specs.Finite.{all_of, finite_point, finite_box, finite_bar}
 use Rattle.drawing.specs.declared.answer.Plot.{Plot}
-use Rattle.drawing.specs.declared.answer.Answer.TheVariants.{Drawn}
 use Rattle.drawing.specs.Network.{Network, Lists, Work, Crossings}
 use Rattle.drawing.specs.Drawing.{drawing}
-use Rattle.drawing.specs.Answer.{room_of, early, or_later, all_finite, short_results, short_work, mesh_length, lists_of, lists_after, call_early, call_late, layout_of}
+use Rattle.drawing.specs.Answer.{room_of, early, all_finite, short_results, short_work, mesh_length, lists_of, lists_after, plot_of, call_early, call_late, layout_of}
 use Rattle.drawing.proofs.Finite.{drawn_finite}
 use Rattle.layout.proofs.Drawn.{passed}
 
 -- the tests of a chain of refusals that refuses nothing
-early_passes : (s : ℕ) (a : Bool) (r : ℕ) → 0 ≡ or_later s (refuse (not a) 5 r) → T a
-early_passes (suc s) a r h = absurd (omega (arith, h))
-early_passes zero true r h = tt
-early_passes zero false r h = absurd (omega (arith, h))
+early_passes : (s : Option Refusal) (a : Bool) (r : Option Refusal) → None ≡ option_or s (refuse (not a) (Some Refusals.OptionRange) r) → T a
+early_passes (Some s) a r h = cc
+early_passes None true r h = tt
+early_passes None false r h = cc
 
-module _ (o : Options) (N : Network) (L : Lists) (W : Work) (X : Crossings) (p : Plot) (drawn : (layout_of o N L W X).answer ≡ Drawn p) where
-  pub plot_is : p ≡ record { unit = (drawing o N).unit; bounds = (drawing o N).bounds; pieces = length (drawing o N).pieces }
+module _ (o : Options) (N : Network) (L : Lists) (W : Work) (X : Crossings) (p : Plot) (drawn : (layout_of o N L W X).answer ≡ Ok p) where
+  pub plot_is : p ≡ plot_of (drawing o N)
   plot_is = (passed o N L W X p drawn).plot
 
   pub in_range_lem : T (in_range o)
@@ -36,8 +37,9 @@ module _ (o : Options) (N : Network) (L : Lists) (W : Work) (X : Crossings) (p :
       let n = length N.station in
       let m = length N.from in
       early_passes (shape_refusal N.station N.kv N.from N.to) (in_range o)
-      (refuse (too_far n N.xy) 6
-      (refuse (short_results n m (station_count N.station) (room_of L W X)) 7 (refuse (short_work n m (mesh_length N) (room_of L W X)) 7 0)))
+      (refuse (too_far n N.xy) (Some Refusals.TooFar)
+      (refuse (short_results n m (station_count N.station) (room_of L W X)) (Some Refusals.ListTooShort)
+      (refuse (short_work n m (mesh_length N) (room_of L W X)) (Some Refusals.ListTooShort) None)))
       (passed o N L W X p drawn).early
 
   all_finite_lem : T (all_finite (drawing o N))
@@ -62,8 +64,8 @@ module _ (o : Options) (N : Network) (L : Lists) (W : Work) (X : Crossings) (p :
       let h₃ = and_r (is_finite d.unit) (q₃ && (q₄ && (q₅ && q₆))) (and_r (all_of finite_point d.seeds) (is_finite d.unit && (q₃ && (q₄ && (q₅ && q₆)))) all_finite_lem) in
       and_r q₅ q₆ (and_r q₄ (q₅ && q₆) (and_r q₃ (q₄ && (q₅ && q₆)) h₃))
 
-  pub lists_are : (layout_of o N L W X).lists ≡ lists_after 0 (lists_of (drawing o N)) L
+  pub lists_are : (layout_of o N L W X).lists ≡ lists_after None (lists_of (drawing o N)) L
   unfolding layout_of call_early call_late
   lists_are =
-      ap (λ (r : ℕ). (call_early r o N L W X).lists) (sym (passed o N L W X p drawn).early)
-      ∙ ap (λ (r : ℕ). lists_after r (lists_of (drawing o N)) L) (sym (passed o N L W X p drawn).late)
+      ap (λ (r : Option Refusal). (call_early r o N L W X).lists) (sym (passed o N L W X p drawn).early)
+      ∙ ap (λ (r : Option Refusal). lists_after r (lists_of (drawing o N)) L) (sym (passed o N L W X p drawn).late)

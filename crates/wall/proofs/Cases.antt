@@ -14,13 +14,13 @@ use Rattle.geometry.specs.declared.Box.{Box}
 use Rattle.geometry.specs.Plane.{point}
 use Rattle.options.specs.declared.Options.{Options}
 use Rattle.offsets.specs.declared.offset.Offset.{Offset}
-use Rattle.drawing.specs.declared.answer.Answer.{Answer}
-use Rattle.drawing.specs.declared.answer.Answer.TheVariants.{Drawn, Refused}
+use Rattle.std.specs.Prelude.{Result, Ok, Err}
+use Rattle.refusals.specs.declared.Refusal.{Refusal}
+use Rattle.drawing.specs.declared.answer.Plot.{Plot}
 use Rattle.drawing.specs.Network as Net
 use Rattle.drawing.proofs.Lent as Placed
 use Rattle.drawing.specs.Network.{Network, network}
-use Rattle.findings.specs.declared.answer.Audit.{Audit}
-use Rattle.findings.specs.declared.answer.Audit.TheVariants as Audits
+use Rattle.findings.specs.declared.answer.Figures.{Figures}
 use Rattle.findings.specs.Drawn as AuditLists
 use Rattle.findings.proofs.Lent as AuditPlaced
 use Rattle.float.specs.Small as FloatSmall
@@ -88,9 +88,6 @@ use Rattle.fields.specs.Spell as FieldsSpell
 use Rattle.listed.specs.Output as Listed
 use Rattle.listing.specs.LinePlaces as ListingLinePlaces
 use Rattle.small.specs.Small as SmallHeld
-use Rattle.wall.specs.declared.answer.Checked.{Checked}
-use Rattle.wall.specs.declared.answer.Checked.TheVariants as Checks
-use Rattle.wall.specs.declared.answer.Checked.TheVariants.{LayoutRefused, AuditRefused}
 use Rattle.wall.specs.Claim as WallClaim
 use Rattle.wall.specs.Wall.{audit_parts, audited}
 
@@ -173,20 +170,20 @@ abbrev called : Options → Network → LayoutAnswer.Call
 called o N = LayoutAnswer.layout_of o N results room (Net.crossings [] [] [])
 
 -- the unit and the bounds of the answer, or the refusal
-abbrev answer_bits : Answer → List ℕ
-answer_bits (Drawn p) = bits_of p.unit ∷ box_bits p.bounds
-answer_bits (Refused r) = r ∷ []
+abbrev answer_bits : Result Plot Refusal → List ℕ
+answer_bits (Ok p) = bits_of p.unit ∷ box_bits p.bounds
+answer_bits (Err r) = NetworkRefusal.number r ∷ []
 
 -- the overlaps that an audit of it counts
-abbrev counted : Audit → List ℕ
-counted (Audits.Audited f) = f.overlaps ∷ []
-counted (Audits.Refused r) = 100 ∷ r ∷ []
+abbrev counted : Result Figures Refusal → List ℕ
+counted (Ok f) = f.overlaps ∷ []
+counted (Err r) = 100 ∷ NetworkRefusal.number r ∷ []
 
-abbrev overlaps_by : Network → Answer → Net.Lists → List ℕ
-overlaps_by N (Drawn p) L =
+abbrev overlaps_by : Network → Result Plot Refusal → Net.Lists → List ℕ
+overlaps_by N (Ok p) L =
     counted
     (AuditAnswer.audit_of (audited N L p.pieces) (AuditPlaced.lists (zeros 2) (zeros 2) (zeros 1)) (AuditPlaced.work (zero_numbers 4) (zero_numbers 265) (zero_numbers 2) (zero_numbers 2) (zeros 4) (zeros 4))).answer
-overlaps_by N (Refused r) L = r ∷ []
+overlaps_by N (Err r) L = NetworkRefusal.number r ∷ []
 
 -- two stations on one seed: the overlaps, and the places of both
 abbrev two : ℤ → List ℕ
@@ -197,10 +194,9 @@ two s =
     overlaps_by N c.answer c.lists ++ (point_bits (NetworkSeed.place_at d.places 0) ++ point_bits (NetworkSeed.place_at d.places 1))
 
 -- 01's worked network drawn and audited in one call: layout's number, the audit's (0 for none), and the pieces
-abbrev numbers : Checked → List ℕ
-numbers (LayoutRefused r) = r ∷ []
-numbers (AuditRefused p r) = 0 ∷ r ∷ []
-numbers (Checks.Audited p f) = 0 ∷ 0 ∷ []
+abbrev numbers : Result (Plot × Result Figures Refusal) Refusal → List ℕ
+numbers (Ok b) = 0 ∷ NetworkRefusal.number_of b.1 ∷ []
+numbers (Err r) = NetworkRefusal.number r ∷ []
 
 abbrev worked : Network
 worked = network (0 ∷ 0 ∷ []) (0x4059_0000_0000_0000 ∷ 0x4059_0000_0000_0000 ∷ []) (pos 0 ∷ []) (pos 1 ∷ []) (1 ∷ []) (zeros 4) [] []
@@ -246,7 +242,7 @@ pub record Row : Type 0 where
   pub says : List ℕ
 
 unfoldable pub table : List Row
-unfolding add sub mul div neg sum round units odd size span climb lt le eq of_int of_bits of_fields to_bits is_nan count_trailing_zeros audited audit_parts WallClaim.checked_by WallClaim.check_by WallClaim.check_after WallClaim.both_after WallClaim.draw_and_audit FloatSmall.max_of FloatSmall.min_of FloatSmall.abs_of FloatSmall.is_finite FloatSmall.clamp_of FloatHypot.grains FloatHypot.root_in FloatHypot.nearest_root FloatHypot.hypot_of FloatFloor.size_down FloatFloor.size_up FloatFloor.floor_int FloatKey.key_of OrderOrder.insert_by OrderOrder.sort_by OrderOrder.up_from OrderOrder.count OrderOrder.keep OrderTable.table_from OrderTable.joined OrderTable.strided OrderMedian.finite_of OrderMedian.insert_float OrderMedian.sort_floats OrderMedian.middle OrderMedian.median_of OrderMedian.or_else GeometryClip.part GeometryClip.cut GeometryClip.clip_by GeometryClip.met GeometryClip.clipped GeometryClip.hits GeometryCross.orient GeometryCross.crosses GeometryCross.parallel GeometryCross.param GeometryCross.place_or NeighboursNear.distance NeighboursNear.nearer NeighboursNear.nearest_to NeighboursNear.nearest NeighboursNear.near NeighboursNear.within NeighboursNear.neighbours NeighboursOverlap.meet NeighboursOverlap.overlap ChannelSpace.wish_key ChannelSpace.wish_of ChannelSpace.read_back ChannelSpace.wish_order ChannelSpace.in_order ChannelSpace.even_at ChannelSpace.forward ChannelSpace.forward_all ChannelSpace.backward ChannelSpace.crowded ChannelSpace.spaced ChannelSpace.put_all ChannelChannel.reach_on ChannelChannel.reach ChannelChannel.held ChannelChannel.channel_of MeshMesh.next MeshMesh.end_at MeshMesh.low_at MeshMesh.high_at OrderOrder.all_to MeshMesh.corner_ok MeshMesh.reversed MeshMesh.pairs MeshMesh.twin_ok MeshMesh.edges_ok MeshMesh.mesh_ok WalkRound.round_of WalkRound.first_at WalkRound.around WalkTrace.home_of WalkTrace.crosses_edge WalkTrace.leave WalkTrace.sought WalkTrace.started WalkTrace.out_by WalkTrace.pass_on WalkTrace.after WalkTrace.walk WalkTrace.traced NetworkWords.past_to NetworkWords.station_count NetworkWords.buses_in NetworkWords.bus_counts NetworkWords.occupied NetworkWords.known NetworkWords.live NetworkWords.kind_by NetworkWords.kind_for NetworkWords.kind_of NetworkWords.kinds NetworkSeed.point_of NetworkSeed.bus_point NetworkSeed.sum_to NetworkSeed.mean NetworkSeed.seed_of NetworkSeed.seeds NetworkOptions.defaults NetworkOptions.between NetworkOptions.search_fits NetworkOptions.gap_fits NetworkOptions.gaps_fit NetworkOptions.in_range NetworkOptions.search_of NetworkRefusal.above NetworkRefusal.far_out NetworkRefusal.too_far NetworkRefusal.shape_refusal NetworkRefusal.is_voltage NetworkRefusal.stray_voltage NetworkViews.points_in NetworkViews.boxes_in StationsColumn.falling StationsColumn.column StationsColumn.columns StationsRow.has_row StationsRow.row_key StationsRow.rows_in StationsRow.row StationsRow.from_row StationsRow.to_row StationsRow.from_rows StationsRow.to_rows UnitsSize.width_for UnitsSize.height_for UnitsSize.size_for UnitsSize.sizes_for UnitsSize.sizes UnitsSize.sides UnitsUnit.coordinates UnitsUnit.spacing_of UnitsUnit.spacing UnitsUnit.typical UnitsUnit.unit_for UnitsScale.tier UnitsScale.occupied_below UnitsScale.scale_at UnitsScale.scales_of UnitsScale.scales PlacementOffset.offset_number PlacementOffset.offset_of PlacementOffset.grid_number PlacementOffset.offset_grid PlacementOffset.offsets TurnsTurns.top_to TurnsTurns.placement_order PlacementPlaceSearch.frame_for PlacementPlaceSearch.frames PlacementPlaceSearch.box_on PlacementPlaceSearch.buffered PlacementPlaceSearch.free PlacementPlaceSearch.place PlacementPlaceSearch.first_free PlacementPlaceSearch.place_for PlacementPlace.box_of PlacementPlace.next_place PlacementPlace.places_to PlacementPlace.places PlacementPlace.found_free PlacementPlace.boxes PlacementSized.largest PlacementSized.sized PlacementSized.sized_box PlacementSized.all_sized PlacementSized.ill_sized GeometryEntry.entry_of GeometryEntry.enters BoxTreeFirst.entry_at BoxTreeFirst.comes_first BoxTreeFirst.sooner BoxTreeFirst.look BoxTreeFirst.found BoxTreeFirst.first_hit BoxTreeLength.index_length CornerCorner.corners_of CornerCorner.cost CornerCorner.cost_key CornerCorner.clears CornerCorner.clearing CornerCorner.cheaper CornerCorner.cheapest CornerCorner.or_else CornerCorner.corner DetourDetour.detour_on DetourDetour.detour_to DetourDetour.detour BarsBar.bar_x BarsBar.row_y BarsBar.span_of BarsBar.include BarsBar.include_end BarsBar.include_branch BarsBar.span_to BarsBar.reach BarsBar.lengthened BarsBar.bar_for BarsBar.spans BarsBar.bars BarsBar.position BarsBar.row_end BarsExit.exit_x BarsExit.exit RunsRun.slot RunsRun.led_path RunsRun.line_points RunsRun.run_for RunsRun.run_of RunsRun.runs RunsRun.apart RunsRun.pieces RunsRun.is_line RunsRun.all_pieces RunsRun.role RunsFinite.all_of RunsFinite.finite_point RunsFinite.finite_box RunsFinite.finite_bar RunsLists.flat OrderOver.over RunsLists.after RoutingRoute.vertex_of RoutingRoute.number_of RoutingRoute.make_channel RoutingRoute.with_channel RoutingRoute.crossing_of RoutingRoute.cross RoutingRoute.cross_all RoutingRoute.add_walk RoutingRoute.add_branch RoutingRoute.traced_to RoutingRoute.routing RoutingRoute.point_on RoutingRoute.point_of RoutingRoute.members RoutingRoute.exit_of RoutingRoute.wish RoutingRoute.space_one RoutingRoute.spaced_to RoutingRoute.rounds_to RoutingRoute.waypoints CrossingsGap.gap_of RoutingViews.exit_at RoutingViews.line_between RoutingViews.line_for RoutingViews.line_in RoutingViews.lines_in RoutingViews.scene_in RoutesRoutes.mesh_used RoutesRoutes.mesh_fits RoutesRouted.routed_in RoutesRoutes.crossings_of RoutesRoutes.route_refusal ResultsBounds.around ResultsBounds.around_all ResultsBounds.bounds_of LayoutDrawing.straight_scene LayoutDrawing.planned LayoutDrawing.led_scene LayoutDrawing.line_for LayoutDrawing.line_of LayoutDrawing.routed_scene LayoutDrawing.routed_of LayoutDrawing.ways_of LayoutDrawing.scene_of LayoutDrawing.drawing LayoutAnswer.number_of LayoutAnswer.short_results LayoutAnswer.short_work LayoutAnswer.early LayoutAnswer.piece_room LayoutAnswer.crossing_room LayoutAnswer.all_finite LayoutAnswer.routed_by LayoutAnswer.late_by LayoutAnswer.late LayoutAnswer.lists_of LayoutAnswer.lists_after LayoutAnswer.cleared_work LayoutAnswer.cleared_crossings LayoutAnswer.answer_by LayoutAnswer.answer_for LayoutAnswer.call_late LayoutAnswer.call_early LayoutAnswer.layout_of FiguresFit.all_named FiguresFit.is_line FiguresFit.end_at FiguresFit.is_known FiguresFit.joins FiguresFit.all_join FiguresFit.moderate FiguresFit.all_moderate FiguresFit.ordered FiguresFit.all_ordered FiguresFit.fits FiguresScale.sized_ends FiguresScale.ill_drawn FiguresOverlaps.overlapping FiguresOverlaps.overlapping_pairs FiguresOverlaps.overlaps FiguresFigure.middle FiguresFigure.middles FiguresFigure.displacements FiguresFigure.shorter FiguresFigure.spacings_from FiguresFigure.spacings FiguresRelative.piece_start FiguresRelative.piece_end FiguresRelative.longer FiguresRelative.begun FiguresRelative.ratio FiguresRelative.ended FiguresRelative.relative_on FiguresRelative.relatives AuditThrough.station_at AuditThrough.is_hit AuditThrough.crosses AuditThrough.runs_through AuditThrough.through AuditAnswer.number_of AuditAnswer.too_short AuditAnswer.early AuditAnswer.boxes_of AuditAnswer.stations_of AuditAnswer.late_by AuditAnswer.late AuditAnswer.lists_of AuditAnswer.figures_of AuditAnswer.lists_after AuditAnswer.cleared AuditAnswer.answer_by AuditAnswer.call_late AuditAnswer.call_early AuditAnswer.audit_of ListingField.digit ListingField.closed ListingField.digits_to ListingField.limited ListingField.positive ListingField.whole ListingField.hexadecimal ListingField.pattern ListingField.minus ListingField.plus ListingField.bus_number ListingLine.begins ListingLine.bus_names ListingLine.branch_names ListingLine.and_then ListingLine.bus_line ListingLine.branch_line ListingInput.no_buses ListingInput.no_branches ListingInput.add_bus ListingInput.add_branch ListingInput.lines_to ListingInput.bus_lines ListingInput.at_end ListingInput.branch_lines ListingInput.with_branches ListingInput.with_buses ListingInput.parsed ListingInput.read ListingInput.counted FieldsSpell.glyph FieldsSpell.digits FieldsSpell.places_in FieldsSpell.number_field FieldsSpell.shown FieldsSpell.float_field ListingOutput.piece_names ListingOutput.point_fields ListingOutput.piece_line ListingOutput.listing ListingOutput.refusal FieldsSpell.put_at Listed.list_options Listed.plotted Listed.text_by Listed.text_of Listed.network_of Listed.output_of SmallHeld.held_call ListingLinePlaces.answer ListingLinePlaces.number_of
+unfolding add sub mul div neg sum round units odd size span climb lt le eq of_int of_bits of_fields to_bits is_nan count_trailing_zeros audited audit_parts WallClaim.check_by WallClaim.check_after WallClaim.both_after WallClaim.draw_and_audit FloatSmall.max_of FloatSmall.min_of FloatSmall.abs_of FloatSmall.is_finite FloatSmall.clamp_of FloatHypot.grains FloatHypot.root_in FloatHypot.nearest_root FloatHypot.hypot_of FloatFloor.size_down FloatFloor.size_up FloatFloor.floor_int FloatKey.key_of OrderOrder.insert_by OrderOrder.sort_by OrderOrder.up_from OrderOrder.count OrderOrder.keep OrderTable.table_from OrderTable.joined OrderTable.strided OrderMedian.finite_of OrderMedian.insert_float OrderMedian.sort_floats OrderMedian.middle OrderMedian.median_of GeometryClip.part GeometryClip.cut GeometryClip.clip_by GeometryClip.clipped GeometryClip.hits GeometryCross.orient GeometryCross.crosses GeometryCross.parallel GeometryCross.param NeighboursNear.distance NeighboursNear.nearer NeighboursNear.nearest_to NeighboursNear.nearest NeighboursNear.near NeighboursNear.within NeighboursNear.neighbours NeighboursOverlap.meet NeighboursOverlap.overlap ChannelSpace.wish_key ChannelSpace.wish_of ChannelSpace.read_back ChannelSpace.wish_order ChannelSpace.in_order ChannelSpace.even_at ChannelSpace.forward ChannelSpace.forward_all ChannelSpace.backward ChannelSpace.crowded ChannelSpace.spaced ChannelSpace.put_all ChannelChannel.reach_on ChannelChannel.reach ChannelChannel.held ChannelChannel.channel_of MeshMesh.next MeshMesh.end_at MeshMesh.low_at MeshMesh.high_at OrderOrder.all_to MeshMesh.corner_ok MeshMesh.reversed MeshMesh.pairs MeshMesh.twin_ok MeshMesh.edges_ok MeshMesh.mesh_ok WalkRound.round_of WalkRound.first_at WalkRound.around WalkTrace.home_of WalkTrace.crosses_edge WalkTrace.leave WalkTrace.sought WalkTrace.started WalkTrace.out_by WalkTrace.pass_on WalkTrace.after WalkTrace.walk WalkTrace.traced NetworkWords.past_to NetworkWords.station_count NetworkWords.buses_in NetworkWords.bus_counts NetworkWords.occupied NetworkWords.known NetworkWords.live NetworkWords.kind_by NetworkWords.kind_for NetworkWords.kind_of NetworkWords.kinds NetworkSeed.point_of NetworkSeed.bus_point NetworkSeed.sum_to NetworkSeed.mean NetworkSeed.seed_of NetworkSeed.seeds NetworkOptions.defaults NetworkOptions.between NetworkOptions.search_fits NetworkOptions.gap_fits NetworkOptions.gaps_fit NetworkOptions.in_range NetworkOptions.search_of NetworkRefusal.above NetworkRefusal.far_out NetworkRefusal.too_far NetworkRefusal.shape_refusal NetworkRefusal.is_voltage NetworkRefusal.stray_voltage NetworkViews.points_in NetworkViews.boxes_in StationsColumn.falling StationsColumn.column StationsColumn.columns StationsRow.has_row StationsRow.row_key StationsRow.rows_in StationsRow.row StationsRow.from_row StationsRow.to_row StationsRow.from_rows StationsRow.to_rows UnitsSize.width_for UnitsSize.height_for UnitsSize.size_for UnitsSize.sizes_for UnitsSize.sizes UnitsSize.sides UnitsUnit.coordinates UnitsUnit.spacing_of UnitsUnit.spacing UnitsUnit.typical UnitsUnit.unit_for UnitsScale.tier UnitsScale.occupied_below UnitsScale.scale_at UnitsScale.scales_of UnitsScale.scales PlacementOffset.offset_number PlacementOffset.offset_of PlacementOffset.grid_number PlacementOffset.offset_grid PlacementOffset.offsets TurnsTurns.top_to TurnsTurns.placement_order PlacementPlaceSearch.frame_for PlacementPlaceSearch.frames PlacementPlaceSearch.box_on PlacementPlaceSearch.buffered PlacementPlaceSearch.free PlacementPlaceSearch.place PlacementPlaceSearch.first_free PlacementPlaceSearch.place_for PlacementPlace.box_of PlacementPlace.next_place PlacementPlace.places_to PlacementPlace.places PlacementPlace.found_free PlacementPlace.boxes PlacementSized.largest PlacementSized.sized PlacementSized.sized_box PlacementSized.all_sized PlacementSized.ill_sized GeometryEntry.enters BoxTreeFirst.entry_at BoxTreeFirst.comes_first BoxTreeFirst.sooner BoxTreeFirst.look BoxTreeFirst.first_hit BoxTreeLength.index_length CornerCorner.corners_of CornerCorner.cost CornerCorner.cost_key CornerCorner.clears CornerCorner.clearing CornerCorner.cheaper CornerCorner.cheapest CornerCorner.corner DetourDetour.detour_on DetourDetour.detour_to DetourDetour.detour BarsBar.bar_x BarsBar.row_y BarsBar.span_of BarsBar.include BarsBar.include_end BarsBar.include_branch BarsBar.span_to BarsBar.reach BarsBar.lengthened BarsBar.bar_for BarsBar.spans BarsBar.bars BarsBar.position BarsBar.row_end BarsExit.exit_x BarsExit.exit RunsRun.slot RunsRun.led_path RunsRun.line_points RunsRun.run_for RunsRun.run_of RunsRun.runs RunsRun.apart RunsRun.pieces RunsRun.is_line RunsRun.all_pieces RunsRun.role RunsFinite.all_of RunsFinite.finite_point RunsFinite.finite_box RunsFinite.finite_bar RunsLists.flat OrderOver.over RunsLists.after RoutingRoute.vertex_of RoutingRoute.number_of RoutingRoute.make_channel RoutingRoute.with_channel RoutingRoute.crossing_of RoutingRoute.cross RoutingRoute.cross_all RoutingRoute.add_walk RoutingRoute.add_branch RoutingRoute.traced_to RoutingRoute.routing RoutingRoute.point_on RoutingRoute.point_of RoutingRoute.members RoutingRoute.exit_of RoutingRoute.wish RoutingRoute.space_one RoutingRoute.spaced_to RoutingRoute.rounds_to RoutingRoute.waypoints CrossingsGap.gap_of RoutingViews.exit_at RoutingViews.line_between RoutingViews.line_for RoutingViews.line_in RoutingViews.lines_in RoutingViews.scene_in RoutesRoutes.mesh_used RoutesRoutes.mesh_fits RoutesRouted.routed_in RoutesRoutes.crossings_of RoutesRoutes.route_refusal ResultsBounds.around ResultsBounds.around_all ResultsBounds.bounds_of LayoutDrawing.straight_scene LayoutDrawing.planned LayoutDrawing.led_scene LayoutDrawing.line_for LayoutDrawing.line_of LayoutDrawing.routed_scene LayoutDrawing.routed_of LayoutDrawing.ways_of LayoutDrawing.scene_of LayoutDrawing.drawing LayoutAnswer.short_results LayoutAnswer.short_work LayoutAnswer.early LayoutAnswer.piece_room LayoutAnswer.crossing_room LayoutAnswer.all_finite LayoutAnswer.routed_by LayoutAnswer.late_by LayoutAnswer.late LayoutAnswer.lists_of LayoutAnswer.lists_after LayoutAnswer.cleared_work LayoutAnswer.cleared_crossings LayoutAnswer.answer_for LayoutAnswer.call_late LayoutAnswer.call_early LayoutAnswer.layout_of FiguresFit.all_named FiguresFit.is_line FiguresFit.end_at FiguresFit.joins FiguresFit.all_join FiguresFit.moderate FiguresFit.all_moderate FiguresFit.ordered FiguresFit.all_ordered FiguresFit.fits FiguresScale.sized_ends FiguresScale.ill_drawn FiguresOverlaps.overlapping FiguresOverlaps.overlapping_pairs FiguresOverlaps.overlaps FiguresFigure.middle FiguresFigure.middles FiguresFigure.displacements FiguresFigure.shorter FiguresFigure.spacings_from FiguresFigure.spacings FiguresRelative.piece_start FiguresRelative.piece_end FiguresRelative.longer FiguresRelative.begun FiguresRelative.ratio FiguresRelative.ended FiguresRelative.relative_on FiguresRelative.relatives AuditThrough.station_at AuditThrough.crosses AuditThrough.runs_through AuditThrough.through AuditAnswer.too_short AuditAnswer.early AuditAnswer.boxes_of AuditAnswer.stations_of AuditAnswer.late_by AuditAnswer.late AuditAnswer.lists_of AuditAnswer.figures_of AuditAnswer.lists_after AuditAnswer.cleared AuditAnswer.call_late AuditAnswer.call_early AuditAnswer.audit_of ListingField.digit ListingField.closed ListingField.digits_to ListingField.limited ListingField.positive ListingField.whole ListingField.hexadecimal ListingField.pattern ListingField.minus ListingField.plus ListingField.bus_number ListingLine.begins ListingLine.bus_names ListingLine.branch_names ListingLine.and_then ListingLine.bus_line ListingLine.branch_line ListingInput.no_buses ListingInput.no_branches ListingInput.add_bus ListingInput.add_branch ListingInput.lines_to ListingInput.bus_lines ListingInput.at_end ListingInput.branch_lines ListingInput.with_branches ListingInput.with_buses ListingInput.parsed ListingInput.read ListingInput.counted FieldsSpell.glyph FieldsSpell.digits FieldsSpell.places_in FieldsSpell.number_field FieldsSpell.shown FieldsSpell.float_field ListingOutput.piece_names ListingOutput.point_fields ListingOutput.piece_line ListingOutput.listing ListingOutput.refusal FieldsSpell.put_at Listed.list_options Listed.plotted Listed.text_by Listed.text_of Listed.network_of Listed.output_of SmallHeld.held_call ListingLinePlaces.answer ListingLinePlaces.number_of NetworkRefusal.number_of
 table =
     -- the worked output of `drawlist`, its bytes
     record {

@@ -10,112 +10,82 @@ use lib.Ieee.{Float}
 use Rattle.options.specs.declared.Options.{Options}
 use Rattle.network.specs.Words.{station_count}
 use Rattle.drawing.specs.declared.answer.Plot.{Plot}
-use Rattle.drawing.specs.declared.answer.Answer.{Answer}
-use Rattle.drawing.specs.declared.answer.Answer.TheVariants.{Drawn, Refused}
+use Rattle.std.specs.Prelude.{Option, Some, None, Result, Ok, Err}
+use Rattle.refusals.specs.declared.Refusal.{Refusal}
+use Rattle.refusals.specs.Refusal.{number_of}
 use Rattle.drawing.specs.Network.{Network, Lists, Work, Crossings, crossings}
 use Rattle.drawing.proofs.Lent.{work}
 use Rattle.drawing.specs.Drawing.{Drawing, drawing}
-use Rattle.drawing.specs.Answer.{number_of, room_of, early, late, lists_of, lists_after, answer_by, answer_for, Call, call, call_late, call_early, layout_of}
+use Rattle.drawing.specs.Answer.{room_of, early, late, lists_of, lists_after, answer_for, Call, call, call_late, call_early, layout_of}
 use Rattle.runs.specs.Lists.{after}
 use Rattle.drawing.specs.Number.{Answered}
 use Rattle.drawing.proofs.Number.{layout_number_lem}
 use Rattle.layout.proofs.Drawn.{pieces_fit}
 use Rattle.findings.specs.declared.answer.Figures.{Figures}
-use Rattle.findings.specs.declared.answer.Audit.{Audit}
-use Rattle.findings.specs.declared.answer.Audit.TheVariants as Audits
 use Rattle.findings.specs.Drawn as Lent
 use Rattle.findings.proofs.Lent as Placed
 use Rattle.findings.specs.Answer as Audited
 use Rattle.wall.specs.Wall.{audit_parts, audited, Patterns}
-use Rattle.wall.specs.declared.answer.Checked.{Checked}
-use Rattle.wall.specs.declared.answer.Checked.TheVariants as Checks
-use Rattle.wall.specs.declared.answer.Checked.TheVariants.{LayoutRefused}
-use Rattle.wall.specs.Claim.{both, layout_number_of, Plots, Holds, checked_by, Check, check, check_by, check_after, both_after, draw_and_audit, Claim}
+use Rattle.wall.specs.Claim.{both, Check, check, check_by, check_after, both_after, draw_and_audit, Claim}
 use Rattle.wall.proofs.Whole.{wall}
 
 -- layout's lists hold the pieces that are audited
-pub pieces_room : (o : Options) (N : Network) (L : Lists) (W : Work) (X : Crossings) (a : Answer) (l : Lists) (w : Work) (x : Crossings)
-    → Answered o N L W X (call a l w x) → length l.pieces ≡ length L.pieces → length l.branches ≡ length L.branches
-    → Holds a (length l.pieces) (length l.branches)
-unfolding Holds
-pieces_room o N L W X (Drawn p) l w x A f g =
+pub pieces_room : (o : Options) (N : Network) (L : Lists) (W : Work) (X : Crossings) (p : Plot) (l : Lists) (w : Work) (x : Crossings)
+    → Answered o N L W X (call (Ok p) l w x) → length l.pieces ≡ length L.pieces → length l.branches ≡ length L.branches
+    → (4 * p.pieces ≤ length l.pieces) × (p.pieces ≤ length l.branches)
+pieces_room o N L W X p l w x A f g =
     let h = pieces_fit o N L W X p (sym (ap (λ (c : Call). c.answer) A.is)) in (omega (arith, h.0, f), omega (arith, h.1, g))
-pieces_room o N L W X (Refused r) l w x A f g = tt
 
-pub holds_drawn : (a : Answer) (numbers names : ℕ) (p : Plot) → a ≡ Drawn p → Holds a numbers names → (4 * p.pieces ≤ numbers) × (p.pieces ≤ names)
-unfolding Holds
-holds_drawn a numbers names p e h = subst (λ (b : Answer). Holds b numbers names) e h
-
--- the two cases of layout's answer
-pub check_drawn : (a : Answer) (parts : ℕ → Lent.Drawn) (F : Lent.Lists) (U : Lent.Work) (p : Plot) (q : Audit) (l : Lent.Lists) (w : Lent.Work) (r : Checked)
-    → a ≡ Drawn p → Audited.call q l w ≡ Audited.audit_of (parts p.pieces) F U → r ≡ checked_by p q → check r l w ≡ check_by a parts F U
-unfolding check_by
-check_drawn a parts F U p q l w r e f g =
-    ap (λ (x : Checked). check x l w) g
-    ∙ ap (λ (A : Audited.Call). check (checked_by p A.answer) A.lists A.work) f
-    ∙ ap (λ (b : Answer). check_by b parts F U) (sym e)
-
-pub check_refused : (a : Answer) (parts : ℕ → Lent.Drawn) (F : Lent.Lists) (U : Lent.Work) (r : ℕ)
-    → a ≡ Refused r → check (LayoutRefused r) F U ≡ check_by a parts F U
-unfolding check_by
-check_refused a parts F U r e = ap (λ (b : Answer). check_by b parts F U) (sym e)
-
--- what an answer of both says of the two answers
-plot_of : (q : Plot) (A : Audit) (p : Plot) → Plots (checked_by q A) p → q ≡ p
-unfolding checked_by Plots
-plot_of q (Audits.Audited f) p h = h
-plot_of q (Audits.Refused r) p h = h
-
-figures_of : (q : Plot) (A : Audit) (p : Plot) (f : Figures) → checked_by q A ≡ Checks.Audited p f → A ≡ Audits.Audited f
-unfolding checked_by
-figures_of q (Audits.Audited g) p f h = cc
-figures_of q (Audits.Refused r) p f h = let z : ◌≡◌ {A = ℕ} 0 1 = cc in absurd (omega arith)
-
-drawn_is : (q : Plot) (A : Audit) → layout_number_of (checked_by q A) ≡ 0
-unfolding checked_by layout_number_of
-drawn_is q (Audits.Audited f) = refl
-drawn_is q (Audits.Refused r) = refl
-
-not_refused : {P : Type 0} (q : Plot) (A : Audit) (r : ℕ) → checked_by q A ≡ LayoutRefused r → P
-unfolding checked_by
-not_refused q (Audits.Audited f) r h = let z : ◌≡◌ {A = ℕ} 0 1 = cc in absurd (omega arith)
-not_refused q (Audits.Refused s) r h = let z : ◌≡◌ {A = ℕ} 0 1 = cc in absurd (omega arith)
+same_ok : {A : Type 0} {a b : A} → ◌≡◌ {A = Result A Refusal} (Ok a) (Ok b) → a ≡ b
+same_ok e = cc
 
 module _ (parts : ℕ → Lent.Drawn) (F : Lent.Lists) (U : Lent.Work) where
-  plots_drawn : (a : Answer) (p : Plot) → Plots (check_by a parts F U).answer p → a ≡ Drawn p
-  unfolding check_by Plots
-  plots_drawn (Drawn q) p h = ap Drawn (plot_of q (Audited.audit_of (parts q.pieces) F U).answer p h)
-  plots_drawn (Refused r) p h = absurd h
-
-  figured : (a : Answer) (p : Plot) (f : Figures) → a ≡ Drawn p → (check_by a parts F U).answer ≡ Checks.Audited p f
-      → (Audited.audit_of (parts p.pieces) F U).answer ≡ Audits.Audited f
+  -- the two cases of layout's answer
+  pub check_drawn : (p : Plot) (q : Result Figures Refusal) (l : Lent.Lists) (w : Lent.Work)
+      → Audited.call q l w ≡ Audited.audit_of (parts p.pieces) F U → check (Ok (p, q)) l w ≡ check_by (Ok p) parts F U
   unfolding check_by
-  figured a p f e h =
-      figures_of p (Audited.audit_of (parts p.pieces) F U).answer p f (subst (λ (b : Answer). (check_by b parts F U).answer ≡ Checks.Audited p f) e h)
+  check_drawn p q l w e = ap (λ (A : Audited.Call). check (Ok (p, A.answer)) A.lists A.work) e
 
-  number_is : (a : Answer) → layout_number_of (check_by a parts F U).answer ≡ number_of a
-  unfolding check_by number_of layout_number_of
-  number_is (Drawn q) = drawn_is q (Audited.audit_of (parts q.pieces) F U).answer
-  number_is (Refused r) = refl
-
-  refused_is : (a : Answer) (r : ℕ) → (check_by a parts F U).answer ≡ LayoutRefused r → a ≡ Refused r
+  pub check_refused : (r : Refusal) → check (Err r) F U ≡ check_by (Err r) parts F U
   unfolding check_by
-  refused_is (Drawn q) r h = not_refused q (Audited.audit_of (parts q.pieces) F U).answer r h
-  refused_is (Refused s) r h = cc
+  check_refused r = refl
+
+  -- what an answer of both says of the two answers
+  drawn : (a : Result Plot Refusal) (p : Plot) (q : Result Figures Refusal) → (check_by a parts F U).answer ≡ Ok (p, q) → a ≡ Ok p
+  unfolding check_by
+  drawn (Ok o) p q h = ap (λ (x : Plot × Result Figures Refusal). Ok x.0) (same_ok h)
+  drawn (Err r) p q h = cc
+
+  figured : (a : Result Plot Refusal) (p : Plot) (q : Result Figures Refusal) → (check_by a parts F U).answer ≡ Ok (p, q) → (Audited.audit_of (parts p.pieces) F U).answer ≡ q
+  unfolding check_by
+  figured (Ok o) p q h =
+      let e = same_ok h in
+      subst (λ (x : Plot). (Audited.audit_of (parts x.pieces) F U).answer ≡ q) (ap (λ (x : Plot × Result Figures Refusal). x.0) e) (ap (λ (x : Plot × Result Figures Refusal). x.1) e)
+  figured (Err r) p q h = cc
+
+  number_is : (a : Result Plot Refusal) → number_of (check_by a parts F U).answer ≡ number_of a
+  unfolding check_by number_of
+  number_is (Ok p) = refl
+  number_is (Err r) = refl
+
+  refused_is : (a : Result Plot Refusal) (r : Refusal) → (check_by a parts F U).answer ≡ Err r → a ≡ Err r
+  unfolding check_by
+  refused_is (Ok p) r h = cc
+  refused_is (Err s) r h = cc
 
 -- a refusal of layout changes no result list
-late_kept : (l : ℕ) (d : Drawing) (L : Lists) (r : ℕ) → answer_for l d ≡ Refused r → lists_after l (lists_of d) L ≡ L
-unfolding answer_for answer_by lists_after after
-late_kept zero d L r h = let z : ◌≡◌ {A = ℕ} 0 1 = cc in absurd (omega arith)
-late_kept (suc l) d L r h = refl
+late_kept : (l : Option Refusal) (d : Drawing) (L : Lists) (r : Refusal) → answer_for l d ≡ Err r → lists_after l (lists_of d) L ≡ L
+unfolding answer_for lists_after after
+late_kept None d L r h = cc
+late_kept (Some l) d L r h = refl
 
 module _ (o : Options) (N : Network) (L : Lists) (W : Work) (X : Crossings) where
-  kept_by : (e r : ℕ) → (call_early e o N L W X).answer ≡ Refused r → (call_early e o N L W X).lists ≡ L
+  kept_by : (e : Option Refusal) (r : Refusal) → (call_early e o N L W X).answer ≡ Err r → (call_early e o N L W X).lists ≡ L
   unfolding call_early call_late
-  kept_by zero r h = late_kept (late (drawing o N) (room_of L W X)) (drawing o N) L r h
-  kept_by (suc e) r h = refl
+  kept_by None r h = late_kept (late (drawing o N) (room_of L W X)) (drawing o N) L r h
+  kept_by (Some e) r h = refl
 
-  kept : (r : ℕ) → (layout_of o N L W X).answer ≡ Refused r → (layout_of o N L W X).lists ≡ L
+  kept : (r : Refusal) → (layout_of o N L W X).answer ≡ Err r → (layout_of o N L W X).lists ≡ L
   unfolding layout_of
   kept r h = kept_by (early o N (room_of L W X)) r h
 
@@ -128,12 +98,12 @@ module _ (o : Options) (N : Network) (L : Lists) (W : Work) (X : Crossings) wher
         number = number_is _ _ _ a ∙ layout_number_lem o N L W X;
         refused = λ r h. kept r (refused_is _ _ _ a r h);
         patterns = P;
-        wall = λ p d. wall o N L W X p (plots_drawn _ _ _ a p d);
-        clean = λ p f d h free. (wall o N L W X p (plots_drawn _ _ _ a p d)).audit free _ _ f (figured _ _ _ a p f (plots_drawn _ _ _ a p d) h);
+        wall = λ p q d. wall o N L W X p (drawn _ _ _ a p q d);
+        clean = λ p f d free. (wall o N L W X p (drawn _ _ _ a p (Ok f) d)).audit free _ _ f (figured _ _ _ a p (Ok f) d);
       }
 
   -- by what the two calls give
-  pub claim_both : Patterns N → (a : Answer) (l : Lists) (w : Work) (x : Crossings) → Answered o N L W X (call a l w x)
+  pub claim_both : Patterns N → (a : Result Plot Refusal) (l : Lists) (w : Work) (x : Crossings) → Answered o N L W X (call a l w x)
       → (A : Check)
       → A ≡ check_by a (audit_parts N.station N.kv N.from N.to N.xy l.boxes l.roles l.pieces l.branches)
       (Placed.lists w.blocks w.frames x.ways) (Placed.work w.stations w.sorted w.spare w.keys w.places w.path)

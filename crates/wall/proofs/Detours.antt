@@ -10,12 +10,9 @@ use Rattle.float.specs.Ops.{f½, ◌⊗◌}
 use Rattle.geometry.specs.declared.Point.{Point}
 use Rattle.geometry.specs.declared.Box.{Box}
 use Rattle.geometry.specs.Plane.{box_in}
-use Rattle.first_box.specs.declared.FirstHit.{FirstHit}
-use Rattle.first_box.specs.declared.FirstHit.TheVariants.{Free, At}
-use Rattle.corner.specs.declared.Choice.{Choice}
-use Rattle.corner.specs.declared.Choice.TheVariants.{Nowhere, Over}
+use Rattle.std.specs.Prelude.{Option, Some, None, unwrap_or}
 use Rattle.first_box.specs.First.{first_hit}
-use Rattle.corner.specs.Corner.{corners_of, cost_key, clears, clearing, cheaper, cheapest, or_else, corner}
+use Rattle.corner.specs.Corner.{corners_of, cost_key, clears, clearing, cheaper, cheapest, corner}
 use Rattle.detour.specs.Detour.{detour_on, detour_to, detour}
 use Rattle.wall.proofs.Every.{Every}
 
@@ -24,9 +21,9 @@ abbrev pub FitsPoint : Point → Type 0
 FitsPoint p = T (fits binary64 p.x) × T (fits binary64 p.y)
 
 module _ (P : Point → Type 0) where
-  abbrev Chosen : Choice → Type 0
-  Chosen Nowhere = Unit {0}
-  Chosen (Over c) = P c
+  abbrev Chosen : Option Point → Type 0
+  Chosen None = Unit {0}
+  Chosen (Some c) = P c
 
   clearing_every : (p q : Point) (b : Box) (cs : List Point) → Every P cs → Every P (clearing p q b cs)
   unfolding clearing Every
@@ -37,32 +34,31 @@ module _ (P : Point → Type 0) where
       go true k = (h.0, k)
       go false k = k
 
-  cheaper_chosen : (p q : Point) (best : Choice) (c : Point) → Chosen best → P c → Chosen (cheaper p q best c)
+  cheaper_chosen : (p q : Point) (best : Option Point) (c : Point) → Chosen best → P c → Chosen (cheaper p q best c)
   unfolding cheaper
-  cheaper_chosen p q Nowhere c h k = k
-  cheaper_chosen p q (Over d) c h k = go (ltb (cost_key p q c) (cost_key p q d))
+  cheaper_chosen p q None c h k = k
+  cheaper_chosen p q (Some d) c h k = go (ltb (cost_key p q c) (cost_key p q d))
     where
-      go : (u : Bool) → Chosen (cond u (Over c) (Over d))
+      go : (u : Bool) → Chosen (cond u (Some c) (Some d))
       go true = k
       go false = h
 
-  cheapest_chosen : (p q : Point) (best : Choice) (cs : List Point) → Chosen best → Every P cs → Chosen (cheapest p q best cs)
+  cheapest_chosen : (p q : Point) (best : Option Point) (cs : List Point) → Chosen best → Every P cs → Chosen (cheapest p q best cs)
   unfolding cheapest Every
   cheapest_chosen p q best [] h k = h
   cheapest_chosen p q best (c ∷ cs) h k = cheapest_chosen p q (cheaper p q best c) cs (cheaper_chosen p q best c h k.0) k.1
 
-  chosen_or : (c : Choice) (other : Point) → Chosen c → P other → P (or_else c other)
-  unfolding or_else
-  chosen_or Nowhere other h k = k
-  chosen_or (Over c) other h k = h
+  chosen_or : (c : Option Point) (other : Point) → Chosen c → P other → P (unwrap_or c other)
+  chosen_or None other h k = k
+  chosen_or (Some c) other h k = h
 
   corner_every : (p q : Point) (b : Box) (gap : Float) → Every P (corners_of b (gap ⊗ f½)) → P p → P (corner p q b gap)
   unfolding corner
   corner_every p q b gap h k =
       let cs = corners_of b (gap ⊗ f½) in
-      chosen_or (cheapest p q Nowhere (clearing p q b cs)) (or_else (cheapest p q Nowhere cs) p)
-      (cheapest_chosen p q Nowhere (clearing p q b cs) tt (clearing_every p q b cs h))
-      (chosen_or (cheapest p q Nowhere cs) p (cheapest_chosen p q Nowhere cs tt h) k)
+      chosen_or (cheapest p q None (clearing p q b cs)) (unwrap_or (cheapest p q None cs) p)
+      (cheapest_chosen p q None (clearing p q b cs) tt (clearing_every p q b cs h))
+      (chosen_or (cheapest p q None cs) p (cheapest_chosen p q None cs tt h) k)
 
   module _ (boxes : List Box) (occupied : List ℕ) (gap : Float) (a b : ℕ) (corners : (s : ℕ) → Every P (corners_of (box_in boxes s) (gap ⊗ f½))) where
     on_every : (again : List Point → List Point) → ((l : List Point) → Every P l → Every P (again l)) → (p : Point) (rest : List Point) → P p → Every P rest
@@ -71,10 +67,10 @@ module _ (P : Point → Type 0) where
     on_every again f p [] h k = (h, tt)
     on_every again f p (q ∷ rest) h k = go (first_hit boxes occupied p q a b) (on_every again f q rest k.0 k.1)
       where
-        go : (hit : FirstHit) → Every P (detour_on boxes occupied gap a b again q rest)
-            → Every P (elim hit [ Free ↦ p ∷ detour_on boxes occupied gap a b again q rest | At s ↦ again (p ∷ corner p q (box_in boxes s) gap ∷ q ∷ rest) ])
-        go Free m = (h, m)
-        go (At s) m = f (p ∷ corner p q (box_in boxes s) gap ∷ q ∷ rest) (h, (corner_every p q (box_in boxes s) gap (corners s) h, k))
+        go : (hit : Option ℕ) → Every P (detour_on boxes occupied gap a b again q rest)
+            → Every P (elim hit [ None ↦ p ∷ detour_on boxes occupied gap a b again q rest | Some s ↦ again (p ∷ corner p q (box_in boxes s) gap ∷ q ∷ rest) ])
+        go None m = (h, m)
+        go (Some s) m = f (p ∷ corner p q (box_in boxes s) gap ∷ q ∷ rest) (h, (corner_every p q (box_in boxes s) gap (corners s) h, k))
 
     to_every : (n : ℕ) (path : List Point) → Every P path → Every P (detour_to boxes occupied gap a b n path)
     unfolding detour_to Every

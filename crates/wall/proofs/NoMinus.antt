@@ -1,5 +1,6 @@
 -- Numbers without a minus sign: the unit, the scales and every station's block are such, and so is its buffer.
 -- Assumes nothing.
+use Rattle.std.specs.Prelude.{unwrap_or}
 use Prim.Native.Nat.{ℕ, zero, suc, ◌+◌, ◌-◌, ◌*◌, ◌/◌, ◌^◌, ◌<◌, compare}
 use mathlib.Core.Path.{◌≡◌, refl, sym, subst}
 use mathlib.Core.Bool.{Bool, true, false, not, cond}
@@ -15,7 +16,7 @@ use Rattle.float.specs.Small.{max_of, min_of, is_finite}
 use Rattle.float.specs.Hypot.{hypot_of, grains, nearest_root, root_in}
 use Rattle.float.specs.Ops.{f0, f1, f2, order_key, ◌⊗◌}
 use Rattle.order.specs.Order.{pick}
-use Rattle.order.specs.Median.{finite_of, insert_float, sort_floats, middle, median_of, or_else}
+use Rattle.order.specs.Median.{finite_of, insert_float, sort_floats, middle, median_of}
 use Rattle.geometry.specs.declared.Point.{Point}
 use Rattle.geometry.specs.Plane.{point_at}
 use Rattle.proximity.specs.Near.{distance, nearer, nearest_to, nearest, neighbours}
@@ -216,11 +217,11 @@ unfolding sort_floats Every
 sort_every P [] h = tt
 sort_every P (x ∷ xs) h = insert_every P x (sort_floats xs) h.0 (sort_every P xs h.1)
 
-median_every : (P : Float → Type 0) (l : List Float) (d : Float) → Every P l → P d → P (or_else (median_of l) d)
-unfolding median_of middle or_else Every
+median_every : (P : Float → Type 0) (l : List Float) (d : Float) → Every P l → P d → P (unwrap_or (median_of l) d)
+unfolding median_of middle Every
 median_every P l d h p = go (sort_floats (finite_of l)) (sort_every P (finite_of l) (finite_every P l h))
   where
-    go : (s : List Float) → Every P s → P (or_else (middle s) d)
+    go : (s : List Float) → Every P s → P (unwrap_or (middle s) d)
     go [] k = p
     go (x ∷ xs) k = every_at P (x ∷ xs) x (length (x ∷ xs) / 2) k k.0
 

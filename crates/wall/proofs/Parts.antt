@@ -26,7 +26,7 @@ use Rattle.runs.specs.Run.{role}
 use Rattle.runs.specs.Lists.{flat, box_numbers, bar_numbers}
 use Rattle.figures.proofs.Reading.{boxes_read}
 use Rattle.drawing.specs.declared.answer.Plot.{Plot}
-use Rattle.drawing.specs.declared.answer.Answer.TheVariants.{Drawn}
+use Rattle.std.specs.Prelude.{Ok}
 use Rattle.drawing.specs.Network.{Network, Lists, Work, Crossings}
 use Rattle.drawing.specs.Drawing.{measures_of, drawing}
 use Rattle.drawing.specs.Answer.{layout_of}
@@ -44,7 +44,7 @@ pub seeds_length : (N : Network) → length (bus_counts N.station) ≡ length (S
 unfolding Seed.seeds
 seeds_length N = counts_length N ∙ sym (length_table _ (station_count N.station))
 
-module _ (o : Options) (N : Network) (L : Lists) (W : Work) (X : Crossings) (p : Plot) (drawn : (layout_of o N L W X).answer ≡ Drawn p) where
+module _ (o : Options) (N : Network) (L : Lists) (W : Work) (X : Crossings) (p : Plot) (drawn : (layout_of o N L W X).answer ≡ Ok p) where
   abbrev exit : Lists
   exit = (layout_of o N L W X).lists
 

@@ -37,7 +37,7 @@ use Rattle.crossings.specs.Route as Route
 use Rattle.crossings.specs.Gap.{gap_of}
 use Rattle.routes.specs.Routes.{mesh_used, crossings_of}
 use Rattle.drawing.specs.declared.answer.Plot.{Plot}
-use Rattle.drawing.specs.declared.answer.Answer.TheVariants.{Drawn}
+use Rattle.std.specs.Prelude.{Ok}
 use Rattle.drawing.specs.Network.{Network, Lists, Work, Crossings}
 use Rattle.drawing.specs.Drawing as Drawing
 use Rattle.drawing.specs.Drawing.{drawing, planned, straight_scene, routed_of, routed_scene}
@@ -52,7 +52,7 @@ unfolding places_to
 places_length fs os seeds order zero = refl
 places_length fs os seeds order (suc i) = length-set (places_to fs os seeds order i) (get_or order i 0) _ ∙ places_length fs os seeds order i
 
-module _ (o : Options) (N : Network) (L : Lists) (W : Work) (X : Crossings) (p : Plot) (drawn : (layout_of o N L W X).answer ≡ Drawn p) where
+module _ (o : Options) (N : Network) (L : Lists) (W : Work) (X : Crossings) (p : Plot) (drawn : (layout_of o N L W X).answer ≡ Ok p) where
   abbrev exit : Lists
   exit = (layout_of o N L W X).lists
 

@@ -26,7 +26,7 @@ use Rattle.proximity.specs.Overlap.{overlap}
 use Rattle.options.specs.declared.Gaps.{Gaps}
 use Rattle.options.specs.declared.Options.{Options}
 use Rattle.options.specs.Options.{in_range, between, search_fits, gap_fits, gaps_fit, search_of}
-use Rattle.network.specs.declared.words.Known.TheVariants.{Bus, Unknown}
+use Rattle.std.specs.Prelude.{Some, None}
 use Rattle.network.specs.declared.words.Kind.{Kind}
 use Rattle.network.specs.declared.words.Kind.TheVariants.{Undrawn, Open, Internal, Line}
 use Rattle.network.specs.Words.{station_of, station_count, buses_in, is_occupied, known, live, kind_by, kind_for, kind_of, kind_at, Safe}
@@ -54,13 +54,13 @@ use Rattle.bars.specs.Bar.{position, bar_at}
 use Rattle.runs.specs.Run.{Piece, pieces, is_line, all_pieces, role}
 use Rattle.runs.specs.Finite.{all_of, finite_point, finite_box}
 use Rattle.drawing.specs.declared.answer.Plot.{Plot}
-use Rattle.drawing.specs.declared.answer.Answer.TheVariants.{Drawn}
+use Rattle.std.specs.Prelude.{Ok}
+use Rattle.refusals.proofs.Unless.{neither}
 use Rattle.drawing.specs.Network.{Network, Lists, Work, Crossings}
 use Rattle.drawing.specs.Drawing.{drawing}
-use Rattle.drawing.specs.Answer.{layout_of, early, or_later}
+use Rattle.drawing.specs.Answer.{layout_of, early}
 use Rattle.layout.proofs.Drawn.{passed}
 use Rattle.findings.specs.declared.answer.Figures.{Figures}
-use Rattle.findings.specs.declared.answer.Audit.TheVariants.{Audited}
 use Rattle.findings.specs.Drawn as Audit
 use Rattle.findings.specs.Answer.{audit_of, boxes_of}
 use Rattle.findings.proofs.Accepted.{accepted_apart}
@@ -139,11 +139,6 @@ unfolding search_fits search_of
 search_fits_lem (pos n) h = leb→le n 20 h
 search_fits_lem (negsuc n) h = absurd h
 
--- the first refusal of a chain that refuses nothing
-first_passes : (s r : ℕ) → 0 ≡ or_later s r → 0 ≡ s
-first_passes zero r h = refl
-first_passes (suc s) r h = h
-
 -- ---- seeds are floats of the format
 
 abbrev FitsY : Point → Type 0
@@ -209,23 +204,23 @@ rows_of o N s =
 -- ---- the branches that pieces name
 
 -- x and y are the numbers of two known, different buses
-abbrev Some : ℕ → ℤ → ℤ → Type 0
-Some n x y = (a : ℕ) × (b : ℕ) × (x ≡ pos a) × (a < n) × (y ≡ pos b) × (b < n) × (a ≢ b)
+abbrev Ends : ℕ → ℤ → ℤ → Type 0
+Ends n x y = (a : ℕ) × (b : ℕ) × (x ≡ pos a) × (a < n) × (y ≡ pos b) × (b < n) × (a ≢ b)
 
-drawn_joins : (sub : List ℕ) (l : Bool) (x y : ℤ) → (kind_for sub l (known (length sub) x) (known (length sub) y) ≡ Undrawn) ⊎ Some (length sub) x y
+drawn_joins : (sub : List ℕ) (l : Bool) (x y : ℤ) → (kind_for sub l (known (length sub) x) (known (length sub) y) ≡ Undrawn) ⊎ Ends (length sub) x y
 unfolding kind_for known
 drawn_joins sub l (negsuc i) y = inl refl
 drawn_joins sub l (pos a) y = from (ltb a (length sub)) refl y
   where
-    to : a < length sub → (b : ℕ) (u : Bool) → ltb b (length sub) ≡ u → (kind_for sub l (Bus a) (pick u (Bus b) Unknown) ≡ Undrawn) ⊎ Some (length sub) (pos a) (pos b)
+    to : a < length sub → (b : ℕ) (u : Bool) → ltb b (length sub) ≡ u → (kind_for sub l (Some a) (pick u (Some b) None) ≡ Undrawn) ⊎ Ends (length sub) (pos a) (pos b)
     to h b false e = inl refl
     to h b true e = same (eqb a b) refl
       where
-        same : (v : Bool) → eqb a b ≡ v → (kind_by v l (eqb (station_of sub a) (station_of sub b)) a b ≡ Undrawn) ⊎ Some (length sub) (pos a) (pos b)
+        same : (v : Bool) → eqb a b ≡ v → (kind_by v l (eqb (station_of sub a) (station_of sub b)) a b ≡ Undrawn) ⊎ Ends (length sub) (pos a) (pos b)
         same true q = inl (unfold kind_by in refl)
         same false q = inr (a, b, refl, h, refl, ltb-true b (length sub) e, eqb-false a b q)
 
-    from : (u : Bool) → ltb a (length sub) ≡ u → (y : ℤ) → (kind_for sub l (pick u (Bus a) Unknown) (known (length sub) y) ≡ Undrawn) ⊎ Some (length sub) (pos a) y
+    from : (u : Bool) → ltb a (length sub) ≡ u → (y : ℤ) → (kind_for sub l (pick u (Some a) None) (known (length sub) y) ≡ Undrawn) ⊎ Ends (length sub) (pos a) y
     from false e y = inl refl
     from true e (negsuc i) = inl refl
     from true e (pos b) = to (ltb-true a (length sub) e) b (ltb b (length sub)) refl
@@ -245,7 +240,7 @@ joining_named P e (p ∷ (q ∷ ps)) h = go (coincide p q) (joining_named P e (q
 abbrev Named : Network → ℕ → Type 0
 Named N e = (e < length N.from) × (a : ℕ) × (b : ℕ) × Joins N e a b
 
-module _ (o : Options) (N : Network) (L : Lists) (W : Work) (X : Crossings) (p : Plot) (drawn : (layout_of o N L W X).answer ≡ Drawn p) where
+module _ (o : Options) (N : Network) (L : Lists) (W : Work) (X : Crossings) (p : Plot) (drawn : (layout_of o N L W X).answer ≡ Ok p) where
   abbrev exit : Lists
   exit = (layout_of o N L W X).lists
 
@@ -339,7 +334,7 @@ module _ (o : Options) (N : Network) (L : Lists) (W : Work) (X : Crossings) (p :
   run_named e h = ⊎_elim
       (λ (u : kind N e ≡ Undrawn).
       subst (λ (c : Kind). Every (λ (q : Piece). Named N q.branch) (joining e (points_by o N p exit at e c))) (sym u) (unfold points_by joining Every in tt))
-      (λ (j : Some (length N.station) (get_or N.from e (negsuc 0)) (get_or N.to e (negsuc 0))).
+      (λ (j : Ends (length N.station) (get_or N.from e (negsuc 0)) (get_or N.to e (negsuc 0))).
       joining_named (Named N) e (points_of o N p exit at e) (h, j.0, j.1, (j.2, j.3, j.4, j.5, j.6)))
       (drawn_joins N.station (live N.service e) (get_or N.from e (negsuc 0)) (get_or N.to e (negsuc 0)))
 
@@ -393,7 +388,7 @@ module _ (o : Options) (N : Network) (L : Lists) (W : Work) (X : Crossings) (p :
 
   shape : Shape N.station N.kv N.from N.to
   unfolding early
-  shape = shape_fits N.station N.kv N.from N.to (first_passes _ _ (passed o N L W X p drawn).early)
+  shape = shape_fits N.station N.kv N.from N.to (neither _ _ (passed o N L W X p drawn).early).0
 
   turns_of : Rattle.wall.specs.Wall.Turns N
   turns_of =
@@ -460,7 +455,7 @@ module _ (o : Options) (N : Network) (L : Lists) (W : Work) (X : Crossings) (p :
       buffer_out (frame_at (fs o N) s) B (finite_add (place_at (end o N) s).x (frame_at (fs o N) s).half.w (finite_at s h).2)
 
   clean : ((i : ℕ) → i < length (order N) → is_free o N exit p i (place_at (end o N) (get_or (order N) i 0)) ≡ true)
-      → (A : Audit.Lists) (Z : Audit.Work) (f : Figures) → (audit_of (audited N exit p.pieces) A Z).answer ≡ Audited f → f.overlaps ≡ 0
+      → (A : Audit.Lists) (Z : Audit.Work) (f : Figures) → (audit_of (audited N exit p.pieces) A Z).answer ≡ Ok f → f.overlaps ≡ 0
   unfolding audited audit_parts boxes_of
   clean free A Z f e =
       accepted_apart (audited N exit p.pieces) A Z f (λ s t n h k.

@@ -1,6 +1,6 @@
 -- One claim about a whole drawing: what holds of the lists that layout left, and of every audit of them (01, 'What each statement fixes', third demand).
 -- Definitions only.
-use Rattle.std.specs.Prelude.{ℕ, ◌+◌, ◌-◌, ◌*◌, ◌^◌, ◌≤◌, ◌<◌, ◌≡◌, ◌⊎◌, ◌≢◌, Bool, true, false, cond, ◌&&◌, ◌||◌, List, [], ◌∷◌, ◌++◌, map, T, eqb, leb, ltb, ℤ, pos, negsuc, length, get_or, take, Float}
+use Rattle.std.specs.Prelude.{ℕ, ◌+◌, ◌-◌, ◌*◌, ◌^◌, ◌≤◌, ◌<◌, ◌≡◌, ◌⊎◌, ◌≢◌, Bool, true, false, cond, ◌&&◌, ◌||◌, List, [], ◌∷◌, ◌++◌, map, T, eqb, leb, ltb, ℤ, pos, negsuc, length, get_or, take, Float, Ok}
 use Rattle.std.proofs.Math.Option.{Option, none, some}
 use Rattle.std.specs.Float.{binary64, nan}
 use Rattle.std.specs.Float.Ieee.{eq, lt, le, to_bits}
@@ -38,7 +38,6 @@ use Rattle.stretches.specs.Relative.{piece_start, piece_end}
 use Rattle.drawing.specs.declared.answer.Plot.{Plot}
 use Rattle.drawing.specs.Network.{Network, Lists}
 use Rattle.findings.specs.declared.answer.Figures.{Figures}
-use Rattle.findings.specs.declared.answer.Audit.TheVariants.{Audited}
 use Rattle.findings.specs.Drawn as Audit
 use Rattle.findings.specs.Answer.{audit_of}
 
@@ -472,4 +471,4 @@ pub record Wall (o : Options) (N : Network) (L : Lists) (p : Plot) : Type 0 wher
   pub runs : Runs o N L p boxes.places
   -- If every station found a free place, every audit that accepts the drawing, whatever lists are lent to it, counts 0 overlaps.
   pub audit : ((i : ℕ) → i < length (order N) → is_free o N L p i (boxes.places (get_or (order N) i 0)) ≡ true)
-      → (A : Audit.Lists) (W : Audit.Work) (f : Figures) → (audit_of (audited N L p.pieces) A W).answer ≡ Audited f → f.overlaps ≡ 0
+      → (A : Audit.Lists) (W : Audit.Work) (f : Figures) → (audit_of (audited N L p.pieces) A W).answer ≡ Ok f → f.overlaps ≡ 0

@@ -1,24 +1,17 @@
 // A drawing and the audit of it in one call.
-ghost use Rattle.std.specs.Prelude.{◌≡◌, ◌*◌, ◌≤◌, min, length};
+ghost use Rattle.std.specs.Prelude.{◌≡◌, ◌*◌, ◌≤◌, length};
 ghost use Rattle.drawing.specs.Network.{crossings};
 ghost use Rattle.findings.specs.Answer as Audited;
 ghost use Rattle.wall.specs.Wall.{audit_parts};
-ghost use Rattle.wall.specs.Claim.{Holds, checked_by, check, check_by, both, Claim};
+ghost use Rattle.wall.specs.Claim.{both, Claim};
 
-use crate::answer::Checked;
 use audit::quality::tx_layout_quality;
-use drawing::answer::{Answer, Plot};
-use findings::answer::Audit;
+use drawing::answer::Plot;
+use findings::answer::Figures;
 use layout::call::tx_schematic_layout;
 use network::words::station_count;
 use options::Options;
-
-// The lesser of two lengths.
-fn shorter(n: usize, len: usize) -> usize
-    ensures { result ≡ min n len }
-{
-    if n < len { n } else { len }
-}
+use refusals::Refusal;
 
 // Audits the parts of the lists that a drawing of `count` pieces fills.
 fn audit_drawing(
@@ -41,15 +34,15 @@ fn audit_drawing(
     roles: &[u8],
     pieces: &[f64],
     branches: &[u32],
-) -> Audit
+) -> Result<Figures, Refusal>
     requires { (4 * count ≤ length pieces.now) × (count ≤ length branches.now) }
     ensures { Audited.call result (record { displacement = displacement.new; spacing = spacing.new; relative = relative.new }) (record { stations = stations.new; index = index.new; spare = spare.new; keys = keys.new; points = points.new; path = path.new })
         ≡ Audited.audit_of (audit_parts sub.now kv.now from.now to.now xy.now boxes.now roles.now pieces.now branches.now count)
         (record { displacement = displacement.old; spacing = spacing.old; relative = relative.old }) (record { stations = stations.old; index = index.old; spare = spare.old; keys = keys.old; points = points.old; path = path.old }) }
 {
     let k = station_count(sub);
-    let b = shorter(4 * k, boxes.len());
-    let m = shorter(from.len(), roles.len());
+    let b = (4 * k).min(boxes.len());
+    let m = from.len().min(roles.len());
     tx_layout_quality(
         displacement,
         spacing,
@@ -72,74 +65,8 @@ fn audit_drawing(
     )
 }
 
-// What both calls answer, by the plot that layout gave and the audit's answer.
-fn answer_of(p: Plot, a: Audit) -> Checked
-    ensures { result ≡ checked_by p a }
-{
-    match a {
-        Audit::Audited(f) => Checked::Audited(p, f),
-        Audit::Refused(r) => Checked::AuditRefused(p, r),
-    }
-}
-
-// Audits the drawing that layout answered, or hands on its refusal.
-fn audit_answer(
-    displacement: &mut [f64],
-    spacing: &mut [f64],
-    relative: &mut [f64],
-    stations: &mut [u32],
-    index: &mut [u32],
-    spare: &mut [u32],
-    keys: &mut [u64],
-    points: &mut [f64],
-    path: &mut [f64],
-    a: Answer,
-    sub: &[u32],
-    kv: &[u64],
-    from: &[i64],
-    to: &[i64],
-    xy: &[f64],
-    boxes: &[f64],
-    roles: &[u8],
-    pieces: &[f64],
-    branches: &[u32],
-) -> Checked
-    requires { Holds a (length pieces.now) (length branches.now) }
-    ensures { check result (record { displacement = displacement.new; spacing = spacing.new; relative = relative.new }) (record { stations = stations.new; index = index.new; spare = spare.new; keys = keys.new; points = points.new; path = path.new })
-        ≡ check_by a (audit_parts sub.now kv.now from.now to.now xy.now boxes.now roles.now pieces.now branches.now)
-        (record { displacement = displacement.old; spacing = spacing.old; relative = relative.old }) (record { stations = stations.old; index = index.old; spare = spare.old; keys = keys.old; points = points.old; path = path.old }) }
-{
-    match a {
-        Answer::Drawn(p) => {
-            let q = audit_drawing(
-                displacement,
-                spacing,
-                relative,
-                stations,
-                index,
-                spare,
-                keys,
-                points,
-                path,
-                p.pieces,
-                sub,
-                kv,
-                from,
-                to,
-                xy,
-                boxes,
-                roles,
-                pieces,
-                branches,
-            );
-            answer_of(p, q)
-        }
-        Answer::Refused(r) => Checked::LayoutRefused(r),
-    }
-}
-
 // Draws the network into the lent lists and audits the drawing as it stands there.
-// The audit's numbers of each station and line go into `blocks`, `frames` and `crossing_ways`.
+// The audit's numbers of each station and line go into `blocks`, `frames` and `crossing_ways`. Answers layout's refusal, or the plot and what the audit answers.
 pub fn draw_and_audit(
     positions: &mut [f64],
     bars: &mut [f64],
@@ -170,7 +97,7 @@ pub fn draw_and_audit(
     xy: &[f64],
     corners: &[u32],
     twins: &[u32],
-) -> Checked
+) -> Result<(Plot, Result<Figures, Refusal>), Refusal>
     ensures { Claim o
         (record { station = sub.now; kv = kv.now; from = from.now; to = to.now; service = service.now; xy = xy.now; corners = corners.now; twins = twins.now })
         (record { positions = positions.old; bars = bars.old; boxes = boxes.old; scales = scales.old; roles = roles.old; pieces = pieces.old; branches = branches.old })
@@ -181,7 +108,7 @@ pub fn draw_and_audit(
         (record { stations = stations.new; buses = buses.new; ends = ends.new; sorted = sorted.new; spare = spare.new; keys = keys.new; places = places.new; blocks = blocks.new; frames = frames.new; path = path.new })
         (crossings crossing_numbers.new crossing_places.new crossing_ways.new)) }
 {
-    let a = tx_schematic_layout(
+    let plot = tx_schematic_layout(
         positions,
         bars,
         boxes,
@@ -211,8 +138,8 @@ pub fn draw_and_audit(
         xy,
         corners,
         twins,
-    );
-    audit_answer(
+    )?;
+    let audit = audit_drawing(
         blocks,
         frames,
         crossing_ways,
@@ -222,7 +149,7 @@ pub fn draw_and_audit(
         keys,
         places,
         path,
-        a,
+        plot.pieces,
         sub,
         kv,
         from,
@@ -232,5 +159,6 @@ pub fn draw_and_audit(
         roles,
         pieces,
         branches,
-    )
+    );
+    Ok((plot, audit))
 }

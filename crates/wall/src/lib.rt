@@ -1,5 +1,4 @@
 // A drawing and the audit of it.
 #![tactic(auto)]
 
-pub mod answer;
 pub mod check;

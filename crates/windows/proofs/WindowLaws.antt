@@ -10,12 +10,9 @@ use Rattle.float.specs.Ops.{◌⊖◌, ◌⊘◌, f0, f1}
 use Rattle.float.proofs.Keys.{le_self, not_both, finite_no_nan}
 use Rattle.geometry.specs.declared.Point.{Point}
 use Rattle.geometry.specs.declared.Box.{Box}
-use Rattle.geometry.specs.declared.Clip.{Clip}
-use Rattle.geometry.specs.declared.Clip.TheVariants.{Miss, Part}
-use Rattle.geometry.specs.declared.entry.Entry.{Entry}
-use Rattle.geometry.specs.declared.entry.Entry.TheVariants.{Missed, Place}
+use Rattle.std.specs.Prelude.{Option, Some, None, option_map}
 use Rattle.geometry.specs.Clip.{part, cut, clip_by, clipped}
-use Rattle.geometry.specs.Entry.{entry_of, enters}
+use Rattle.geometry.specs.Entry.{enters}
 use Rattle.geometry.proofs.Clips.{Straight, clipped_straight, right_test, top_test}
 use Rattle.windows.specs.Stages.Window.{plain_piece, finite_box, range_holds, window_holds, is_apart, Reaches}
 use Rattle.float.proofs.Ordered.{lift, le_left, le_right, float_trans, not_below, below_through, le_same, below_le, not_above}
@@ -25,14 +22,14 @@ abbrev Number : Float → Type 0
 Number x = T (not (is_nan x))
 
 -- ---- what holds of the places where a piece comes in and goes out, as far as something of it is left
-Of : (Float → Float → Type 0) → Clip → Type 0
-Of P Miss = Unit {0}
-Of P (Part t u) = P t u
+Of : (Float → Float → Type 0) → Option (Float × Float) → Type 0
+Of P None = Unit {0}
+Of P (Some (t, u)) = P t u
 
-of_map : (P Q : Float → Float → Type 0) → ((t u : Float) → P t u → Q t u) → (c : Clip) → Of P c → Of Q c
+of_map : (P Q : Float → Float → Type 0) → ((t u : Float) → P t u → Q t u) → (c : Option (Float × Float)) → Of P c → Of Q c
 unfolding Of
-of_map P Q f Miss h = tt
-of_map P Q f (Part t u) h = f t u h
+of_map P Q f None h = tt
+of_map P Q f (Some (t, u)) h = f t u h
 
 -- no wider than from t to u
 abbrev Within : Float → Float → Float → Float → Type 0
@@ -81,15 +78,15 @@ part_of : (P : Float → Float → Type 0) (t u : Float) → P t u → Of P (par
 unfolding part Of
 part_of P t u h = go (lt u t)
   where
-    go : (b : Bool) → Of P (cond b Miss (Part t u))
+    go : (b : Bool) → Of P (cond b None (Some (t, u)))
     go true = tt
     go false = h
 
-clip_within : (p q t u : Float) → Number t → Number u → Of (Within t u) (clip_by p q (Part t u))
+clip_within : (p q t u : Float) → Number t → Number u → Of (Within t u) (clip_by p q (Some (t, u)))
 unfolding clip_by cut Of
 clip_within p q t u n m = go (eq p f0) (lt q f0) (lt p f0)
   where
-    go : (a b c : Bool) → Of (Within t u) (cond a (cond b Miss (Part t u)) (cut c (q ⊘ p) t u))
+    go : (a b c : Bool) → Of (Within t u) (cond a (cond b None (Some (t, u))) (cut c (q ⊘ p) t u))
     go true true c = tt
     go true false c = (le_self t n, le_self u m)
     go false b true = part_of (Within t u) (max_of t (q ⊘ p)) u (max_left t (q ⊘ p) n, le_self u m)
@@ -99,15 +96,15 @@ clip_within p q t u n m = go (eq p f0) (lt q f0) (lt p f0)
 abbrev Narrows : (Float → Float → Type 0) → Type 0
 Narrows P = (t u t' u' : Float) → Within t u t' u' → P t u → P t' u'
 
-test_keeps : (P : Float → Float → Type 0) → Narrows P → (p q : Float) (c : Clip) → Of (Within f0 f1) c → Of P c → Of P (clip_by p q c)
+test_keeps : (P : Float → Float → Type 0) → Narrows P → (p q : Float) (c : Option (Float × Float)) → Of (Within f0 f1) c → Of P c → Of P (clip_by p q c)
 unfolding Of
-test_keeps P f p q Miss n h = unfold clip_by in tt
-test_keeps P f p q (Part t u) n h = of_map (Within t u) P (λ t' u' w. f t u t' u' w h) (clip_by p q (Part t u)) (clip_within p q t u (le_right f0 t n.0) (le_left u f1 n.1))
+test_keeps P f p q None n h = unfold clip_by in tt
+test_keeps P f p q (Some (t, u)) n h = of_map (Within t u) P (λ t' u' w. f t u t' u' w h) (clip_by p q (Some (t, u))) (clip_within p q t u (le_right f0 t n.0) (le_left u f1 n.1))
 
 within_narrows : (a z : Float) → Narrows (Within a z)
 within_narrows a z t u t' u' w h = (float_trans a t t' h.0 w.0, float_trans u' u z w.1 h.1)
 
-within_kept : (p q : Float) (c : Clip) → Of (Within f0 f1) c → Of (Within f0 f1) (clip_by p q c)
+within_kept : (p q : Float) (c : Option (Float × Float)) → Of (Within f0 f1) c → Of (Within f0 f1) (clip_by p q c)
 within_kept p q c h = test_keeps (Within f0 f1) (within_narrows f0 f1) p q c h h
 
 passed_narrows : (p q : Float) → Narrows (Passed p q)
@@ -119,12 +116,12 @@ passed_narrows p q t u t' u' w k =
     }
 
 -- ---- what a test says of its side
-test_passes : (p q : Float) → T (is_finite p) → Number q → (c : Clip) → Of (Within f0 f1) c → Of (Passed p q) (clip_by p q c)
+test_passes : (p q : Float) → T (is_finite p) → Number q → (c : Option (Float × Float)) → Of (Within f0 f1) c → Of (Passed p q) (clip_by p q c)
 unfolding clip_by cut Of
-test_passes p q f n Miss h = tt
-test_passes p q f n (Part t u) h = go (eq p f0) (lt q f0) (lt p f0) refl refl refl
+test_passes p q f n None h = tt
+test_passes p q f n (Some (t, u)) h = go (eq p f0) (lt q f0) (lt p f0) refl refl refl
   where
-    go : (a b c : Bool) → eq p f0 ≡ a → lt q f0 ≡ b → lt p f0 ≡ c → Of (Passed p q) (cond a (cond b Miss (Part t u)) (cut c (q ⊘ p) t u))
+    go : (a b c : Bool) → eq p f0 ≡ a → lt q f0 ≡ b → lt p f0 ≡ c → Of (Passed p q) (cond a (cond b None (Some (t, u))) (cut c (q ⊘ p) t u))
     go true true c x y z = tt
     go true false c x y z =
         record {
@@ -154,12 +151,12 @@ Crossed low high start d t u = Passed (neg d) (start ⊖ low) t u × Passed d (h
 crossed_narrows : (low high start d : Float) → Narrows (Crossed low high start d)
 crossed_narrows low high start d t u t' u' w k = (passed_narrows (neg d) (start ⊖ low) t u t' u' w k.0, passed_narrows d (high ⊖ start) t u t' u' w k.1)
 
-of_both : (P Q : Float → Float → Type 0) (c : Clip) → Of P c → Of Q c → Of (λ t u. P t u × Q t u) c
+of_both : (P Q : Float → Float → Type 0) (c : Option (Float × Float)) → Of P c → Of Q c → Of (λ t u. P t u × Q t u) c
 unfolding Of
-of_both P Q Miss h k = tt
-of_both P Q (Part t u) h k = (h, k)
+of_both P Q None h k = tt
+of_both P Q (Some (t, u)) h k = (h, k)
 
-tests_cross : (low high start d : Float) → T (is_finite start) → T (is_finite d) → Number low → Number high → (c : Clip) → Of (Within f0 f1) c
+tests_cross : (low high start d : Float) → T (is_finite start) → T (is_finite d) → Number low → Number high → (c : Option (Float × Float)) → Of (Within f0 f1) c
     → Of (Crossed low high start d) (clip_by d (high ⊖ start) (clip_by (neg d) (start ⊖ low) c))
 tests_cross low high start d f g n m c h =
     let i : Of (Within f0 f1) (clip_by (neg d) (start ⊖ low) c) = within_kept (neg d) (start ⊖ low) c h in
@@ -169,12 +166,12 @@ tests_cross low high start d f g n m c h =
     (test_passes d (high ⊖ start) g (sub_number high start f m) _ i)
 
 -- ---- the whole test
-start_within : Of (Within f0 f1) (Part f0 f1)
+start_within : Of (Within f0 f1) (Some (f0, f1))
 unfolding Of le lt eq of_bits
 start_within = (tt, tt)
 
 right_within : (p q : Point) (b : Box) → Of (Within f0 f1) (right_test p q b)
-right_within p q b = within_kept (q.x ⊖ p.x) (b.right ⊖ p.x) _ (within_kept (neg (q.x ⊖ p.x)) (p.x ⊖ b.left) (Part f0 f1) start_within)
+right_within p q b = within_kept (q.x ⊖ p.x) (b.right ⊖ p.x) _ (within_kept (neg (q.x ⊖ p.x)) (p.x ⊖ b.left) (Some (f0, f1)) start_within)
 
 top_within : (p q : Point) (b : Box) → Of (Within f0 f1) (top_test p q b)
 top_within p q b = within_kept (neg (q.y ⊖ p.y)) (p.y ⊖ b.top) _ (right_within p q b)
@@ -186,9 +183,9 @@ Held t u = Within f0 f1 t u × T (le t u)
 clipped_held : (p q : Point) (b : Box) → Of Held (clipped p q b)
 clipped_held p q b = go (clipped p q b) (unfold clipped in within_kept (q.y ⊖ p.y) (b.bottom ⊖ p.y) _ (top_within p q b)) (clipped_straight p q b)
   where
-    go : (c : Clip) → Of (Within f0 f1) c → Straight c → Of Held c
-    go Miss h k = unfold Of in tt
-    go (Part t u) h k = unfold Of Straight in (h, not_below u t (le_left u f1 h.1) (le_right f0 t h.0) k)
+    go : (c : Option (Float × Float)) → Of (Within f0 f1) c → Straight c → Of Held c
+    go None h k = unfold Of in tt
+    go (Some (t, u)) h k = unfold Of Straight in (h, not_below u t (le_left u f1 h.1) (le_right f0 t h.0) k)
 
 four : (a b c d : Bool) → (a && (b && (c && d))) ≡ true → (a ≡ true) × (b ≡ true) × (c ≡ true) × (d ≡ true)
 four true true true d h = (refl, refl, refl, h)
@@ -205,7 +202,7 @@ clipped_crossed p q b h k =
     let f = four (is_finite p.x) (is_finite p.y) (is_finite (q.x ⊖ p.x)) (is_finite (q.y ⊖ p.y)) h in
     let g = four (is_finite b.left) (is_finite b.top) (is_finite b.right) (is_finite b.bottom) k in
     of_both (Crossed b.left b.right p.x (q.x ⊖ p.x)) (Crossed b.top b.bottom p.y (q.y ⊖ p.y)) _
-    (along-x (tests_cross b.left b.right p.x (q.x ⊖ p.x) (lift _ f.0) (lift _ f.2) (finite_no_nan b.left g.0) (finite_no_nan b.right g.2) (Part f0 f1) start_within))
+    (along-x (tests_cross b.left b.right p.x (q.x ⊖ p.x) (lift _ f.0) (lift _ f.2) (finite_no_nan b.left g.0) (finite_no_nan b.right g.2) (Some (f0, f1)) start_within))
     (tests_cross b.top b.bottom p.y (q.y ⊖ p.y) (lift _ f.1) (lift _ f.3) (finite_no_nan b.top g.1) (finite_no_nan b.bottom g.3) (right_test p q b) (right_within p q b))
   where
     along : Float → Float → Type 0
@@ -217,35 +214,21 @@ clipped_crossed p q b h k =
         (test_keeps along (crossed_narrows b.left b.right p.x (q.x ⊖ p.x)) (neg (q.y ⊖ p.y)) (p.y ⊖ b.top) _ (right_within p q b) c)
 
 -- what holds of all that can be left holds from the place of entry on
-entered_at : (P : Float → Float → Type 0) (c : Clip) (v : Float) → Of P c → entry_of c ≡ Place v → (u : Float) × P v u
-unfolding Of entry_of
-entered_at P Miss v h e = absurd (never (ap entered e))
-  where
-    entered : Entry → ℕ
-    entered Missed = 0
-    entered (Place t) = 1
-
-    never : ◌≡◌ {A = ℕ} 0 1 → ⊥
-    never h = omega arith
-entered_at P (Part t u) v h e = (u, subst (λ (x : Float). P x u) (ap place e) h)
-  where
-    place : Entry → Float
-    place Missed = f0
-    place (Place t) = t
+entered_at : (P : Float → Float → Type 0) (c : Option (Float × Float)) (v : Float) → Of P c → option_map (λ part. part.0) c ≡ Some v → (u : Float) × P v u
+unfolding Of
+entered_at P None v h e = absurd (cc)
+entered_at P (Some (t, u)) v h e = let z : t ≡ v = cc in (u, subst (λ (x : Float). P x u) z h)
 
 -- ---- the place of entry
-held_at : (p q : Point) (b : Box) (v : Float) → enters p q b ≡ Place v → (u : Float) × Held v u
+held_at : (p q : Point) (b : Box) (v : Float) → enters p q b ≡ Some v → (u : Float) × Held v u
 unfolding enters
 held_at p q b v e = entered_at Held (clipped p q b) v (clipped_held p q b) e
 
-pub place_low : (p q : Point) (b : Box) (v : Float) → enters p q b ≡ Place v → lt v f0 ≡ false
+pub place_low : (p q : Point) (b : Box) (v : Float) → enters p q b ≡ Some v → lt v f0 ≡ false
 place_low p q b v e = not_above f0 v (held_at p q b v e).1.0.0
 
-pub place_high : (p q : Point) (b : Box) (v : Float) → enters p q b ≡ Place v → T (le v f1)
+pub place_high : (p q : Point) (b : Box) (v : Float) → enters p q b ≡ Some v → T (le v f1)
 place_high p q b v e = let h = held_at p q b v e in float_trans v h.0 f1 h.1.1 h.1.0.1
-
-pub place_number : (p q : Point) (b : Box) (v : Float) → enters p q b ≡ Place v → T (not (is_nan v))
-place_number p q b v e = le_right f0 v (held_at p q b v e).1.0.0
 
 -- ---- a window's side, neared at the rate p from q off: the piece comes in there after u, or goes out there before t, or stays off it
 data Beyond (p q t u : Float) : Type 0 where
@@ -346,7 +329,7 @@ module _ (start d t u low high side side' v z : Float) (f : is_finite start ≡ 
 
 -- ---- the law
 pub window_law : (p q : Point) (t u v : Float) (w b : Box) → plain_piece p q ≡ true → finite_box b ≡ true → window_holds p q t u w ≡ true
-    → enters p q b ≡ Place v → lt v t ≡ false → lt u v ≡ false → Reaches w b
+    → enters p q b ≡ Some v → lt v t ≡ false → lt u v ≡ false → Reaches w b
 unfolding enters window_holds plain_piece finite_box
 window_law p q t u v w b plain finite holds e x y =
     let f = four (is_finite p.x) (is_finite p.y) (is_finite (q.x ⊖ p.x)) (is_finite (q.y ⊖ p.y)) plain in

@@ -1,16 +1,15 @@
 // Where crossings are, and what they wish for.
 ghost use Rattle.std.specs.Prelude.{◌≡◌, ◌+◌, ◌-◌, ◌*◌, ◌^◌, ◌≤◌, ◌<◌};
-ghost use Rattle.crossing.specs.Cross.{param, place_or};
-ghost use Rattle.mesh.specs.Mesh.{low_at, high_at};
 ghost use Rattle.wishes.specs.Stages.RoundLists.{held, edge_in, low_in, high_in, between, point_in, before_in, behind_in, wish_in};
 
-use crossing::{Param, line_param};
+use crossing::line_param;
+use crossings::crossings::{high_at, low_at};
 use geometry::{Point, number_at, point_at};
-use mesh::end_at;
 use order::at;
 use runs::run::{first_exit, second_exit};
 
 // A half-edge of channel c.
+#[tactic(auto, unfolding(crate::specs::Stages::RoundLists::edge_in))]
 pub fn edge_of(m: usize, ends: &[u32], c: usize) -> usize
     requires { (m ≤ 2 ^ 32) × (c < 2 ^ 32) }
     ensures value { result ≡ edge_in m ends.now c }
@@ -19,29 +18,8 @@ pub fn edge_of(m: usize, ends: &[u32], c: usize) -> usize
     at(ends, 4 * (m + c) + 2) as usize
 }
 
-// The lower corner of half-edge h.
-pub fn low_at(corners: &[u32], h: usize) -> usize
-    requires { h < 2 ^ 32 }
-    ensures value { result ≡ low_at corners.now h }
-    ensures upper_bound { result < 2 ^ 32 }
-{
-    let a = at(corners, h) as usize;
-    let b = end_at(corners, h) as usize;
-    if a <= b { a } else { b }
-}
-
-// The higher corner of half-edge h.
-pub fn high_at(corners: &[u32], h: usize) -> usize
-    requires { h < 2 ^ 32 }
-    ensures value { result ≡ high_at corners.now h }
-    ensures upper_bound { result < 2 ^ 32 }
-{
-    let a = at(corners, h) as usize;
-    let b = end_at(corners, h) as usize;
-    if a <= b { b } else { a }
-}
-
 // The place of the lower corner of half-edge h.
+#[tactic(auto, unfolding(crate::specs::Stages::RoundLists::low_in))]
 fn low_of(corners: &[u32], centres: &[f64], h: usize) -> Point
     requires { h < 2 ^ 32 }
     ensures { result ≡ low_in corners.now centres.now h }
@@ -50,6 +28,7 @@ fn low_of(corners: &[u32], centres: &[f64], h: usize) -> Point
 }
 
 // The place of the higher corner of half-edge h.
+#[tactic(auto, unfolding(crate::specs::Stages::RoundLists::high_in))]
 fn high_of(corners: &[u32], centres: &[f64], h: usize) -> Point
     requires { h < 2 ^ 32 }
     ensures { result ≡ high_in corners.now centres.now h }
@@ -58,6 +37,7 @@ fn high_of(corners: &[u32], centres: &[f64], h: usize) -> Point
 }
 
 // The point t of the way from u to w.
+#[tactic(auto, unfolding(crate::specs::Stages::RoundLists::between))]
 fn between(u: Point, w: Point, t: f64) -> Point
     ensures { result ≡ between u w t }
 {
@@ -68,6 +48,7 @@ fn between(u: Point, w: Point, t: f64) -> Point
 }
 
 // Where crossing x is now.
+#[tactic(auto, unfolding(crate::specs::Stages::RoundLists::point_in))]
 pub fn point_of(
     m: usize,
     ends: &[u32],
@@ -89,6 +70,7 @@ pub fn point_of(
 }
 
 // The point before crossing x of branch e, whose path begins with crossing `first`.
+#[tactic(auto, unfolding(crate::specs::Stages::RoundLists::before_in))]
 fn before_of(
     m: usize,
     base: usize,
@@ -112,6 +94,7 @@ fn before_of(
 }
 
 // The point behind crossing x of branch e, whose path ends before crossing `past`.
+#[tactic(auto, unfolding(crate::specs::Stages::RoundLists::behind_in))]
 fn behind_of(
     m: usize,
     base: usize,
@@ -134,17 +117,8 @@ fn behind_of(
     point_of(m, ends, centres, corners, numbers, along, x + 1)
 }
 
-// Where the line through p and q crosses the segment from u to w, t where they are parallel.
-fn wished_place(p: Point, q: Point, u: Point, w: Point, t: f64) -> f64
-    ensures { result ≡ place_or (param p q u w) t }
-{
-    match line_param(p, q, u, w) {
-        Param::At(s) => s,
-        Param::Parallel => t,
-    }
-}
-
 // Where crossing x wishes to be: on the line through the points before and behind it; a cleared path's crossing wishes for its place.
+#[tactic(auto, unfolding(crate::specs::Stages::RoundLists::wish_in))]
 pub fn wish_of(
     m: usize,
     base: usize,
@@ -173,11 +147,7 @@ pub fn wish_of(
     let q = behind_of(
         m, base, ends, places, centres, corners, numbers, along, e, past, x,
     );
-    wished_place(
-        p,
-        q,
-        low_of(corners, centres, h),
-        high_of(corners, centres, h),
-        t,
-    )
+    let u = low_of(corners, centres, h);
+    let w = high_of(corners, centres, h);
+    line_param(p, q, u, w).unwrap_or(t)
 }

@@ -5,13 +5,13 @@ use lib.Ieee.{of_bits, neg}
 use Rattle.cells.proofs.CellCode.{key_between, key_above, key_under, key_neither, floor_requires, floor_back}
 use Rattle.cells.proofs.number_key.Goals as goal
 
-pub floor_to_i64-requires-clause-fact_1 : goal.floor_to_i64-requires-clause-fact_1
+pub floor_to_i64-requires-clause-above_minus_2_52 : goal.floor_to_i64-requires-clause-above_minus_2_52
 unfolding of_bits neg
-floor_to_i64-requires-clause-fact_1 c = subst T (sym c.if-t.true) tt
+floor_to_i64-requires-clause-above_minus_2_52 c = subst T (sym c.if-t.true) tt
 
-pub floor_to_i64-requires-clause-fact_2 : goal.floor_to_i64-requires-clause-fact_2
+pub floor_to_i64-requires-clause-below_2_52 : goal.floor_to_i64-requires-clause-below_2_52
 unfolding of_bits neg
-floor_to_i64-requires-clause-fact_2 c = subst T (sym c.if-t-2.true) tt
+floor_to_i64-requires-clause-below_2_52 c = subst T (sym c.if-t-2.true) tt
 
 pub shifted-requires : goal.shifted-requires
 shifted-requires c = floor_requires _ _ (floor_back _ _ c.floor_to_i64.ensures c.if-t.true c.if-t-2.true) c.if-t.true c.if-t-2.true

@@ -8,6 +8,3 @@ use Rattle.columns.proofs.falling_keys.Given as goal
 
 abbrev pub invariant-loop-i : goal.invariant-loop-i
 invariant-loop-i l = (l.i ≤ length l.kv) × (length l.keys ≡ length l.initial.keys) × (take l.i l.keys ≡ table (λ i. falling (voltage l.kv i)) l.i)
-
-abbrev pub decreases-loop-i : goal.decreases-loop-i
-decreases-loop-i l = length l.kv - l.i

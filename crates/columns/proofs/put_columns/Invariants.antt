@@ -8,6 +8,3 @@ use Rattle.columns.proofs.put_columns.Given as goal
 
 abbrev pub invariant-loop-i : goal.invariant-loop-i
 invariant-loop-i l = (l.i ≤ l.n) × (length l.buses ≡ length l.initial.buses) × (strided 3 0 0 l.i l.buses ≡ table (key_at l.places) l.i)
-
-abbrev pub decreases-loop-i : goal.decreases-loop-i
-decreases-loop-i l = l.n - l.i

@@ -1,11 +1,11 @@
 -- How tracing fills the lent lists, crossing by crossing and branch by branch. Definitions only.
-use Rattle.std.specs.Prelude.{ℕ, zero, suc, ◌+◌, ◌*◌, ◌≤◌, ◌<◌, ◌≡◌, true, List, [], ◌∷◌, map, eqb, ltb, ℤ, length, get_or, take, set, Float}
+use Rattle.std.specs.Prelude.{ℕ, zero, suc, ◌+◌, ◌*◌, ◌≤◌, ◌<◌, ◌≡◌, true, List, [], ◌∷◌, map, eqb, ltb, ℤ, length, get_or, take, set, Float, unwrap_or}
 use Rattle.std.proofs.Math.Option.{none}
 use Rattle.order.specs.Order.{pick, keep}
 use Rattle.order.specs.Table.{strided}
 use Rattle.geometry.specs.declared.Point.{Point}
 use Rattle.geometry.specs.Plane.{point_at}
-use Rattle.crossing.specs.Cross.{param, place_or}
+use Rattle.crossing.specs.Cross.{param}
 use Rattle.mesh.specs.Mesh.{at, end_at, low_at, high_at}
 use Rattle.half_edges.specs.Round.{around}
 use Rattle.walk.specs.Trace.{Walk, traced}
@@ -63,7 +63,7 @@ pub record Marked (m : ℕ) (corners : List ℕ) (ks : List Keyed) (ends : List 
 -- where the line from corner va to corner vb crosses half-edge h, from its lower corner to its higher
 unfoldable pub place_on : List ℕ → List Float → ℕ → ℕ → ℕ → Float
 place_on corners points va vb h =
-    place_or (param (point_at points va) (point_at points vb) (point_at points (low_at corners h)) (point_at points (high_at corners h))) half
+    unwrap_or (param (point_at points va) (point_at points vb) (point_at points (low_at corners h)) (point_at points (high_at corners h))) half
 
 -- how many channels and crossings there are, and the lists that hold them
 pub record Stock : Type 0 where

@@ -1,6 +1,8 @@
 -- Answers for `exits::no_exits`.
-use Rattle.float.proofs.Patterns.{zero_over_zero}
+use mathlib.Core.Path.{refl}
+use lib.Ieee.{of_bits}
 use Rattle.exits.proofs.no_exits.Goals as goal
 
 pub returns : goal.returns
-returns c = rw (zero_over_zero)
+unfolding of_bits
+returns c = refl

@@ -5,7 +5,4 @@ use Rattle.exits.proofs.Keeping.{ExitedTo}
 use Rattle.exits.proofs.write_exits.Given as goal
 
 abbrev pub invariant-loop-e : goal.invariant-loop-e
-invariant-loop-e l = (l.e ≤ length l.from) × ExitedTo l.sub l.from l.to l.service l.measures l.ends l.blocks l.frames l.initial.places l.places l.e
-
-abbrev pub decreases-loop-e : goal.decreases-loop-e
-decreases-loop-e l = length l.from - l.e
+invariant-loop-e l = ExitedTo l.sub l.from l.to l.service l.measures l.ends l.blocks l.frames l.initial.places l.places l.e

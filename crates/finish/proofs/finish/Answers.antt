@@ -1,9 +1,12 @@
 -- Answers for `finish::finish`.
-use Rattle.finish.proofs.Drafts.{refused}
+use Rattle.std.proofs.lemmas.Result.{err_from_is_err_and}
+use Rattle.finish.proofs.Drafts.{refused_before}
 use Rattle.finish.proofs.finish.Goals as goal
 
-pub returns-then-c-ne0 : goal.returns-then-c-ne0
-returns-then-c-ne0 c = refused _ _ _ _ _ _ _ _ _ _ _ _ _ _ c.requires.charted c.if-c-ne0.true _
+pub returns-in_err-unit : goal.returns-in_err-unit
+returns-in_err-unit c =
+    let p = err_from_is_err_and c.from_residual.result c.from_residual.ensures.1 in
+    rw (p.1, p.2) (refused_before _ _ _ _ _ _ _ _ _ _ _ _ _ _ (rw c.in_err-unit.was at c.requires.charted))
 
 pub write-requires-clause-sub_len_bound : goal.write-requires-clause-sub_len_bound
 write-requires-clause-sub_len_bound c = c.requires.sub_len_bound
@@ -12,13 +15,10 @@ pub write-requires-clause-sub_in_bounds : goal.write-requires-clause-sub_in_boun
 write-requires-clause-sub_in_bounds c = c.requires.sub_in_bounds
 
 pub write-requires-clause-charted : goal.write-requires-clause-charted
-write-requires-clause-charted c = c.requires.charted
+write-requires-clause-charted c = rw c.in_ok-unit.was at c.requires.charted
 
 pub write-requires-clause-indexed : goal.write-requires-clause-indexed
 write-requires-clause-indexed c = c.requires.indexed
-
-pub write-requires-clause-late_value : goal.write-requires-clause-late_value
-write-requires-clause-late_value c = c.if-c-ne0.false
 
 pub shape_of-path : goal.shape_of-path
 shape_of-path c = c.write.auto.path

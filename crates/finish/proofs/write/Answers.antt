@@ -1,20 +1,18 @@
 -- Answers for `finish::write`.
 use native.Mathlib.Omega.{arith}
 use mathlib.Core.Path.{◌∙◌}
-use Rattle.finish.proofs.Drafts.{room_if, drew}
+use Rattle.std.proofs.lemmas.Result.{err_from_is_err_and}
+use Rattle.finish.proofs.Drafts.{fits, refused, room_if, drew}
 use Rattle.finish.proofs.write.Goals as goal
 
-pub judge-d-requires-clause-sub_len_bound : goal.judge-d-requires-clause-sub_len_bound
-judge-d-requires-clause-sub_len_bound c = c.requires.sub_len_bound
+pub judge-requires-clause-sub_len_bound : goal.judge-requires-clause-sub_len_bound
+judge-requires-clause-sub_len_bound c = c.requires.sub_len_bound
 
-pub judge-d-requires-clause-charted : goal.judge-d-requires-clause-charted
-judge-d-requires-clause-charted c = c.requires.charted
+pub judge-requires-clause-charted : goal.judge-requires-clause-charted
+judge-requires-clause-charted c = c.requires.charted
 
-pub judge-d-requires-clause-indexed : goal.judge-d-requires-clause-indexed
-judge-d-requires-clause-indexed c = c.requires.indexed
-
-pub judge-d-requires-clause-late_value : goal.judge-d-requires-clause-late_value
-judge-d-requires-clause-late_value c = c.requires.late_value
+pub judge-requires-clause-indexed : goal.judge-requires-clause-indexed
+judge-requires-clause-indexed c = c.requires.indexed
 
 pub write_buses-requires : goal.write_buses-requires
 write_buses-requires c = (c.requires.sub_len_bound.0, c.requires.sub_in_bounds.0, c.requires.sub_in_bounds.1)
@@ -29,16 +27,19 @@ pub write_pieces-requires-clause-from_len_bound : goal.write_pieces-requires-cla
 write_pieces-requires-clause-from_len_bound c = (c.requires.sub_len_bound.1, c.requires.sub_len_bound.0)
 
 pub write_pieces-requires-clause-fit_all : goal.write_pieces-requires-clause-fit_all
-write_pieces-requires-clause-fit_all c = (λ e h. let f = c.requires.charted.fits c.requires.late_value e h in (omega (arith, f.0, c.judge-d.auto.path), f.1))
+write_pieces-requires-clause-fit_all c = (λ e h. let f = fits _ _ _ _ _ _ _ _ _ _ _ _ _ c.requires.charted e h in (omega (arith, f.0, c.judge.auto.path), f.1))
 
 pub write_pieces-requires-clause-stands : goal.write_pieces-requires-clause-stands
 write_pieces-requires-clause-stands c = (c.requires.sub_len_bound.3, c.requires.sub_len_bound.4, c.requires.sub_len_bound.2, c.requires.indexed)
 
-pub write_pieces-requires-clause-room_if : goal.write_pieces-requires-clause-room_if
-write_pieces-requires-clause-room_if c = (λ h. let r = room_if _ _ _ _ _ _ _ _ _ _ _ _ _ _ c.requires.charted c.requires.late_value _ _ c.gap_of.ensures c.is_led.ensures _ _ _ c.judge-d.ensures h in (omega (arith, r.0, c.requires.sub_in_bounds.5), omega (arith, r.1, c.requires.sub_in_bounds.6)))
+pub write_pieces-requires-clause-has_room : goal.write_pieces-requires-clause-has_room
+write_pieces-requires-clause-has_room c = let r = room_if _ _ _ _ _ _ _ _ _ _ _ _ _ c.requires.charted _ _ c.gap_of.ensures c.is_led.ensures _ c.in_ok-plot.ensures in (omega (arith, r.0, c.requires.sub_in_bounds.5), omega (arith, r.1, c.requires.sub_in_bounds.6))
+
+pub returns-in_err-plot : goal.returns-in_err-plot
+returns-in_err-plot c = let p = err_from_is_err_and c.from_residual.result c.from_residual.ensures.1 in rw (p.1, p.2) (refused _ _ _ _ _ c.in_err-plot.ensures)
 
 pub shape_of-path : goal.shape_of-path
-shape_of-path c = c.write_pieces.auto.path ∙ c.judge-d.auto.path
+shape_of-path c = c.write_pieces.auto.path ∙ c.judge.auto.path
 
 pub shape_of-positions : goal.shape_of-positions
 shape_of-positions c = c.write_buses.auto.positions
@@ -62,4 +63,4 @@ pub shape_of-branches : goal.shape_of-branches
 shape_of-branches c = c.write_pieces.auto.branches
 
 pub returns : goal.returns
-returns c = drew _ _ _ _ _ _ _ _ _ _ _ _ _ _ c.requires.charted c.requires.late_value _ _ c.gap_of.ensures c.is_led.ensures _ _ _ c.judge-d.ensures _ _ _ _ _ _ _ _ _ c.write_buses.ensures.positions_after c.write_buses.ensures.bars_after c.write_stations.ensures.boxes_after c.write_stations.ensures.scales_after c.write_roles.ensures c.write_pieces.ensures.numbers_after c.write_pieces.ensures.branches_after c.answer_of.ensures
+returns c = drew _ _ _ _ _ _ _ _ _ _ _ _ _ c.requires.charted _ _ c.gap_of.ensures c.is_led.ensures _ c.in_ok-plot.ensures _ _ _ _ _ _ _ _ c.write_buses.ensures.positions_after c.write_buses.ensures.bars_after c.write_stations.ensures.boxes_after c.write_stations.ensures.scales_after c.write_roles.ensures c.write_pieces.ensures.numbers_after c.write_pieces.ensures.branches_after

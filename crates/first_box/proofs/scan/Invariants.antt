@@ -4,7 +4,4 @@ use Rattle.first_box.proofs.Looking.{Scanned}
 use Rattle.first_box.proofs.scan.Given as goal
 
 abbrev pub invariant-loop-s : goal.invariant-loop-s
-invariant-loop-s l = (l.s ≤ l.k) × Scanned l.k l.stations l.frames l.p l.q l.a l.b l.s l.best
-
-abbrev pub decreases-loop-s : goal.decreases-loop-s
-decreases-loop-s l = l.k - l.s
+invariant-loop-s l = Scanned l.k l.stations l.frames l.p l.q l.a l.b l.s l.best

@@ -7,14 +7,14 @@ pub returns-in_default : goal.returns-in_default
 unfolding sooner
 returns-in_default c = simp c.in_default.is
 
-pub returns-in-Nothing : goal.returns-in-Nothing
+pub returns-then-not-comes_first : goal.returns-then-not-comes_first
 unfolding sooner
-returns-in-Nothing c = simp (c.in-Place.is, c.in-Nothing.is)
+returns-then-not-comes_first c = simp (c.in-Some.is, c.in-Some-best.is, sym c.comes_first.ensures ∙ c.if-not-comes_first.true)
 
-pub returns-then-comes_first : goal.returns-then-comes_first
+pub returns-else-not-comes_first : goal.returns-else-not-comes_first
 unfolding sooner
-returns-then-comes_first c = simp (c.in-Place.is, c.in-First.is, sym c.comes_first.ensures ∙ c.if-comes_first.true)
+returns-else-not-comes_first c = simp (c.in-Some.is, c.in-Some-best.is, sym c.comes_first.ensures ∙ c.if-not-comes_first.false)
 
-pub returns-else-comes_first : goal.returns-else-comes_first
+pub returns-in_default-best : goal.returns-in_default-best
 unfolding sooner
-returns-else-comes_first c = simp (c.in-Place.is, c.in-First.is, sym c.comes_first.ensures ∙ c.if-comes_first.false)
+returns-in_default-best c = simp (c.in-Some.is, c.in_default-best.is)

@@ -1,21 +1,13 @@
 -- What the parts of `first_hit` hand to one another: the box entered first so far, after the chains of a window, and along a piece. Definitions only.
-use Rattle.std.specs.Prelude.{ℕ, zero, suc, ◌+◌, ◌-◌, ◌*◌, min, ◌≡◌, Bool, true, false, cond, List, Float}
+use Rattle.std.specs.Prelude.{ℕ, zero, suc, ◌+◌, ◌-◌, ◌*◌, min, ◌≡◌, Bool, true, false, cond, List, Float, Option, Some, None}
 use Rattle.std.specs.Float.Ieee.{lt, le}
 use Rattle.float.specs.Ops.{f1, f2}
 use Rattle.geometry.specs.declared.Point.{Point}
 use Rattle.geometry.specs.declared.Box.{Box}
-use Rattle.geometry.specs.declared.entry.Entry.{Entry}
-use Rattle.geometry.specs.declared.entry.Entry.TheVariants.{Missed, Place}
 use Rattle.geometry.specs.Plane.{box_in}
-use Rattle.first_box.specs.declared.Best.{Best}
-use Rattle.first_box.specs.declared.Best.TheVariants.{Nothing, First}
-use Rattle.first_box.specs.declared.FirstHit.{FirstHit}
-use Rattle.first_box.specs.declared.FirstHit.TheVariants.{Free, At}
 use Rattle.first_box.specs.First.{entry_at, comes_first, sooner, look}
 use Rattle.grid.specs.declared.Grid.{Grid}
 use Rattle.first_hit.specs.declared.search.Near.{Near}
-use Rattle.first_hit.specs.declared.search.Search.{Search}
-use Rattle.first_hit.specs.declared.search.Search.TheVariants.{Unsure, Done}
 use Rattle.grid.specs.Stages.Cells.{column_of, row_of, chain_at, next_at, Entered, In}
 use Rattle.windows.specs.Stages.Window.{is_apart}
 
@@ -23,16 +15,16 @@ use Rattle.windows.specs.Stages.Window.{is_apart}
 unfoldable pub near : Float → ℕ → Near
 near t s = record { place = t; station = s }
 
-unfoldable pub best_of : Near → Best
-best_of n = cond (le n.place f1) (First n.place n.station) Nothing
+unfoldable pub best_of : Near → Option (Float × ℕ)
+best_of n = cond (le n.place f1) (Some (n.place, n.station)) None
 
-unfoldable pub hit_of : Near → FirstHit
-hit_of n = cond (le n.place f1) (At n.station) Free
+unfoldable pub hit_of : Near → Option ℕ
+hit_of n = cond (le n.place f1) (Some n.station) None
 
 -- `sooner`, so written
-unfoldable pub closer : ℕ → Entry → Near → Near
-closer s Missed n = n
-closer s (Place t) n = cond (comes_first t s n.place n.station) (near t s) n
+unfoldable pub closer : ℕ → Option Float → Near → Near
+closer s None n = n
+closer s (Some t) n = cond (comes_first t s n.place n.station) (near t s) n
 
 -- ---- looks, k the number of stations and l the list
 module _ (boxes : List Box) (p q : Point) (a b k : ℕ) (l : List ℕ) (w : Box) where
@@ -71,15 +63,15 @@ module _ (boxes : List Box) (p q : Point) (a b k : ℕ) (l : List ℕ) (w : Box)
 -- don't come before n.
 pub record Marched (boxes : List Box) (p q : Point) (a b : ℕ) (l : List ℕ) (t : Float) (n : Near) : Type 0 where
   pub fair : le n.place f1 ≡ false → n.place ≡ f2
-  pub sound : (stations : List ℕ) → Entered boxes stations l → look boxes p q a b stations (best_of n) ≡ look boxes p q a b stations Nothing
-  pub before : (stations : List ℕ) → Entered boxes stations l → (s : ℕ) → In s stations → (v : Float) → entry_at boxes p q a b s ≡ Place v → lt v t ≡ true
-      → sooner s (Place v) (best_of n) ≡ best_of n
+  pub sound : (stations : List ℕ) → Entered boxes stations l → look boxes p q a b stations (best_of n) ≡ look boxes p q a b stations None
+  pub before : (stations : List ℕ) → Entered boxes stations l → (s : ℕ) → In s stations → (v : Float) → entry_at boxes p q a b s ≡ Some v → lt v t ≡ true
+      → sooner s (Some v) (best_of n) ≡ best_of n
 
 -- the box entered first so far is entered by place u, or the piece ends there
 unfoldable pub is_done : Near → Float → Bool
 is_done n u = cond (le f1 u) true (le n.place u)
 
 -- what a search says of the stations entered in the list, whatever they are
-unfoldable pub Sure : List Box → Point → Point → ℕ → ℕ → List ℕ → Search → Type 0
-Sure boxes p q a b l Unsure = Unit {0}
-Sure boxes p q a b l (Done n) = (stations : List ℕ) → Entered boxes stations l → best_of n ≡ look boxes p q a b stations Nothing
+unfoldable pub Sure : List Box → Point → Point → ℕ → ℕ → List ℕ → Option Near → Type 0
+Sure boxes p q a b l None = Unit {0}
+Sure boxes p q a b l (Some n) = (stations : List ℕ) → Entered boxes stations l → best_of n ≡ look boxes p q a b stations None

@@ -5,6 +5,3 @@ use Rattle.free_places.proofs.is_free.Given as goal
 
 abbrev pub invariant-loop-j : goal.invariant-loop-j
 invariant-loop-j l = Free l.p l.boxes l.sorted l.initial.j l.end l.j
-
-abbrev pub decreases-loop-j : goal.decreases-loop-j
-decreases-loop-j l = l.end - l.j

@@ -1,22 +1,16 @@
 -- Answers for `half_edges::first_at`.
-use Rattle.half_edges.proofs.Rounds.{halve_start, halve_up, halve_down, halve_end}
-use native.Mathlib.Omega.{arith}
+use Rattle.std.proofs.Common.{sym, ap, ◌∙◌, length, take, rules}
+use Rattle.std.proofs.lemmas.List.Sorted.{IsPartitionPoint-from_clause}
+use lib.Dec.{ltb}
+use Rattle.mesh.specs.Mesh.{at}
+use Rattle.half_edges.proofs.Rounds.{length_round, round_parted, first_found}
 use Rattle.half_edges.proofs.first_at.Goals as goal
 
-pub loop-lo-init : goal.loop-lo-init
-loop-lo-init c = halve_start _ _
-
-pub overflow_add-mid : goal.overflow_add-mid
-overflow_add-mid c = omega (arith, c.loop-lo.invariant.within)
-
-pub overflow_add-lo : goal.overflow_add-lo
-overflow_add-lo c = omega (arith, c.loop-lo.invariant.within)
-
-pub loop-lo-preserved-then-start_at-v : goal.loop-lo-preserved-then-start_at-v
-loop-lo-preserved-then-start_at-v c = halve_up _ _ c.requires _ _ _ _ _ (omega arith) (omega arith) c.start_at.ensures c.loop-lo.invariant c.if-start_at-v.true
-
-pub loop-lo-preserved : goal.loop-lo-preserved
-loop-lo-preserved c = halve_down _ _ c.requires _ _ _ _ _ (omega arith) (omega arith) c.start_at.ensures c.loop-lo.invariant c.if-start_at-v.false
+pub slice_bounds-partition_point-end : goal.slice_bounds-partition_point-end
+slice_bounds-partition_point-end c = sym (ap length c.requires ∙ length_round c.args.corners.now)
 
 pub returns : goal.returns
-returns c = halve_end _ _ _ _ (omega arith) c.loop-lo.invariant
+returns c =
+    first_found c.args.corners.now c.args.v _ (rw c.requires at c.partition_point.ensures.bound)
+    (rw c.requires at (IsPartitionPoint-from_clause (λ h. ltb (at c.args.corners.now h) c.args.v) _ _ c.partition_point.ensures.partitioned
+    (rw c.requires (round_parted c.args.corners.now c.args.v)) (λ a r f k. search rules)))

@@ -5,11 +5,5 @@ use lib.ListN.{replicate}
 use Prim.Native.Nat.{ℕ}
 use Rattle.half_edges.proofs.round_all.Goals as goal
 
-pub returns-clause-keys_after : goal.returns-clause-keys_after
-returns-clause-keys_after c = c.widen.ensures
-
 pub returns-clause-around_after : goal.returns-clause-around_after
 returns-clause-around_after c = round_made _ _ _ _ _ c.widen.ensures c.number.ensures c.requires.2 c.sort_by_key.ensures.order_after
-
-pub returns-clause-spare_after : goal.returns-clause-spare_after
-returns-clause-spare_after c = c.sort_by_key.ensures.spare_after ∙ ap (λ (n : ℕ). replicate n 0) c.requires.3

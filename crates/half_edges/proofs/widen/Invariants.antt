@@ -1,11 +1,8 @@
--- What the loops of `half_edges::widen` keep.
-use Rattle.half_edges.proofs.Copying.{Copied}
-use Prim.Native.Nat.{◌-◌}
-use lib.ListN.{length}
+-- What the loop of `half_edges::widen` keeps.
+use Prim.Native.Nat.{ℕ, ◌<◌}
+use mathlib.Core.Path.{◌≡◌}
+use lib.ListN.{get_or}
 use Rattle.half_edges.proofs.widen.Given as goal
 
 abbrev pub invariant-loop-i : goal.invariant-loop-i
-invariant-loop-i l = Copied l.corners l.initial.keys l.keys l.i
-
-abbrev pub decreases-loop-i : goal.decreases-loop-i
-decreases-loop-i l = length l.corners - l.i
+invariant-loop-i l = (k : ℕ) → k < l.i → get_or l.keys k 0 ≡ get_or l.corners k 0

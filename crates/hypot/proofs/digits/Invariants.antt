@@ -4,6 +4,3 @@ use Rattle.hypot.proofs.digits.Given as goal
 
 abbrev pub invariant-loop-i : goal.invariant-loop-i
 invariant-loop-i l = Inv l.w l.n l.initial.root l.initial.rest l.root l.rest l.i
-
-abbrev pub decreases-loop-i : goal.decreases-loop-i
-decreases-loop-i l = l.i

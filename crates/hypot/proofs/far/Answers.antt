@@ -6,12 +6,6 @@ use native.Mathlib.Omega.{arith}
 use Rattle.hypot.proofs.Lengths.{far_close}
 use Rattle.hypot.proofs.far.Goals as goal
 
-pub rounded-requires : goal.rounded-requires
-rounded-requires c =
-    let f : c.args.x.m < 2 ^ 53 = c.requires.sides.first in
-    let g : c.args.y.m < 2 ^ 53 = c.requires.sides.second in
-    (omega arith, lt_of_lt_of_le g (lit≤ tt), c.requires.sides.finite, (λ h. let n : 2 ^ 52 ≤ c.args.x.m = c.requires.sides.normal h in omega arith))
-
 pub returns : goal.returns
 returns c =
     let p : 0 < c.args.x.e = omega (arith, c.requires.e_bound) in

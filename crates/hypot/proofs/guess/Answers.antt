@@ -4,12 +4,9 @@ use Rattle.float.proofs.Patterns.{no_nan}
 use Rattle.float.proofs.Floors.{in_float_lem, down_requires}
 use Rattle.hypot.proofs.guess.Goals as goal
 
-pub int_to_float-x : goal.int_to_float-x
-int_to_float-x c = in_float_lem _ (omega arith)
-
 pub float_to_bits-p : goal.float_to_bits-p
 float_to_bits-p c = no_nan _ c.if-x.false
 
 pub size_down-requires : goal.size_down-requires
 size_down-requires c =
-    let both = down_requires _ c.if-s.true c.if-s-2.false in record { fact_1 = both.0; fact_2 = both.1 }
+    let both = down_requires _ c.if-s.true c.if-s-2.false in record { above_zero = both.0; below_2_52 = both.1 }

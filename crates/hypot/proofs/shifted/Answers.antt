@@ -1,9 +1,6 @@
 -- Answers for `hypot::shifted`.
-use Rattle.hypot.proofs.Words.{top_le, shift_fits, shift_is}
+use Rattle.hypot.proofs.Words.{shift_fits, shift_is}
 use Rattle.hypot.proofs.shifted.Goals as goal
-
-pub overflow_sub-result : goal.overflow_sub-result
-overflow_sub-result c = top_le c.args.w.hi c.args.w.lo c.args.s c.requires.0 c.requires.1 c.requires.2
 
 pub overflow_add-result : goal.overflow_add-result
 overflow_add-result c = record { fits = shift_fits c.args.w.hi c.args.w.lo c.args.s c.requires.0 c.requires.1 c.requires.2 }

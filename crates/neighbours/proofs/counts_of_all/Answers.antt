@@ -1,15 +1,14 @@
 -- Answers for `neighbours::counts_of_all`.
-use mathlib.Core.Path.{◌≡◌, refl}
 use Prim.Native.Nat.{◌<◌}
 use native.Mathlib.Omega.{arith}
-use lib.ListN.{length, length-set}
+use lib.ListN.{length}
 use Rattle.proximity.specs.Near.{neighbours}
 use Rattle.neighbours.proofs.Fills.{fill_none, fill_more}
 use Rattle.neighbours.proofs.Scans.{neighbours_le}
 use Rattle.neighbours.proofs.counts_of_all.Goals as goal
 
 pub loop-i-init : goal.loop-i-init
-loop-i-init c = (omega arith, refl, fill_none _ _)
+loop-i-init c = fill_none _ _
 
 pub overflow_cast-counts : goal.overflow_cast-counts
 overflow_cast-counts c = omega (arith, c.count_within.ensures, neighbours_le c.args.points.now c.args.n c.args.radius c.loop-i.i, c.requires)
@@ -17,8 +16,4 @@ overflow_cast-counts c = omega (arith, c.count_within.ensures, neighbours_le c.a
 pub loop-i-preserved : goal.loop-i-preserved
 loop-i-preserved c = let v = c.loop-i.invariant in
     let h : c.loop-i.i < length c.args.counts.now = omega arith in
-    (omega arith, simp length-set v.1, cc (c.count_within.ensures, v.2, fill_more (neighbours _ _ _) _ c.loop-i.i h))
-
-pub returns : goal.returns
-returns c = let e : c.loop-i.i ≡ c.args.n = omega arith in
-    cc (e, c.loop-i.invariant.2)
+    cc (c.count_within.ensures, v, fill_more (neighbours _ _ _) _ c.loop-i.i h)

@@ -1,11 +1,8 @@
 -- What the loops of `neighbours::nearest_distance` keep.
-use Prim.Native.Nat.{◌≤◌, ◌-◌}
+use Prim.Native.Nat.{◌-◌}
 use mathlib.Core.Path.{◌≡◌}
 use Rattle.proximity.specs.Near.{nearest_to}
 use Rattle.neighbours.proofs.nearest_distance.Given as goal
 
 abbrev pub invariant-loop-j : goal.invariant-loop-j
-invariant-loop-j l = (l.j ≤ l.n) × (l.best ≡ nearest_to l.points l.i l.j)
-
-abbrev pub decreases-loop-j : goal.decreases-loop-j
-decreases-loop-j l = l.n - l.j
+invariant-loop-j l = (l.best ≡ nearest_to l.points l.i l.j)

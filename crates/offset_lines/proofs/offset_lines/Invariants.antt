@@ -1,12 +1,11 @@
 -- What the loops of `offset_lines::offset_lines` keep.
-use Prim.Native.Nat.{◌-◌}
-use Rattle.offsets.specs.Stages.OffsetList.{offset_at}
-use Rattle.listing.proofs.Writing.{Listed}
-use Rattle.offset_lines.specs.Stages.Text.{offset_line}
+use Rattle.std.proofs.Common.{◌≡◌, ◌+◌, ◌*◌, ◌≤◌, length}
+use Rattle.offsets.specs.Stages.OffsetList.{offsets_in}
+use Rattle.fields.specs.Spell.{put_at}
+use Rattle.offset_lines.specs.Stages.Text.{offset_lines}
 use Rattle.offset_lines.proofs.offset_lines.Given as goal
 
 abbrev pub invariant-loop-i : goal.invariant-loop-i
-invariant-loop-i l = Listed (λ j. offset_line (offset_at l.keys l.sorted j)) 24 l.count l.initial.out l.out l.at l.i l.p
-
-abbrev pub decreases-loop-i : goal.decreases-loop-i
-decreases-loop-i l = l.count - l.i
+invariant-loop-i l =
+    let lines = offset_lines (offsets_in l.i l.keys l.sorted) in
+    (l.p ≤ l.at + 24 * l.i) × (l.p ≡ l.at + length lines) × (l.out ≡ put_at l.initial.out l.at lines)

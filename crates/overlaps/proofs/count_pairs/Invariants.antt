@@ -1,13 +1,10 @@
 -- What the loops of `overlaps::count_pairs` keep.
 use mathlib.Core.Path.{◌≡◌}
-use Prim.Native.Nat.{◌+◌, ◌*◌, ◌≤◌, ◌-◌}
+use Prim.Native.Nat.{◌+◌, ◌*◌, ◌≤◌}
 use lib.ListN.{take, drop}
 use Rattle.network.specs.Views.{boxes_in}
 use Rattle.overlaps.specs.Stages.Sweep.{pairs}
 use Rattle.overlaps.proofs.count_pairs.Given as goal
 
 abbrev pub invariant-loop-c : goal.invariant-loop-c
-invariant-loop-c l = (l.c ≤ l.n) × (l.found ≤ l.c * 4096) × (l.found + pairs (boxes_in l.k l.boxes) (drop l.c (take l.n l.order)) ≡ pairs (boxes_in l.k l.boxes) (take l.n l.order))
-
-abbrev pub decreases-loop-c : goal.decreases-loop-c
-decreases-loop-c l = l.n - l.c
+invariant-loop-c l = (l.found ≤ l.c * 4096) × (l.found + pairs (boxes_in l.k l.boxes) (drop l.c (take l.n l.order)) ≡ pairs (boxes_in l.k l.boxes) (take l.n l.order))

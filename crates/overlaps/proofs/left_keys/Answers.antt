@@ -1,8 +1,7 @@
 -- Answers for `overlaps::left_keys`.
-use mathlib.Core.Path.{◌≡◌, refl}
 use Prim.Native.Nat.{◌<◌}
 use native.Mathlib.Omega.{arith}
-use lib.ListN.{length, length-set}
+use lib.ListN.{length}
 use Rattle.float.specs.Ops.{order_key}
 use Rattle.float.proofs.Keys.{finite_no_nan}
 use Rattle.neighbours.proofs.Fills.{fill_none, fill_more}
@@ -10,16 +9,11 @@ use Rattle.overlaps.specs.Stages.Sweep.{left_at}
 use Rattle.overlaps.proofs.left_keys.Goals as goal
 
 pub loop-s-init : goal.loop-s-init
-loop-s-init c = (omega arith, refl, fill_none _ _)
+loop-s-init c = fill_none _ _
 
 pub order_key-requires : goal.order_key-requires
 order_key-requires c = finite_no_nan _ (c.requires.2.at _ (omega arith))
 
 pub loop-s-preserved : goal.loop-s-preserved
-loop-s-preserved c = let v = c.loop-s.invariant in
-    let h : c.loop-s.s < length c.args.keys.now = omega arith in
-    (omega arith, simp length-set v.1, cc (c.order_key.ensures, v.2, fill_more (λ t. order_key (left_at c.args.boxes.now t)) _ c.loop-s.s h))
-
-pub returns : goal.returns
-returns c = let e : c.loop-s.s ≡ c.args.k = omega arith in
-    cc (e, c.loop-s.invariant.2)
+loop-s-preserved c = let h : c.loop-s.s < length c.args.keys.now = omega arith in
+    cc (c.order_key.ensures, c.loop-s.invariant, fill_more (λ t. order_key (left_at c.args.boxes.now t)) _ c.loop-s.s h)

@@ -1,15 +1,11 @@
 -- What the loops of `overlaps::left_keys` keep.
 use mathlib.Core.Path.{◌≡◌}
 use mathlib.Core.List.{◌++◌}
-use Prim.Native.Nat.{◌≤◌, ◌-◌}
-use lib.ListN.{length, drop}
+use lib.ListN.{drop}
 use Rattle.float.specs.Ops.{order_key}
 use Rattle.order.specs.Table.{table}
 use Rattle.overlaps.specs.Stages.Sweep.{left_at}
 use Rattle.overlaps.proofs.left_keys.Given as goal
 
 abbrev pub invariant-loop-s : goal.invariant-loop-s
-invariant-loop-s l = (l.s ≤ l.k) × (length l.keys ≡ length l.initial.keys) × (l.keys ≡ table (λ t. order_key (left_at l.boxes t)) l.s ++ drop l.s l.initial.keys)
-
-abbrev pub decreases-loop-s : goal.decreases-loop-s
-decreases-loop-s l = l.k - l.s
+invariant-loop-s l = l.keys ≡ table (λ t. order_key (left_at l.boxes t)) l.s ++ drop l.s l.initial.keys

@@ -1,12 +1,9 @@
 -- What the loops of `overlaps::list_occupied` keep.
 use mathlib.Core.Path.{◌≡◌}
-use Prim.Native.Nat.{◌≤◌, ◌-◌}
-use lib.ListN.{length, take}
+use Prim.Native.Nat.{◌≤◌}
+use lib.ListN.{take}
 use Rattle.network.proofs.Occupied.{passed, passed_count}
 use Rattle.overlaps.proofs.list_occupied.Given as goal
 
 abbrev pub invariant-loop-s : goal.invariant-loop-s
-invariant-loop-s l = (l.s ≤ l.k) × (l.c ≤ l.s) × (length l.order ≡ length l.initial.order) × (l.c ≡ passed_count l.k l.stations l.s) × (take l.c l.order ≡ passed l.k l.stations l.s)
-
-abbrev pub decreases-loop-s : goal.decreases-loop-s
-decreases-loop-s l = l.k - l.s
+invariant-loop-s l = (l.c ≤ l.s) × (l.c ≡ passed_count l.k l.stations l.s) × (take l.c l.order ≡ passed l.k l.stations l.s)

@@ -1,14 +1,10 @@
 -- Answers for `proximity::is_near`.
-use mathlib.Core.Path.{sym, subst}
+use mathlib.Core.Path.{sym, subst, ◌∙◌}
 use lib.Dec.{T}
 use Rattle.proximity.proofs.Sides.{near_under}
 use Rattle.proximity.proofs.is_near.Goals as goal
 
-pub returns-then-radius-longer : goal.returns-then-radius-longer
-returns-then-radius-longer c = sym (c.longer.ensures.bound _ c.if-radius-longer.true)
-
 pub returns-then-abs-radius : goal.returns-then-abs-radius
-returns-then-abs-radius c = sym (near_under _ _ _ (subst T (sym c.well_formed.0.1) tt) (subst T (sym c.well_formed.1.0.1) tt) (rw (c.abs.ensures, c.abs-2.ensures) at c.if-abs-radius.true))
-
-pub returns : goal.returns
-returns c = simp c.hypot.ensures
+returns-then-abs-radius c =
+    c.if-abs-radius.true
+    ∙ sym (near_under _ _ _ (subst T (sym c.well_formed.0.1) tt) (subst T (sym c.well_formed.1.0.1) tt) (rw (c.abs.ensures, c.abs-2.ensures) at c.if-abs-radius.true))

@@ -5,6 +5,3 @@ use Rattle.ranking.proofs.clear_counters.Given as goal
 
 abbrev pub invariant-loop-s : goal.invariant-loop-s
 invariant-loop-s l = Cleared l.k l.initial.stations l.stations l.s
-
-abbrev pub decreases-loop-s : goal.decreases-loop-s
-decreases-loop-s l = l.k - l.s

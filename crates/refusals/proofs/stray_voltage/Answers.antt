@@ -1,19 +1,12 @@
 -- Answers for `refusals::stray_voltage`.
-use mathlib.Core.Path.{◌≡◌}
-use native.Mathlib.Omega.{arith}
-use lib.ListN.{length}
-use Rattle.refusals.proofs.Shapes.{test_on, test_off}
-use Rattle.refusals.proofs.Refusals.{voltages_none, voltages_more, stray_found, voltages_all}
+use Rattle.std.proofs.Common.{◌≡◌, ℕ, ◌<◌, true, false, not, length, get_or, MatchBool, rules}
+use Rattle.refusals.specs.Refusal.{is_voltage, stray_voltage}
+use Rattle.refusals.proofs.Refusals.{found_or_none}
 use Rattle.refusals.proofs.stray_voltage.Goals as goal
 
-pub loop-i-init : goal.loop-i-init
-loop-i-init c = (omega arith, voltages_none _)
-
-pub returns-then-not-is_voltage : goal.returns-then-not-is_voltage
-returns-then-not-is_voltage c = stray_found _ _ _ c.loop-i-test.true c.is_voltage.ensures (test_off _ c.if-not-is_voltage.true-raw)
-
-pub loop-i-preserved : goal.loop-i-preserved
-loop-i-preserved c = (omega arith, voltages_more _ _ _ c.is_voltage.ensures (test_on _ c.if-not-is_voltage.false-raw) c.loop-i.invariant.1)
-
 pub returns : goal.returns
-returns c = let e : c.loop-i.i ≡ length c.args.kv.now = omega arith in voltages_all _ _ e c.loop-i.invariant.1
+unfolding stray_voltage
+returns c =
+    let kv = c.args.kv.now in
+    let h : MatchBool c.any.result ((k : ℕ) × (k < length kv) × (not (is_voltage (get_or kv k 0)) ≡ true)) ((k : ℕ) → k < length kv → not (is_voltage (get_or kv k 0)) ≡ false) = search rules in
+    found_or_none (λ k. not (is_voltage (get_or kv k 0))) (length kv) c.any.result h

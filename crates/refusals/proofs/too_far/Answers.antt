@@ -1,17 +1,16 @@
 -- Answers for `refusals::too_far`.
-use mathlib.Core.Path.{◌≡◌}
-use native.Mathlib.Omega.{arith}
-use Rattle.refusals.proofs.Refusals.{near_none, near_more, far_found, near_all}
+use Rattle.std.proofs.Common.{ℕ, ◌+◌, ◌*◌, get_or, ◌∙◌, refl, arith, rules}
+use Rattle.std.specs.Float.{nan}
+use Rattle.std.proofs.lemmas.Iterator.{YieldsList-from_range}
+use Rattle.std.proofs.lemmas.Iterator.Search.{any_from_yields_List}
+use Rattle.refusals.specs.Refusal.{far_out, too_far}
+use Rattle.refusals.proofs.Refusals.{any_below}
 use Rattle.refusals.proofs.too_far.Goals as goal
 
-pub loop-i-init : goal.loop-i-init
-loop-i-init c = (omega arith, near_none _)
-
-pub returns-then-far_out : goal.returns-then-far_out
-returns-then-far_out c = far_found _ _ _ _ _ c.loop-i-test.true c.point_at-p.ensures c.far_out.ensures c.if-far_out.true
-
-pub loop-i-preserved : goal.loop-i-preserved
-loop-i-preserved c = (omega arith, near_more _ _ _ _ c.point_at-p.ensures c.far_out.ensures c.if-far_out.false c.loop-i.invariant.1)
-
 pub returns : goal.returns
-returns c = let e : c.loop-i.i ≡ c.args.n = omega arith in near_all _ _ _ e c.loop-i.invariant.1
+unfolding too_far
+returns c =
+    let n = c.args.n in
+    let xy = c.args.xy.now in
+    let far = λ (i : ℕ). far_out (get_or xy (2 * i) nan) (get_or xy (2 * i + 1) nan) in
+    any_from_yields_List far _ _ _ c.any.ensures.ran (YieldsList-from_range 0 n n refl (omega arith)) (λ x b q k. search rules) ∙ any_below far n

@@ -1,5 +1,6 @@
 -- What routing reads from the lent lists and leaves in them. Definitions only.
-use Rattle.std.specs.Prelude.{ℕ, ◌+◌, ◌^◌, ◌≤◌, ◌<◌, min, ◌≡◌, List, [], length, Float}
+use Rattle.std.specs.Prelude.{ℕ, ◌+◌, ◌^◌, ◌≤◌, ◌<◌, min, ◌≡◌, List, [], length, Float, Option, None}
+use Rattle.refusals.specs.declared.Refusal.{Refusal}
 use Rattle.order.specs.Order.{pick}
 use Rattle.network.specs.Words.{occupied}
 use Rattle.network.specs.Views.{counts_in, from_rows_in, to_rows_in, points_in, boxes_in}
@@ -29,7 +30,7 @@ routed_in G k stations corners twins iterations =
     }
 
 -- What routing leaves: bus counts and rows are as before; where nothing is refused, each branch's waypoints stand in a list.
-pub record Routes (G : Grid) (k : ℕ) (stations corners twins : List ℕ) (iterations room late : ℕ) (stations' ends' : List ℕ) (ways : List Float) : Type 0 where
+pub record Routes (G : Grid) (k : ℕ) (stations corners twins : List ℕ) (iterations room : ℕ) (late : Option Refusal) (stations' ends' : List ℕ) (ways : List Float) : Type 0 where
   pub late_is :
       late
       ≡ route_refusal
@@ -39,11 +40,11 @@ pub record Routes (G : Grid) (k : ℕ) (stations corners twins : List ℕ) (iter
   pub counts : counts_in k stations' ≡ counts_in k stations
   pub from_rows : from_rows_in (length G.from) ends' ≡ from_rows_in (length G.from) G.ends
   pub to_rows : to_rows_in (length G.from) ends' ≡ to_rows_in (length G.from) G.ends
-  pub along : late ≡ 0 → (e : ℕ) → e < length G.from
+  pub along : late ≡ None → (e : ℕ) → e < length G.from
       → path_in (way_of ends' e) (way_count ends' e) ways
       ≡ waypoints
       (routed_in G k stations corners twins iterations)
       (routing (routed_in G k stations corners twins iterations))
       (crossings_of (routed_in G k stations corners twins iterations) iterations)
       e
-  pub short : late ≡ 0 → (e : ℕ) → e < length G.from → (way_count ends' e ≤ min (length corners) 24576) × (way_of ends' e + way_count ends' e < 2 ^ 31)
+  pub short : late ≡ None → (e : ℕ) → e < length G.from → (way_count ends' e ≤ min (length corners) 24576) × (way_of ends' e + way_count ends' e < 2 ^ 31)

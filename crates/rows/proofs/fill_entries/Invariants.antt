@@ -12,6 +12,3 @@ abbrev pub invariant-loop-x : goal.invariant-loop-x
 invariant-loop-x l = (l.x ≤ l.c) × (l.c ≡ 2 * length l.from) × (length l.keys ≡ length l.initial.keys) × (length l.own ≡ length l.initial.own)
     × (take l.x l.keys ≡ table (entry_key l.sub (points_in (station_count l.sub) l.places) (kinds l.sub l.from l.to l.service)) l.x)
     × (take l.x l.own ≡ table (entry_station l.sub (kinds l.sub l.from l.to l.service)) l.x)
-
-abbrev pub decreases-loop-x : goal.decreases-loop-x
-decreases-loop-x l = l.c - l.x

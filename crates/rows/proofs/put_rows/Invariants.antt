@@ -10,6 +10,3 @@ use Rattle.rows.proofs.put_rows.Given as goal
 abbrev pub invariant-loop-e : goal.invariant-loop-e
 invariant-loop-e l = (l.e ≤ l.m) × (l.m ≡ length l.from) × (length l.ends ≡ length l.initial.ends) × (strided 4 0 0 l.e l.ends ≡ table (λ e. get_or l.rows (2 * e) 0) l.e)
     × (strided 4 1 0 l.e l.ends ≡ table (λ e. get_or l.rows (to_entry (kind_of l.sub l.from l.to l.service e) e) 0) l.e)
-
-abbrev pub decreases-loop-e : goal.decreases-loop-e
-decreases-loop-e l = l.m - l.e

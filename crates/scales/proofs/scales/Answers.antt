@@ -10,6 +10,7 @@ use Rattle.sizes.proofs.Blocks.{sizes_beside}
 use Rattle.network.proofs.Occupied.{count_yes, count_no}
 use Rattle.scales.proofs.Scaled.{passed_below, counts_front, count_at, scales_start, scale_yes, scale_no, scales_step, scales_end}
 use Rattle.scales.proofs.scales.Goals as goal
+use Rattle.scales.proofs.scales.Goals.{then-stations-s-gt0, else-stations-s-gt0}
 
 pub neighbour_counts-requires : goal.neighbour_counts-requires
 neighbour_counts-requires c = (c.requires.4, c.requires.2, c.requires.7, c.requires.5, c.requires.6)
@@ -26,39 +27,40 @@ overflow_cast-spare c = omega (arith, c.slice_known-then-stations-s-gt0-1.given 
 pub offset_bounds-blocks-s : goal.offset_bounds-blocks-s
 offset_bounds-blocks-s c = omega (arith, c.well_formed.1.1.1.1.1.1.0, c.requires.3, c.loop-s-test.true)
 
-pub loop-s-preserved-then-stations-s-gt0 : goal.loop-s-preserved-then-stations-s-gt0
-loop-s-preserved-then-stations-s-gt0 c = let v = c.loop-s.invariant in
-    let h : c.loop-s.s < c.args.k = c.loop-s-test.true in
-    let l : 3 * c.args.k ≤ length c.loop-s.blocks = omega (arith, v.1, c.requires.3) in
-    let g = c.if-stations-s-gt0.true in
-    let e = count_at (neighbours c.args.path.now c.args.n (c.args.o.tier_radius ⊗ c.args.spacing)) c.args.n _ c.loop-s.j v.7 (passed_below c.args.k c.args.stations.now c.loop-s.s c.loop-s.j c.args.n h c.if-stations-s-gt0.true c.loop-s.invariant.3 c.requires.0) in (
-      omega arith,
-      simp length-set v.1,
-      omega arith,
-      count_yes _ _ _ h g _ v.3,
-      scales_step _ _ _ _ _ _ _ h _ _ l v.4 (scale_yes _ _ _ _ _ _ _ h _ _ _ g v.3 e c.tier.ensures),
-      sizes_beside _ _ _ _ ∙ v.5,
-      v.6,
-      v.7,
-    )
+pub loop-s-preserved : goal.loop-s-preserved
+loop-s-preserved c =
+    elim c.if-stations-s-gt0.branch [
+      | then-stations-s-gt0 w ↦ rw w.blocks-is (rw w.j-is (let v = c.loop-s.invariant in
+          let h : c.loop-s.s < c.args.k = c.loop-s-test.true in
+          let l : 3 * c.args.k ≤ length c.loop-s.blocks = omega (arith, v.1, c.requires.3) in
+          let g = w.if-stations-s-gt0.true in
+          let e = count_at (neighbours c.args.path.now c.args.n (c.args.o.tier_radius ⊗ c.args.spacing)) c.args.n _ c.loop-s.j v.7 (passed_below c.args.k c.args.stations.now c.loop-s.s c.loop-s.j c.args.n h w.if-stations-s-gt0.true c.loop-s.invariant.3 c.requires.0) in (
+            omega arith,
+            simp length-set v.1,
+            omega arith,
+            count_yes _ _ _ h g _ v.3,
+            scales_step _ _ _ _ _ _ _ h _ _ l v.4 (scale_yes _ _ _ _ _ _ _ h _ _ _ g v.3 e w.tier.ensures),
+            sizes_beside _ _ _ _ ∙ v.5,
+            v.6,
+            v.7,
+          )))
+      | else-stations-s-gt0 w ↦ rw w.blocks-is (rw w.j-is (let v = c.loop-s.invariant in
+          let h : c.loop-s.s < c.args.k = c.loop-s-test.true in
+          let l : 3 * c.args.k ≤ length c.loop-s.blocks = omega (arith, v.1, c.requires.3) in
+          let g = w.if-stations-s-gt0.false in (
+            omega arith,
+            simp length-set v.1,
+            omega arith,
+            count_no _ _ _ h _ g v.3,
+            scales_step _ _ _ _ _ _ _ h _ _ l v.4 (scale_no _ _ _ _ _ _ _ h g),
+            sizes_beside _ _ _ _ ∙ v.5,
+            v.6,
+            v.7,
+          )))
+    ]
 
 pub offset_bounds-blocks-s-else-stations-s-gt0 : goal.offset_bounds-blocks-s-else-stations-s-gt0
 offset_bounds-blocks-s-else-stations-s-gt0 c = omega (arith, c.well_formed.1.1.1.1.1.1.0, c.requires.3, c.loop-s-test.true)
-
-pub loop-s-preserved : goal.loop-s-preserved
-loop-s-preserved c = let v = c.loop-s.invariant in
-    let h : c.loop-s.s < c.args.k = c.loop-s-test.true in
-    let l : 3 * c.args.k ≤ length c.loop-s.blocks = omega (arith, v.1, c.requires.3) in
-    let g = c.if-stations-s-gt0.false in (
-      omega arith,
-      simp length-set v.1,
-      omega arith,
-      count_no _ _ _ h _ g v.3,
-      scales_step _ _ _ _ _ _ _ h _ _ l v.4 (scale_no _ _ _ _ _ _ _ h g),
-      sizes_beside _ _ _ _ ∙ v.5,
-      v.6,
-      v.7,
-    )
 
 pub returns-clause-blocks_after : goal.returns-clause-blocks_after
 returns-clause-blocks_after c = let v = c.loop-s.invariant in let e : c.loop-s.s ≡ c.args.k = omega arith in cc (e, v.4, scales_end c.args.o c.args.path.now c.args.n c.args.spacing c.args.k c.args.stations.now)

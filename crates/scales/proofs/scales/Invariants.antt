@@ -12,6 +12,3 @@ use Rattle.scales.proofs.scales.Given as goal
 
 abbrev pub invariant-loop-s : goal.invariant-loop-s
 invariant-loop-s l = (l.s ≤ l.k) × (length l.blocks ≡ length l.initial.blocks) × (l.j ≤ l.s) × (l.j ≡ passed_count l.k l.stations l.s) × (scales_in l.s l.blocks ≡ scaled l.o l.path l.n (l.o.tier_radius ⊗ l.spacing) l.k l.stations l.s) × (sizes_in l.k l.blocks ≡ sizes_in l.k l.initial.blocks) × (l.n ≤ length l.spare) × (take l.n l.spare ≡ table (neighbours l.path l.n (l.o.tier_radius ⊗ l.spacing)) l.n)
-
-abbrev pub decreases-loop-s : goal.decreases-loop-s
-decreases-loop-s l = l.k - l.s

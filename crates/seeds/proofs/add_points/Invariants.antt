@@ -7,6 +7,3 @@ use Rattle.seeds.proofs.add_points.Given as goal
 
 abbrev pub invariant-loop-i : goal.invariant-loop-i
 invariant-loop-i l = (l.i ≤ length l.sub) × (length l.places ≡ length l.initial.places) × Summed l.sub l.xy l.k l.i l.places
-
-abbrev pub decreases-loop-i : goal.decreases-loop-i
-decreases-loop-i l = length l.sub - l.i

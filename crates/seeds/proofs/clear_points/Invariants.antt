@@ -9,6 +9,3 @@ use Rattle.seeds.proofs.clear_points.Given as goal
 
 abbrev pub invariant-loop-s : goal.invariant-loop-s
 invariant-loop-s l = (l.s ≤ l.k) × (length l.places ≡ length l.initial.places) × (points_in l.s l.places ≡ table (λ s. origin) l.s)
-
-abbrev pub decreases-loop-s : goal.decreases-loop-s
-decreases-loop-s l = l.k - l.s

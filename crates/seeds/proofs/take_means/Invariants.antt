@@ -7,6 +7,3 @@ use Rattle.seeds.proofs.take_means.Given as goal
 
 abbrev pub invariant-loop-s : goal.invariant-loop-s
 invariant-loop-s l = (l.s ≤ l.k) × (length l.places ≡ length l.initial.places) × Divided l.stations l.initial.places l.s l.places
-
-abbrev pub decreases-loop-s : goal.decreases-loop-s
-decreases-loop-s l = l.k - l.s

@@ -5,6 +5,3 @@ use Rattle.sized.proofs.all_sized.Given as goal
 
 abbrev pub invariant-loop-s : goal.invariant-loop-s
 invariant-loop-s l = (l.s ≤ l.k) × Same l.k l.stations l.frames l.l l.s
-
-abbrev pub decreases-loop-s : goal.decreases-loop-s
-decreases-loop-s l = l.k - l.s

@@ -10,6 +10,3 @@ use Rattle.sized.proofs.largest.Given as goal
 
 abbrev pub invariant-loop-s : goal.invariant-loop-s
 invariant-loop-s l = (l.s ≤ l.k) × (Sized.largest (boxes_in l.k l.frames) l.l (onward l.k l.stations l.s) ≡ Sized.largest (boxes_in l.k l.frames) f0 (occupied (counts_in l.k l.stations)))
-
-abbrev pub decreases-loop-s : goal.decreases-loop-s
-decreases-loop-s l = l.k - l.s

@@ -9,6 +9,3 @@ use Rattle.sizes.proofs.sides.Given as goal
 
 abbrev pub invariant-loop-s : goal.invariant-loop-s
 invariant-loop-s l = (l.s ≤ l.k) × (length l.frames ≡ length l.initial.frames) × (l.r ≤ l.s) × (take l.r l.frames ≡ sides (sizes_in l.k l.blocks) (passed l.k l.stations l.s))
-
-abbrev pub decreases-loop-s : goal.decreases-loop-s
-decreases-loop-s l = l.k - l.s

@@ -8,6 +8,3 @@ use Rattle.sizes.proofs.sizes.Given as goal
 
 abbrev pub invariant-loop-s : goal.invariant-loop-s
 invariant-loop-s l = (l.s ≤ l.k) × (length l.blocks ≡ length l.initial.blocks) × (sizes_in l.s l.blocks ≡ sized l.g l.k l.stations l.s)
-
-abbrev pub decreases-loop-s : goal.decreases-loop-s
-decreases-loop-s l = l.k - l.s

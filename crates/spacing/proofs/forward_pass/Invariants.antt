@@ -1,11 +1,6 @@
--- What the loops of `spacing::forward_pass` keep.
+-- What the loop of `spacing::forward_pass` keeps.
 use Rattle.spacing.proofs.Passes.{Forth}
-use lib.ListN.{length}
-use Prim.Native.Nat.{◌-◌}
 use Rattle.spacing.proofs.forward_pass.Given as goal
 
-abbrev pub invariant-loop-i : goal.invariant-loop-i
-invariant-loop-i l = Forth l.c l.initial.t l.initial.list l.list l.i l.t
-
-abbrev pub decreases-loop-i : goal.decreases-loop-i
-decreases-loop-i l = length l.list - l.i
+abbrev pub invariant-loop-x : goal.invariant-loop-x
+invariant-loop-x l = Forth l.c l.initial.t l.initial.x-items l.x-items l.x-index l.t

@@ -8,6 +8,3 @@ use Rattle.spacing.proofs.gather.Given as goal
 
 abbrev pub invariant-loop-i : goal.invariant-loop-i
 invariant-loop-i l = Filled (λ j. wish_of (key_at l.keys j)) l.order l.initial.wish l.wish l.i
-
-abbrev pub decreases-loop-i : goal.decreases-loop-i
-decreases-loop-i l = length l.order - l.i

@@ -7,6 +7,3 @@ use Rattle.spacing.proofs.wish_keys.Given as goal
 
 abbrev pub invariant-loop-i : goal.invariant-loop-i
 invariant-loop-i l = Filled wish_key l.wish l.initial.keys l.keys l.i
-
-abbrev pub decreases-loop-i : goal.decreases-loop-i
-decreases-loop-i l = length l.wish - l.i

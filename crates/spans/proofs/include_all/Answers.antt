@@ -1,19 +1,16 @@
 -- Answers for `spans::include_all`.
-use mathlib.Core.Path.{◌≡◌, refl}
+use mathlib.Core.Path.{◌≡◌}
 use native.Mathlib.Omega.{arith}
 use lib.ListN.{length}
 use Rattle.spans.proofs.Rows.{spanned_none, spanned_more, spanned_all}
 use Rattle.spans.proofs.include_all.Goals as goal
 
 pub loop-e-init : goal.loop-e-init
-loop-e-init c = (omega arith, refl, spanned_none _ _ _ _ _ _ c.requires.3)
-
-pub include_branch-requires : goal.include_branch-requires
-include_branch-requires c = let z = c.requires.2 _ c.loop-e-test.true in (omega arith, omega arith, z.0, z.1)
+loop-e-init c = spanned_none _ _ _ _ _ _ c.requires.3
 
 pub loop-e-preserved : goal.loop-e-preserved
-loop-e-preserved c = (omega arith, omega (arith, c.include_branch.auto.buses), spanned_more _ _ _ _ _ _ _ _ _ c.loop-e-test.true c.include_branch.ensures c.loop-e.invariant.2)
+loop-e-preserved c = spanned_more _ _ _ _ _ _ _ _ _ c.loop-e-test.true c.include_branch.ensures c.loop-e.invariant
 
 pub returns : goal.returns
 returns c =
-    let both = let e : c.loop-e.e ≡ length c.args.from.now = omega arith in spanned_all _ _ _ _ _ _ _ (rw e at c.loop-e.invariant.2) in record { buses_after = both.0; buses_unchanged = both.1 }
+    let both = let e : c.loop-e.e ≡ length c.args.from.now = omega arith in spanned_all _ _ _ _ _ _ _ (rw e at c.loop-e.invariant) in record { buses_after = both.0; buses_unchanged = both.1 }

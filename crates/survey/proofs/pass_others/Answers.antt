@@ -15,9 +15,6 @@ tally-next-requires-clause-c_bound c = (other_few _ _ _ _ _ _ _ _ _ _ c.run-c.en
 pub tally-next-requires-clause-room_for : goal.tally-next-requires-clause-room_for
 tally-next-requires-clause-room_for c = others_room _ _ _ _ _ _ _ _ _ _ _ _ _ _ c.loop-e.invariant c.run-c.ensures c.loop-e-test.true
 
-pub overflow_add-e : goal.overflow_add-e
-overflow_add-e c = omega (arith, c.loop-e-test.true, c.requires.from_len_bound.0)
-
 pub loop-e-preserved : goal.loop-e-preserved
 loop-e-preserved c = others_more _ _ _ _ _ _ _ _ _ _ _ _ _ _ c.loop-e.invariant c.run-c.ensures c.loop-e-test.true c.tally-next.ensures c.run-c.auto.path c.tally-next.auto.numbers c.tally-next.auto.branches
 

@@ -39,6 +39,6 @@ block_in H from to service start = joined (λ i. pass_at true H from to service 
 abbrev pub FitAll : List ℤ → List ℕ → List Float → Type 0
 FitAll from ends path = (e : ℕ) → e < length from → Fits ends path e
 
--- the pieces of a layout that isn't refused fit the two lists
-abbrev pub RoomIf : ℕ → List Piece → List Float → List ℕ → Type 0
-RoomIf l ps numbers branches = l ≡ 0 → (4 * length ps ≤ length numbers) × (length ps ≤ length branches)
+-- the two lists have room for these pieces
+abbrev pub HasRoom : List Piece → List Float → List ℕ → Type 0
+HasRoom ps numbers branches = (4 * length ps ≤ length numbers) × (length ps ≤ length branches)

@@ -1,14 +1,13 @@
 -- The pieces of lines one after the other: the one looked at, and how many before it hit a box. Definitions only.
-use Rattle.std.specs.Prelude.{ℕ, ◌+◌, ◌*◌, ◌≤◌, ◌<◌, ◌≡◌, true, false, cond, List, ℤ, length, get_or, Float}
-use Rattle.first_box.specs.declared.FirstHit.{FirstHit}
+use Rattle.std.specs.Prelude.{ℕ, ◌+◌, ◌*◌, ◌≤◌, ◌<◌, ◌≡◌, true, false, cond, List, ℤ, length, get_or, Float, Option, is_some}
 use Rattle.fit.specs.Fit.{is_line, end_at}
 use Rattle.stretches.specs.Relative.{piece_start, piece_end}
 use Rattle.through.specs.declared.through.LinePiece.{LinePiece}
-use Rattle.through.specs.Through.{station_at, is_hit}
+use Rattle.through.specs.Through.{station_at}
 
 -- one more where a box is hit
-unfoldable pub more : FirstHit → ℕ → ℕ
-more h n = cond (is_hit h) (n + 1) n
+unfoldable pub more : Option ℕ → ℕ → ℕ
+more h n = cond (is_some h) (n + 1) n
 
 -- s is piece j, as one of branch e
 pub record Pictured (count j e : ℕ) (sub : List ℕ) (from to : List ℤ) (pieces : List Float) (s : LinePiece) : Type 0 where

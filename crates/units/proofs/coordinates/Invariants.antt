@@ -9,6 +9,3 @@ use Rattle.units.proofs.coordinates.Given as goal
 
 abbrev pub invariant-loop-s : goal.invariant-loop-s
 invariant-loop-s l = (l.s ≤ l.k) × (length l.path ≡ length l.initial.path) × (l.r ≤ l.s) × (l.r ≡ passed_count l.k l.stations l.s) × (take (2 * l.r) l.path ≡ coordinates (points_in l.k l.places) (passed l.k l.stations l.s))
-
-abbrev pub decreases-loop-s : goal.decreases-loop-s
-decreases-loop-s l = l.k - l.s

@@ -1,11 +1,11 @@
 -- What the rounds of spacing read from the lent lists, and what they make of it: `route_lines` from 'Where each line's waypoint `j` is now' on. Definitions only.
-use Rattle.std.specs.Prelude.{ℕ, zero, suc, ◌+◌, ◌-◌, ◌*◌, ◌≤◌, ◌<◌, ◌≡◌, true, cond, List, map, leb, ltb, length, get_or, take, set, Float}
+use Rattle.std.specs.Prelude.{ℕ, zero, suc, ◌+◌, ◌-◌, ◌*◌, ◌≤◌, ◌<◌, ◌≡◌, true, cond, List, map, leb, ltb, length, get_or, take, set, Float, unwrap_or}
 use Rattle.std.specs.Float.{nan}
 use Rattle.float.specs.Ops.{◌⊕◌, ◌⊖◌, ◌⊗◌}
 use Rattle.order.specs.Table.{table}
 use Rattle.geometry.specs.declared.Point.{Point}
 use Rattle.geometry.specs.Plane.{point, point_at, box_at}
-use Rattle.crossing.specs.Cross.{param, place_or}
+use Rattle.crossing.specs.Cross.{param}
 use Rattle.channel.specs.declared.Channel.{Channel}
 use Rattle.channel.specs.Channel.{channel_of}
 use Rattle.spacing.specs.Space.{wish_order, in_order, spaced, put_all}
@@ -124,7 +124,7 @@ module _ (H : RoundLists) where
       let t = get_or ps x nan in
       let u = low_in H.corners H.centres h in
       let w = high_in H.corners H.centres h in
-      cond (ltb x past) (place_or (param (before_in ps e first x) (behind_in ps e past x) u w) t) t
+      cond (ltb x past) (unwrap_or (param (before_in ps e first x) (behind_in ps e past x) u w) t) t
 
 -- each channel's crossings stand in a stretch of the first `most`
 pub record Ready (H : RoundLists) (channels most : ℕ) : Type 0 where

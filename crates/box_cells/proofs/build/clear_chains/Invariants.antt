@@ -7,6 +7,3 @@ use Rattle.box_cells.proofs.build.clear_chains.Given as goal
 
 abbrev pub invariant-loop-c : goal.invariant-loop-c
 invariant-loop-c l = (l.c ≤ l.n) × (length l.index ≡ length l.initial.index) × Empty l.c l.index × SameGrid l.initial.index l.index
-
-abbrev pub decreases-loop-c : goal.decreases-loop-c
-decreases-loop-c l = l.n - l.c

@@ -9,6 +9,3 @@ use Rattle.box_cells.proofs.build.enter.Given as goal
 
 abbrev pub invariant-loop-s : goal.invariant-loop-s
 invariant-loop-s l = (l.s ≤ l.k) × (length l.index ≡ length l.initial.index) × Put l.g (boxes_in l.k l.frames) l.k l.stations l.s l.index × SameGrid l.initial.index l.index
-
-abbrev pub decreases-loop-s : goal.decreases-loop-s
-decreases-loop-s l = l.k - l.s

@@ -19,8 +19,5 @@ overflow_mul-columns c = omega (arith, few_product _ _ _ c.cell-columns.ensures.
 pub returns-then-columns-rows : goal.returns-then-columns-rows
 returns-then-columns-rows c = (omega arith, omega arith, c.if-columns-rows.true)
 
-pub loop-i-preserved : goal.loop-i-preserved
-loop-i-preserved c = omega (arith, c.loop-i-test.true)
-
 pub returns : goal.returns
 returns c = (omega arith, omega arith, c.requires.0)

@@ -10,6 +10,3 @@ use Rattle.box_cells.proofs.finite.all_finite.Given as goal
 
 abbrev pub invariant-loop-s : goal.invariant-loop-s
 invariant-loop-s l = (l.s ≤ l.k) × Left l.k l.stations (λ s. finite_box (box_in (boxes_in l.k l.frames) s) ≡ true) l.s
-
-abbrev pub decreases-loop-s : goal.decreases-loop-s
-decreases-loop-s l = l.k - l.s

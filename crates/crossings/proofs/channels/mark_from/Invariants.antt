@@ -6,6 +6,3 @@ use Rattle.crossings.proofs.channels.mark_from.Given as goal
 
 abbrev pub invariant-loop-p : goal.invariant-loop-p
 invariant-loop-p l = Marking l.corners l.m l.v l.w l.mark l.initial.ends l.ends l.p
-
-abbrev pub decreases-loop-p : goal.decreases-loop-p
-decreases-loop-p l = length l.corners - l.p

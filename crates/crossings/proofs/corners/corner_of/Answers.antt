@@ -1,6 +1,7 @@
 -- Answers for `crossings::corners::corner_of`.
 use native.Mathlib.Omega.{arith}
 use Rattle.crossings.proofs.Occupied.{halve_start, halve_right, halve_left, halve_found, halve_past, halve_missed}
+use Rattle.crossings.proofs.corners.corner_of.Goals.{else-lo-c-via-then-lo-c+else-at-s-2, else-lo-c-via-else-lo-c}
 use Rattle.crossings.proofs.corners.corner_of.Goals as goal
 
 pub loop-lo-init : goal.loop-lo-init
@@ -15,8 +16,9 @@ loop-lo-preserved c = halve_left _ _ _ c.requires.1 _ _ _ _ (omega arith) (omega
 pub returns-then-at-s-2-clause-value : goal.returns-then-at-s-2-clause-value
 returns-then-at-s-2-clause-value c = halve_found _ _ _ c.requires.1 _ _ (omega arith) c.loop-lo.invariant _ c.if-lo-c.true c.at-then-lo-c.ensures c.if-at-s-2.true
 
-pub returns-else-at-s-2-clause-value : goal.returns-else-at-s-2-clause-value
-returns-else-at-s-2-clause-value c = halve_missed _ _ _ c.requires.1 _ _ (omega arith) c.loop-lo.invariant _ c.if-lo-c.true c.at-then-lo-c.ensures c.if-at-s-2.false
-
 pub returns-else-lo-c-clause-value : goal.returns-else-lo-c-clause-value
-returns-else-lo-c-clause-value c = halve_past _ _ _ c.requires.1 _ _ (omega arith) c.loop-lo.invariant c.if-lo-c.false
+returns-else-lo-c-clause-value c =
+    elim c.else-lo-c.branch [
+      | else-lo-c-via-then-lo-c+else-at-s-2 w ↦ halve_missed _ _ _ c.requires.1 _ _ (omega arith) c.loop-lo.invariant _ w.if-lo-c.true w.at-then-lo-c.ensures w.if-at-s-2.false
+      | else-lo-c-via-else-lo-c w ↦ halve_past _ _ _ c.requires.1 _ _ (omega arith) c.loop-lo.invariant w.if-lo-c.false
+    ]

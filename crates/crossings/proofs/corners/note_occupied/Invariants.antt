@@ -5,6 +5,3 @@ use Rattle.crossings.proofs.corners.note_occupied.Given as goal
 
 abbrev pub invariant-loop-s : goal.invariant-loop-s
 invariant-loop-s l = Noted l.k l.initial.stations l.s l.stations l.r
-
-abbrev pub decreases-loop-s : goal.decreases-loop-s
-decreases-loop-s l = l.k - l.s

@@ -1,33 +1,30 @@
 -- Answers for `fields::field::pattern`.
-use mathlib.Core.Path.{refl, ◌∙◌}
-use Prim.Native.Nat.{◌<◌, ◌^◌}
-use native.Mathlib.Omega.{arith}
-use lib.Dec.{lit<}
-use Rattle.fields.specs.Field.{pattern}
+use Rattle.std.proofs.Common.{arith, ◌∙◌}
 use Rattle.fields.specs.Stages.Places.{field_of}
-use Rattle.fields.proofs.Fields.{hex_end, hex_other, hex_more, hex_done, hex_grows, hex_room}
+use Rattle.fields.proofs.Fields.{hex_grows, hex_room, pattern_short, pattern_other, pattern_more}
 use Rattle.fields.proofs.field.pattern.Goals as goal
 
-pub loop-k-init : goal.loop-k-init
-loop-k-init c = (omega arith, lit< tt, refl)
-
-pub returns-then-text-i : goal.returns-then-text-i
-unfolding field_of pattern
-returns-then-text-i c = c.loop-k.invariant.2 ∙ hex_end _ _ _ _ _ c.loop-k-test.true c.if-text-i.true
+pub returns-in_err-digits : goal.returns-in_err-digits
+unfolding field_of
+returns-in_err-digits c = rw c.from_residual-in_err-digits.ensures (pattern_short c.args.stop c.args.at c.args.text.now (omega (arith, c.in_ok-get.ensures.lookup.0, c.in_err-digits.ensures.lookup.0)))
 
 pub returns-then-d-gt15 : goal.returns-then-d-gt15
-unfolding field_of pattern
-returns-then-d-gt15 c = c.loop-k.invariant.2 ∙ hex_other _ _ _ _ _ c.loop-k-test.true c.if-text-i.false _ c.digit-d.ensures c.if-d-gt15.true
+unfolding field_of
+returns-then-d-gt15 c =
+    let x = c.in_ok-get.ensures.lookup.0 in
+    let s = c.in_ok-digits.ensures.lookup.0 in
+    c.loop-c.invariant.1 ∙ pattern_other c.args.text.now _ _ c.args.at _ _ _ _ x.2 s.1 s.2 (omega arith) c.digit-d.ensures c.if-d-gt15.true
 
 pub overflow_mul-v : goal.overflow_mul-v
-overflow_mul-v c = let h : c.loop-k.v < 16 ^ 15 = hex_room _ _ c.loop-k.invariant.1 c.loop-k-test.true in omega arith
+overflow_mul-v c = omega (arith, hex_room _ _ c.loop-c.invariant.0 (omega (arith, c.in_ok-digits.ensures.lookup.0)))
 
 pub overflow_add-v : goal.overflow_add-v
-overflow_add-v c = let h : c.loop-k.v < 16 ^ 15 = hex_room _ _ c.loop-k.invariant.1 c.loop-k-test.true in omega arith
+overflow_add-v c = omega (arith, hex_room _ _ c.loop-c.invariant.0 (omega (arith, c.in_ok-digits.ensures.lookup.0)))
 
-pub loop-k-preserved : goal.loop-k-preserved
-loop-k-preserved c = (omega arith, hex_grows _ _ _ c.loop-k.invariant.1 c.if-d-gt15.false, c.loop-k.invariant.2 ∙ hex_more _ _ _ _ _ c.loop-k-test.true c.if-text-i.false _ c.digit-d.ensures c.if-d-gt15.false)
-
-pub returns : goal.returns
-unfolding pattern
-returns c = c.loop-k.invariant.2 ∙ hex_done _ _ _ _ c.loop-k-test.false ∙ c.closed.ensures
+pub loop-c-preserved : goal.loop-c-preserved
+loop-c-preserved c =
+    let x = c.in_ok-get.ensures.lookup.0 in
+    let s = c.in_ok-digits.ensures.lookup.0 in (
+      hex_grows _ _ _ c.loop-c.invariant.0 c.if-d-gt15.false,
+      c.loop-c.invariant.1 ∙ pattern_more c.args.text.now _ _ c.args.at _ _ _ _ x.2 s.1 s.2 (omega arith) c.digit-d.ensures c.if-d-gt15.false,
+    )

@@ -1,14 +1,11 @@
 -- What the loops of `figures::figure::displacements` keep.
 use Rattle.figures.proofs.Front.{Front}
 use Rattle.network.proofs.Rest.{onward}
-use Prim.Native.Nat.{◌≤◌, ◌-◌}
+use Prim.Native.Nat.{◌≤◌}
 use Rattle.network.specs.Words.{occupied}
 use Rattle.network.specs.Views.{counts_in}
 use Rattle.figures.proofs.Stationwise.{displaced}
 use Rattle.figures.proofs.figure.displacements.Given as goal
 
 abbrev pub invariant-loop-s : goal.invariant-loop-s
-invariant-loop-s l = (l.s ≤ l.k) × (l.c ≤ l.s) × Front (displaced l.k l.stations l.boxes l.seeds (occupied (counts_in l.k l.stations))) (displaced l.k l.stations l.boxes l.seeds (onward l.k l.stations l.s)) l.initial.displacement l.displacement l.c
-
-abbrev pub decreases-loop-s : goal.decreases-loop-s
-decreases-loop-s l = l.k - l.s
+invariant-loop-s l = (l.c ≤ l.s) × Front (displaced l.k l.stations l.boxes l.seeds (occupied (counts_in l.k l.stations))) (displaced l.k l.stations l.boxes l.seeds (onward l.k l.stations l.s)) l.initial.displacement l.displacement l.c

@@ -3,14 +3,14 @@ use mathlib.Core.Path.{sym, ◌∙◌}
 use Rattle.first_hit.specs.Stages.Looks.{near, closer}
 use Rattle.first_hit.proofs.search.closer.Goals as goal
 
-pub returns-in-Missed : goal.returns-in-Missed
+pub returns-in_default : goal.returns-in_default
 unfolding closer
-returns-in-Missed c = simp c.in-Missed.is
+returns-in_default c = simp c.in_default.is
 
 pub returns-then-comes_first : goal.returns-then-comes_first
 unfolding closer near
-returns-then-comes_first c = simp (c.in-Place.is, sym c.comes_first.ensures ∙ c.if-comes_first.true)
+returns-then-comes_first c = simp (c.in-Some.is, sym c.comes_first.ensures ∙ c.if-comes_first.true)
 
 pub returns-else-comes_first : goal.returns-else-comes_first
 unfolding closer near
-returns-else-comes_first c = simp (c.in-Place.is, sym c.comes_first.ensures ∙ c.if-comes_first.false)
+returns-else-comes_first c = simp (c.in-Some.is, sym c.comes_first.ensures ∙ c.if-comes_first.false)

@@ -6,6 +6,6 @@ pub returns-then-n : goal.returns-then-n
 unfolding hit_of
 returns-then-n c = simp c.if-n.true
 
-pub returns : goal.returns
+pub returns-else-n : goal.returns-else-n
 unfolding hit_of
-returns c = simp c.if-n.false
+returns-else-n c = simp c.if-n.false

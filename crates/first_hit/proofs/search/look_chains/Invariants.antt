@@ -7,6 +7,3 @@ use Rattle.first_hit.proofs.search.look_chains.Given as goal
 
 abbrev pub invariant-loop-c : goal.invariant-loop-c
 invariant-loop-c l = after_chains (boxes_in l.k l.frames) l.p l.q l.a l.b l.k l.index l.w l.c (l.end - l.c) l.n ≡ after_chains (boxes_in l.k l.frames) l.p l.q l.a l.b l.k l.index l.w l.chain (l.end - l.chain) l.initial.n
-
-abbrev pub decreases-loop-c : goal.decreases-loop-c
-decreases-loop-c l = l.end - l.c

@@ -7,6 +7,3 @@ use Rattle.first_hit.proofs.search.look_rows.Given as goal
 
 abbrev pub invariant-loop-r : goal.invariant-loop-r
 invariant-loop-r l = after_rows (boxes_in l.k l.frames) l.p l.q l.a l.b l.k l.index l.w l.g l.i l.j l.r (l.end - l.r) l.n ≡ after_rows (boxes_in l.k l.frames) l.p l.q l.a l.b l.k l.index l.w l.g l.i l.j l.row (l.end - l.row) l.initial.n
-
-abbrev pub decreases-loop-r : goal.decreases-loop-r
-decreases-loop-r l = l.end - l.r

@@ -6,6 +6,3 @@ use Rattle.first_hit.proofs.search.march.Given as goal
 
 abbrev pub invariant-loop-i : goal.invariant-loop-i
 invariant-loop-i l = (l.i ≤ 8192) × Marched (boxes_in l.k l.frames) l.p l.q l.a l.b l.index l.t l.n
-
-abbrev pub decreases-loop-i : goal.decreases-loop-i
-decreases-loop-i l = 8192 - l.i

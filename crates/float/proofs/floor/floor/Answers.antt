@@ -14,10 +14,7 @@ returns-then-x-3 c = floor_low c.args.x ((subst T (sym c.well_formed.0.1) tt)) c
 
 pub size_down-requires : goal.size_down-requires
 size_down-requires c =
-    let both = down_requires c.args.x c.if-x-4.true c.if-x-2.false in record { fact_1 = both.0; fact_2 = both.1 }
-
-pub int_to_float-result : goal.int_to_float-result
-int_to_float-result c = in_float_lem c.size_down.result c.size_down.ensures.1
+    let both = down_requires c.args.x c.if-x-4.true c.if-x-2.false in record { above_zero = both.0; below_2_52 = both.1 }
 
 pub returns-then-x-4 : goal.returns-then-x-4
 returns-then-x-4 c =
@@ -25,10 +22,7 @@ returns-then-x-4 c =
 
 pub size_up-requires : goal.size_up-requires
 size_up-requires c =
-    let both = up_requires c.args.x c.if-x-5.true c.if-x-3.false in record { fact_1 = both.0; fact_2 = both.1 }
-
-pub int_to_float-result-then-x-5 : goal.int_to_float-result-then-x-5
-int_to_float-result-then-x-5 c = in_float_lem c.size_up.result c.size_up.ensures.1
+    let both = up_requires c.args.x c.if-x-5.true c.if-x-3.false in record { above_zero = both.0; below_2_52 = both.1 }
 
 pub returns-then-x-5 : goal.returns-then-x-5
 returns-then-x-5 c =

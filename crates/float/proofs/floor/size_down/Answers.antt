@@ -4,7 +4,7 @@ use Rattle.float.proofs.floor.size_down.Goals as goal
 
 pub truncating_f64_to_u64-requires : goal.truncating_f64_to_u64-requires
 truncating_f64_to_u64-requires c =
-    let both = trunc_low c.args.x c.requires.fact_1 c.requires.fact_2 in record { lower_bound = both.0; upper_bound = both.1 }
+    let both = trunc_low c.args.x c.requires.above_zero c.requires.below_2_52 in record { lower_bound = both.0; upper_bound = both.1 }
 
 pub returns : goal.returns
-returns c = size_down_is c.args.x c.truncating_f64_to_u64.result c.requires.fact_1 c.requires.fact_2 c.truncating_f64_to_u64.ensures
+returns c = size_down_is c.args.x c.truncating_f64_to_u64.result c.requires.above_zero c.requires.below_2_52 c.truncating_f64_to_u64.ensures

@@ -6,6 +6,3 @@ use Rattle.grouping.proofs.group.channel_keys.Given as goal
 
 abbrev pub invariant-loop-x : goal.invariant-loop-x
 invariant-loop-x l = (l.x ≤ length l.initial.keys) × Tabled (λ i. get_or l.numbers (3 * i + 0) 0) l.initial.keys l.keys l.x
-
-abbrev pub decreases-loop-x : goal.decreases-loop-x
-decreases-loop-x l = length l.initial.keys - l.x

@@ -6,6 +6,3 @@ use Rattle.grouping.proofs.group.copy_order.Given as goal
 
 abbrev pub invariant-loop-j : goal.invariant-loop-j
 invariant-loop-j l = Copying l.order l.initial.numbers l.numbers l.j
-
-abbrev pub decreases-loop-j : goal.decreases-loop-j
-decreases-loop-j l = length l.order - l.j

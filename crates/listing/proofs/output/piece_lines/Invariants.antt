@@ -1,11 +1,11 @@
 -- What the loops of `listing::output::piece_lines` keep.
-use Prim.Native.Nat.{◌-◌}
+use Rattle.std.proofs.Common.{◌≡◌, ◌+◌, ◌*◌, ◌≤◌, length}
+use Rattle.order.specs.Table.{joined}
+use Rattle.fields.specs.Spell.{put_at}
 use Rattle.listing.specs.Output.{piece_line}
-use Rattle.listing.proofs.Writing.{Listed}
 use Rattle.listing.proofs.output.piece_lines.Given as goal
 
 abbrev pub invariant-loop-i : goal.invariant-loop-i
-invariant-loop-i l = Listed (piece_line l.roles l.pieces l.branches) 83 l.count l.initial.out l.out l.at l.i l.p
-
-abbrev pub decreases-loop-i : goal.decreases-loop-i
-decreases-loop-i l = l.count - l.i
+invariant-loop-i l =
+    let lines = joined (piece_line l.roles l.pieces l.branches) l.i in
+    (l.p ≤ l.at + 83 * l.i) × (l.p ≡ l.at + length lines) × (l.out ≡ put_at l.initial.out l.at lines)

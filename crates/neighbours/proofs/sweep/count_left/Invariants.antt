@@ -1,12 +1,8 @@
 -- What the loops of `neighbours::sweep::count_left` keep.
-use mathlib.Core.Path.{◌≡◌}
-use Prim.Native.Nat.{◌+◌, ◌≤◌}
+use Rattle.std.proofs.Common.{◌≡◌, ◌+◌, ◌≤◌}
 use Rattle.order.specs.Table.{how_many}
 use Rattle.neighbours.specs.Stages.Sweep.{in_reach}
 use Rattle.neighbours.proofs.sweep.count_left.Given as goal
 
 abbrev pub invariant-loop-q : goal.invariant-loop-q
-invariant-loop-q l = (l.q ≤ l.c) × (l.count + l.q ≤ l.c) × (l.count + how_many (in_reach l.points l.order l.x l.y l.radius) l.q ≡ how_many (in_reach l.points l.order l.x l.y l.radius) l.c)
-
-abbrev pub decreases-loop-q : goal.decreases-loop-q
-decreases-loop-q l = l.q
+invariant-loop-q l = (l.count + l.q ≤ l.c) × (l.count + how_many (in_reach l.points l.order l.x l.y l.radius) l.q ≡ how_many (in_reach l.points l.order l.x l.y l.radius) l.c)

@@ -1,12 +1,9 @@
 -- What the loops of `neighbours::sweep::count_right` keep.
 use mathlib.Core.Path.{◌≡◌}
-use Prim.Native.Nat.{◌+◌, ◌≤◌, ◌<◌, ◌-◌}
+use Prim.Native.Nat.{◌+◌, ◌≤◌, ◌-◌}
 use Rattle.order.specs.Table.{how_many}
 use Rattle.neighbours.specs.Stages.Sweep.{in_reach}
 use Rattle.neighbours.proofs.sweep.count_right.Given as goal
 
 abbrev pub invariant-loop-q : goal.invariant-loop-q
-invariant-loop-q l = (l.c < l.q) × (l.q ≤ l.n) × (l.count ≤ l.q) × (l.count + how_many (in_reach l.points l.order l.x l.y l.radius) (l.c + 1) ≡ how_many (in_reach l.points l.order l.x l.y l.radius) l.q)
-
-abbrev pub decreases-loop-q : goal.decreases-loop-q
-decreases-loop-q l = l.n - l.q
+invariant-loop-q l = (l.count ≤ l.q) × (l.count + how_many (in_reach l.points l.order l.x l.y l.radius) (l.c + 1) ≡ how_many (in_reach l.points l.order l.x l.y l.radius) l.q)

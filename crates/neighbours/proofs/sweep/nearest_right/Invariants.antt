@@ -1,10 +1,7 @@
 -- What the loops of `neighbours::sweep::nearest_right` keep.
-use Prim.Native.Nat.{◌≤◌, ◌<◌, ◌-◌}
+use Prim.Native.Nat.{◌-◌}
 use Rattle.neighbours.specs.Stages.Sweep.{Others, Least, away}
 use Rattle.neighbours.proofs.sweep.nearest_right.Given as goal
 
 abbrev pub invariant-loop-q : goal.invariant-loop-q
-invariant-loop-q l = (l.c < l.q) × (l.q ≤ l.n) × Least (away l.points l.order l.x l.y) (Others l.c l.c l.q) l.best
-
-abbrev pub decreases-loop-q : goal.decreases-loop-q
-decreases-loop-q l = l.n - l.q
+invariant-loop-q l = Least (away l.points l.order l.x l.y) (Others l.c l.c l.q) l.best

@@ -9,6 +9,3 @@ use Rattle.offsets.proofs.offset.grid_keys.Given as goal
 
 abbrev pub invariant-loop-i : goal.invariant-loop-i
 invariant-loop-i l = (l.i ≤ l.count) × (length l.keys ≡ length l.initial.keys) × (l.keys ≡ table (grid_number l.search) l.i ++ drop l.i l.initial.keys)
-
-abbrev pub decreases-loop-i : goal.decreases-loop-i
-decreases-loop-i l = l.count - l.i

@@ -5,25 +5,27 @@ use native.Mathlib.Omega.{arith}
 use Rattle.network.specs.Views.{boxes_in}
 use Rattle.placement.proofs.Placing.{boxes_none, boxes_yes, boxes_no, boxes_end}
 use Rattle.placement.proofs.search.station_boxes.Goals as goal
+use Rattle.placement.proofs.search.station_boxes.Goals.{then-stations-s-gt0, else-stations-s-gt0}
 
 pub loop-s-init : goal.loop-s-init
 loop-s-init c = (omega arith, refl, boxes_none _ _ _ _ _ _)
 
-pub loop-s-preserved-then-stations-s-gt0 : goal.loop-s-preserved-then-stations-s-gt0
-loop-s-preserved-then-stations-s-gt0 c = (
-  omega arith,
-  omega (arith, c.put_box.auto, c.loop-s.invariant.1),
-  ap (boxes_in (c.loop-s.s + 1)) c.put_box.ensures ∙ boxes_yes c.args.m c.args.k c.args.stations.now c.args.blocks.now c.args.places.now c.loop-s.s c.loop-s.frames _ c.loop-s-test.true
-      (omega (arith, c.requires, c.loop-s.invariant.1)) c.if-stations-s-gt0.true c.station_box.ensures c.loop-s.invariant.2,
-)
-
 pub loop-s-preserved : goal.loop-s-preserved
-loop-s-preserved c = (
-  omega arith,
-  omega (arith, c.put_box-else-stations-s-gt0.auto, c.loop-s.invariant.1),
-  ap (boxes_in (c.loop-s.s + 1)) c.put_box-else-stations-s-gt0.ensures ∙ boxes_no c.args.m c.args.k c.args.stations.now c.args.blocks.now c.args.places.now c.loop-s.s c.loop-s.frames c.loop-s-test.true
-      (omega (arith, c.requires, c.loop-s.invariant.1)) c.if-stations-s-gt0.false c.loop-s.invariant.2,
-)
+loop-s-preserved c =
+    elim c.if-stations-s-gt0.branch [
+      | then-stations-s-gt0 w ↦ rw w.frames-is ((
+        omega arith,
+        omega (arith, w.put_box.auto, c.loop-s.invariant.1),
+        ap (boxes_in (c.loop-s.s + 1)) w.put_box.ensures ∙ boxes_yes c.args.m c.args.k c.args.stations.now c.args.blocks.now c.args.places.now c.loop-s.s c.loop-s.frames _ c.loop-s-test.true
+            (omega (arith, c.requires, c.loop-s.invariant.1)) w.if-stations-s-gt0.true w.station_box.ensures c.loop-s.invariant.2,
+      ))
+      | else-stations-s-gt0 w ↦ rw w.frames-is ((
+        omega arith,
+        omega (arith, w.put_box-else-stations-s-gt0.auto, c.loop-s.invariant.1),
+        ap (boxes_in (c.loop-s.s + 1)) w.put_box-else-stations-s-gt0.ensures ∙ boxes_no c.args.m c.args.k c.args.stations.now c.args.blocks.now c.args.places.now c.loop-s.s c.loop-s.frames c.loop-s-test.true
+            (omega (arith, c.requires, c.loop-s.invariant.1)) w.if-stations-s-gt0.false c.loop-s.invariant.2,
+      ))
+    ]
 
 pub returns : goal.returns
 returns c =

@@ -9,6 +9,3 @@ use Rattle.placement.proofs.search.station_boxes.Given as goal
 
 abbrev pub invariant-loop-s : goal.invariant-loop-s
 invariant-loop-s l = (l.s ≤ l.k) × (length l.frames ≡ length l.initial.frames) × (boxes_in l.s l.frames ≡ table (box_for l.m l.k l.stations l.blocks l.places) l.s)
-
-abbrev pub decreases-loop-s : goal.decreases-loop-s
-decreases-loop-s l = l.k - l.s

@@ -6,38 +6,20 @@ use Rattle.order.specs.Table.{table}
 use Rattle.bars.specs.Bar.{position}
 use Rattle.runs.specs.Lists.{flat, point_numbers, bar_numbers}
 use Rattle.results.specs.Stages.Bars.{bars_in}
-use Rattle.results.proofs.Writes.{after_refusal, after_none}
+use Rattle.results.proofs.Writes.{all_written}
 use Rattle.results.proofs.Turns.{bus_bar, drawn_none, drawn_more}
 use Rattle.results.proofs.buses.write_buses.Goals as goal
 
-pub returns-then-l-ne0-clause-positions_after : goal.returns-then-l-ne0-clause-positions_after
-returns-then-l-ne0-clause-positions_after c = after_refusal _ _ _ c.if-l-ne0.true
-
-pub returns-then-l-ne0-clause-bars_after : goal.returns-then-l-ne0-clause-bars_after
-returns-then-l-ne0-clause-bars_after c = after_refusal _ _ _ c.if-l-ne0.true
-
 pub loop-i-init : goal.loop-i-init
-loop-i-init c = (omega arith, drawn_none _ _ _ _ _ _ _)
-
-pub put_point-requires : goal.put_point-requires
-put_point-requires c = omega (arith, c.loop-i.invariant.1.points.room)
-
-pub put_numbers-requires : goal.put_numbers-requires
-put_numbers-requires c = omega (arith, c.loop-i.invariant.1.bars.room)
+loop-i-init c = drawn_none _ _ _ _ _ _ _
 
 pub loop-i-preserved : goal.loop-i-preserved
-loop-i-preserved c = (omega arith, drawn_more _ _ _ _ _ _ _ _ _ _ _ _ _ _ _ (omega arith) (omega arith) c.station_of.ensures.value c.bar_of-bar.ensures c.position.ensures c.put_point.ensures c.put_numbers.ensures c.loop-i.invariant.1)
-
-pub shape_of-positions : goal.shape_of-positions
-shape_of-positions c = c.loop-i.invariant.1.points.room
-
-pub shape_of-bars : goal.shape_of-bars
-shape_of-bars c = c.loop-i.invariant.1.bars.room
+loop-i-preserved c = drawn_more _ _ _ _ _ _ _ _ _ _ _ _ _ _ _ (omega arith) (omega arith) c.station_of.ensures.value c.bar_of-bar.ensures c.position.ensures c.put_point.ensures c.put_numbers.ensures c.loop-i.invariant
 
 pub returns-clause-positions_after : goal.returns-clause-positions_after
 unfolding bars_in
-returns-clause-positions_after c = let e : c.loop-i.i ≡ length c.args.sub.now = omega arith in after_none _ _ _ _ _ _ c.if-l-ne0.false (ap (λ n. flat (λ b. point_numbers (position b)) (table (bus_bar c.args.sub.now c.args.measures c.args.buses.now c.args.blocks.now c.args.frames.now) n)) e) c.loop-i.invariant.1.points
+returns-clause-positions_after c = let e : c.loop-i.i ≡ length c.args.sub.now = omega arith in all_written _ _ _ _ _ (ap (λ n. flat (λ b. point_numbers (position b)) (table (bus_bar c.args.sub.now c.args.measures c.args.buses.now c.args.blocks.now c.args.frames.now) n)) e) c.loop-i.invariant.points
 
 pub returns-clause-bars_after : goal.returns-clause-bars_after
 unfolding bars_in
-returns-clause-bars_after c = let e : c.loop-i.i ≡ length c.args.sub.now = omega arith in after_none _ _ _ _ _ _ c.if-l-ne0.false (ap (λ n. flat bar_numbers (table (bus_bar c.args.sub.now c.args.measures c.args.buses.now c.args.blocks.now c.args.frames.now) n)) e) c.loop-i.invariant.1.bars
+returns-clause-bars_after c = let e : c.loop-i.i ≡ length c.args.sub.now = omega arith in all_written _ _ _ _ _ (ap (λ n. flat bar_numbers (table (bus_bar c.args.sub.now c.args.measures c.args.buses.now c.args.blocks.now c.args.frames.now) n)) e) c.loop-i.invariant.bars

@@ -1,11 +1,7 @@
 -- What the loops of `results::buses::write_buses` keep.
-use Prim.Native.Nat.{◌-◌, ◌≤◌}
 use lib.ListN.{length}
 use Rattle.results.proofs.Turns.{Drawn}
 use Rattle.results.proofs.buses.write_buses.Given as goal
 
 abbrev pub invariant-loop-i : goal.invariant-loop-i
-invariant-loop-i l = (l.i ≤ length l.sub) × Drawn l.sub l.measures l.buses l.blocks l.frames l.initial.positions l.initial.bars l.i l.positions l.bars
-
-abbrev pub decreases-loop-i : goal.decreases-loop-i
-decreases-loop-i l = length l.sub - l.i
+invariant-loop-i l = Drawn l.sub l.measures l.buses l.blocks l.frames l.initial.positions l.initial.bars l.i l.positions l.bars

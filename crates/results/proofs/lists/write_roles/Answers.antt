@@ -6,24 +6,15 @@ use lib.ListN.{length}
 use Rattle.order.specs.Table.{table}
 use Rattle.network.specs.Words.{kind_of, kinds}
 use Rattle.runs.specs.Run.{role}
-use Rattle.results.proofs.Writes.{written_none, written_one, map_none, map_more, after_refusal, after_none}
+use Rattle.results.proofs.Writes.{written_none, written_one, map_none, map_more, all_written}
 use Rattle.results.proofs.lists.write_roles.Goals as goal
 
-pub returns-then-l-ne0 : goal.returns-then-l-ne0
-returns-then-l-ne0 c = after_refusal _ _ _ c.if-l-ne0.true
-
 pub loop-e-init : goal.loop-e-init
-loop-e-init c = (omega arith, written_none _ _ (map_none _ _))
-
-pub bounds-roles-e : goal.bounds-roles-e
-bounds-roles-e c = omega (arith, c.loop-e.invariant.1.room)
+loop-e-init c = written_none _ _ (map_none _ _)
 
 pub loop-e-preserved : goal.loop-e-preserved
-loop-e-preserved c = (omega arith, written_one _ _ _ _ _ _ (omega arith) (map_more _ _ _ _ (c.role_of.ensures ∙ ap role c.kind_of.ensures.value)) c.loop-e.invariant.1)
-
-pub shape_of-roles : goal.shape_of-roles
-shape_of-roles c = c.loop-e.invariant.1.room
+loop-e-preserved c = written_one _ _ _ _ _ _ (omega arith) (map_more _ _ _ _ (c.role_of.ensures ∙ ap role c.kind_of.ensures.value)) c.loop-e.invariant
 
 pub returns : goal.returns
 unfolding kinds
-returns c = let e : c.loop-e.e ≡ length c.args.from.now = omega arith in after_none _ _ _ _ _ _ c.if-l-ne0.false (ap (λ n. map role (table (kind_of c.args.sub.now c.args.from.now c.args.to.now c.args.service.now) n)) e) c.loop-e.invariant.1
+returns c = let e : c.loop-e.e ≡ length c.args.from.now = omega arith in all_written _ _ _ _ _ (ap (λ n. map role (table (kind_of c.args.sub.now c.args.from.now c.args.to.now c.args.service.now) n)) e) c.loop-e.invariant

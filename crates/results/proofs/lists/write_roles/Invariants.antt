@@ -1,5 +1,4 @@
 -- What the loops of `results::lists::write_roles` keep.
-use Prim.Native.Nat.{◌-◌, ◌≤◌}
 use mathlib.Core.List.{map}
 use lib.ListN.{length}
 use Rattle.order.specs.Table.{table}
@@ -9,7 +8,4 @@ use Rattle.results.proofs.Writes.{Written}
 use Rattle.results.proofs.lists.write_roles.Given as goal
 
 abbrev pub invariant-loop-e : goal.invariant-loop-e
-invariant-loop-e l = (l.e ≤ length l.from) × Written (map role (table (kind_of l.sub l.from l.to l.service) l.e)) l.e l.initial.roles l.roles
-
-abbrev pub decreases-loop-e : goal.decreases-loop-e
-decreases-loop-e l = length l.from - l.e
+invariant-loop-e l = Written (map role (table (kind_of l.sub l.from l.to l.service) l.e)) l.e l.initial.roles l.roles

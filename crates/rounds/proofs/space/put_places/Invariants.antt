@@ -6,6 +6,3 @@ use Rattle.rounds.proofs.space.put_places.Given as goal
 
 abbrev pub invariant-loop-i : goal.invariant-loop-i
 invariant-loop-i l = Putting (λ k. member_in l.numbers (l.start + k)) l.n l.order l.ways l.initial.along l.along l.i
-
-abbrev pub decreases-loop-i : goal.decreases-loop-i
-decreases-loop-i l = l.n - l.i

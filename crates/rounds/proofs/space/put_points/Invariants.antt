@@ -9,6 +9,3 @@ use Rattle.rounds.proofs.space.put_points.Given as goal
 
 abbrev pub invariant-loop-x : goal.invariant-loop-x
 invariant-loop-x l = (l.x ≤ l.n) × (length l.ways ≡ length l.initial.ways) × (points_in l.x l.ways ≡ table (point_in l.m l.ends l.centres l.corners l.numbers l.along) l.x)
-
-abbrev pub decreases-loop-x : goal.decreases-loop-x
-decreases-loop-x l = l.n - l.x

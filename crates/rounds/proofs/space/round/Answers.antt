@@ -13,9 +13,6 @@ space_one-requires-clause-m_bound c = (c.requires.m_bound.0, c.requires.m_bound.
 pub space_one-requires-clause-ready : goal.space_one-requires-clause-ready
 space_one-requires-clause-ready c = c.requires.ready
 
-pub overflow_add-c : goal.overflow_add-c
-overflow_add-c c = omega (arith, c.loop-c-test.true, c.requires.m_bound.3)
-
 pub loop-c-preserved : goal.loop-c-preserved
 loop-c-preserved c = (omega (arith, c.loop-c-test.true), c.space_one.auto.along ∙ c.loop-c.invariant.1, c.space_one.auto.ways ∙ c.loop-c.invariant.2, c.space_one.auto.sorted ∙ c.loop-c.invariant.3, c.space_one.auto.spare ∙ c.loop-c.invariant.4, c.space_one.auto.keys ∙ c.loop-c.invariant.5, spaced_more _ _ _ _ _ _ c.loop-c.invariant.6 c.space_one.ensures)
 

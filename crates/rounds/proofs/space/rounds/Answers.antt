@@ -13,9 +13,6 @@ round-requires-clause-m_bound c = (c.requires.m_bound.0, c.requires.m_bound.1, c
 pub round-requires-clause-ready : goal.round-requires-clause-ready
 round-requires-clause-ready c = c.requires.ready
 
-pub overflow_add-i : goal.overflow_add-i
-overflow_add-i c = omega (arith, c.loop-i-test.true, c.ranges)
-
 pub loop-i-preserved : goal.loop-i-preserved
 loop-i-preserved c = (omega (arith, c.loop-i-test.true), c.round.auto.along ∙ c.loop-i.invariant.1, c.round.auto.ways ∙ c.loop-i.invariant.2, c.round.auto.sorted ∙ c.loop-i.invariant.3, c.round.auto.spare ∙ c.loop-i.invariant.4, c.round.auto.keys ∙ c.loop-i.invariant.5, rounds_more _ _ _ _ _ _ _ c.loop-i.invariant.6 c.round.ensures)
 

@@ -7,6 +7,3 @@ use Rattle.rounds.proofs.space.take_wishes.Given as goal
 
 abbrev pub invariant-loop-i : goal.invariant-loop-i
 invariant-loop-i l = (l.i ≤ l.n) × Tabled (λ k. wish_in (held l.m l.base l.ends l.places l.centres l.corners l.numbers) l.along (member_in l.numbers (l.start + k))) l.initial.ways l.ways l.i
-
-abbrev pub decreases-loop-i : goal.decreases-loop-i
-decreases-loop-i l = l.n - l.i

@@ -19,9 +19,6 @@ range_of-r-requires-clause-boxed c = boxed_at _ _ _ _ _ _ c.edge_of-h.ensures.va
 pub put_range-requires : goal.put_range-requires
 put_range-requires c = omega (arith, c.loop-d-test.true, c.requires.m_bound.2, c.loop-d.invariant.1)
 
-pub overflow_add-d : goal.overflow_add-d
-overflow_add-d c = omega (arith, c.loop-d-test.true, c.requires.m_bound.1)
-
 pub loop-d-preserved : goal.loop-d-preserved
 loop-d-preserved c = (omega (arith, c.loop-d-test.true), c.put_range.auto.list ∙ c.loop-d.invariant.1, ranged_more _ _ _ _ _ _ _ _ _ _ _ _ _ _ (omega (arith, c.loop-d-test.true, c.requires.m_bound.2, c.loop-d.invariant.1)) c.edge_of-h.ensures.value (c.requires.by_index _ c.loop-d-test.true) c.range_of-r.ensures c.put_range.ensures c.loop-d.invariant.2)
 

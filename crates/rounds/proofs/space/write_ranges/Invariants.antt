@@ -7,6 +7,3 @@ use Rattle.rounds.proofs.space.write_ranges.Given as goal
 
 abbrev pub invariant-loop-d : goal.invariant-loop-d
 invariant-loop-d l = (l.d ≤ l.channels) × (length l.centres ≡ length l.initial.centres) × Ranged l.unit l.blocks l.frames l.stations l.corners l.m l.ends l.c l.d l.initial.centres l.centres
-
-abbrev pub decreases-loop-d : goal.decreases-loop-d
-decreases-loop-d l = l.channels - l.d

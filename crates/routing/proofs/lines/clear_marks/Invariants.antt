@@ -5,6 +5,3 @@ use Rattle.routing.proofs.lines.clear_marks.Given as goal
 
 abbrev pub invariant-loop-h : goal.invariant-loop-h
 invariant-loop-h l = (l.h ≤ l.n) × Cleared l.m l.initial.ends l.h l.ends
-
-abbrev pub decreases-loop-h : goal.decreases-loop-h
-decreases-loop-h l = l.n - l.h

@@ -7,6 +7,3 @@ use Rattle.routing.proofs.lines.count_all.Given as goal
 
 abbrev pub invariant-loop-e : goal.invariant-loop-e
 invariant-loop-e l = (l.e ≤ l.m) × (length l.trail ≡ length l.initial.trail) × (l.total ≤ 24576 * l.e) × (l.total ≡ crossings_to l.corners l.twins l.points l.ends l.e)
-
-abbrev pub decreases-loop-e : goal.decreases-loop-e
-decreases-loop-e l = l.m - l.e

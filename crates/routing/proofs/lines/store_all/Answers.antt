@@ -20,9 +20,6 @@ store_branch-c-requires-clause-around_value c = let v = c.loop-e.invariant.4 in 
 pub store_branch-c-requires-clause-by_index : goal.store_branch-c-requires-clause-by_index
 store_branch-c-requires-clause-by_index c = let v = c.loop-e.invariant.4 in let r = fill_room c.args.m c.args.corners.now c.args.twins.now c.args.points.now c.args.ends.now c.loop-e.e _ (omega arith) v in let f = crossings_few c.args.corners.now c.args.twins.now c.args.points.now c.args.ends.now c.args.m (mesh_most _ _ c.requires.by_index) in c.requires.by_index
 
-pub overflow_add-e : goal.overflow_add-e
-overflow_add-e c = omega (arith, c.requires.m_bound)
-
 pub loop-e-preserved : goal.loop-e-preserved
 loop-e-preserved c = (omega (arith, c.loop-e.invariant.0), omega (arith, c.loop-e.invariant.1), omega (arith, c.loop-e.invariant.2), omega (arith, c.loop-e.invariant.3), fill_more c.args.m c.args.corners.now c.args.twins.now c.args.points.now c.args.ends.now c.loop-e.e _ _ (omega arith) (omega (arith, c.requires.m_bound, c.loop-e.invariant.1)) c.loop-e.invariant.4 c.store_branch-c.ensures)
 

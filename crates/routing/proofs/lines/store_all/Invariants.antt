@@ -8,6 +8,3 @@ use Rattle.routing.proofs.lines.store_all.Given as goal
 
 abbrev pub invariant-loop-e : goal.invariant-loop-e
 invariant-loop-e l = (length l.trail ≡ length l.initial.trail) × (length l.ends ≡ length l.initial.ends) × (length l.numbers ≡ length l.initial.numbers) × (length l.places ≡ length l.initial.places) × Filling l.m l.corners l.twins l.points l.initial.ends l.e (stock l.k l.x l.ends l.numbers l.places)
-
-abbrev pub decreases-loop-e : goal.decreases-loop-e
-decreases-loop-e l = l.m - l.e

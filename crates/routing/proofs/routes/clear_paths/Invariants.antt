@@ -5,6 +5,3 @@ use Rattle.routing.proofs.routes.clear_paths.Given as goal
 
 abbrev pub invariant-loop-e : goal.invariant-loop-e
 invariant-loop-e l = Emptied l.m l.initial.ends l.e l.ends
-
-abbrev pub decreases-loop-e : goal.decreases-loop-e
-decreases-loop-e l = l.m - l.e

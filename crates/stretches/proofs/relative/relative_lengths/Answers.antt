@@ -4,6 +4,7 @@ use native.Mathlib.Omega.{arith}
 use Rattle.figures.proofs.Front.{front_start, front_same, front_room}
 use Rattle.stretches.proofs.Stretches.{ended_short, left_start, left_longer, left_next, left_none, left_last}
 use Rattle.stretches.proofs.relative.relative_lengths.Goals as goal
+use Rattle.stretches.proofs.relative.relative_lengths.Goals.{then-f-t, else-f-t}
 
 pub returns-then-branches-eq0 : goal.returns-then-branches-eq0
 returns-then-branches-eq0 c =
@@ -18,23 +19,18 @@ loop-j-init c = (omega arith, omega (arith, c.if-branches-eq0.false), omega arit
 pub longer-t-requires : goal.longer-t-requires
 longer-t-requires c = omega (arith, c.requires.0)
 
-pub overflow_add-j : goal.overflow_add-j
-overflow_add-j c = omega (arith, c.loop-j-test.true, c.well_formed)
-
-pub loop-j-preserved-then-f-t : goal.loop-j-preserved-then-f-t
-loop-j-preserved-then-f-t c = (omega arith, omega arith, omega arith, front_same _ _ _ _ _ _ (left_longer _ _ _ _ _ _ _ c.loop-j-test.true c.branch_of-f.ensures c.if-f-t.true c.longer-t.ensures) c.loop-j.invariant.3)
+pub loop-j-preserved : goal.loop-j-preserved
+loop-j-preserved c =
+    elim c.if-f-t.branch [
+      | then-f-t w ↦ rw w.relative-is (rw w.t-is (rw w.c-is (omega arith, omega arith, omega arith, front_same _ _ _ _ _ _ (left_longer _ _ _ _ _ _ _ c.loop-j-test.true c.branch_of-f.ensures w.if-f-t.true w.longer-t.ensures) c.loop-j.invariant.3)))
+      | else-f-t w ↦ rw w.relative-is (rw w.t-is (rw w.c-is (omega arith, omega arith, omega (arith, w.put_ended-c.ensures.value, ended_short c.args.roles.now c.loop-j.t), left_next _ _ _ _ _ _ _ _ _ _ _ _ c.loop-j-test.true (omega (arith, c.requires.1)) c.branch_of-f.ensures w.if-f-t.false w.begun-t-else-f-t.ensures w.put_ended-c.ensures.relative_after w.put_ended-c.ensures.value c.loop-j.invariant.3)))
+    ]
 
 pub put_ended-c-requires : goal.put_ended-c-requires
 put_ended-c-requires c = omega (arith, front_room _ _ _ _ _ c.loop-j.invariant.3, c.requires.1)
 
 pub begun-t-requires-else-f-t : goal.begun-t-requires-else-f-t
 begun-t-requires-else-f-t c = omega (arith, c.requires.0)
-
-pub overflow_add-j-else-f-t : goal.overflow_add-j-else-f-t
-overflow_add-j-else-f-t c = omega (arith, c.loop-j-test.true, c.well_formed)
-
-pub loop-j-preserved : goal.loop-j-preserved
-loop-j-preserved c = (omega arith, omega arith, omega (arith, c.put_ended-c.ensures.value, ended_short c.args.roles.now c.loop-j.t), left_next _ _ _ _ _ _ _ _ _ _ _ _ c.loop-j-test.true (omega (arith, c.requires.1)) c.branch_of-f.ensures c.if-f-t.false c.begun-t-else-f-t.ensures c.put_ended-c.ensures.relative_after c.put_ended-c.ensures.value c.loop-j.invariant.3)
 
 pub put_ended-requires : goal.put_ended-requires
 put_ended-requires c = omega (arith, front_room _ _ _ _ _ c.loop-j.invariant.3, c.requires.1)

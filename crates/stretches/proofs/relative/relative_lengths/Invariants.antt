@@ -8,6 +8,3 @@ use Rattle.stretches.proofs.relative.relative_lengths.Given as goal
 
 abbrev pub invariant-loop-j : goal.invariant-loop-j
 invariant-loop-j l = (1 ≤ l.j) × (l.j ≤ length l.branches) × (l.c < l.j) × Front (relatives l.roles l.pieces l.branches) (left l.roles l.pieces l.branches l.t l.j) l.initial.relative l.relative l.c
-
-abbrev pub decreases-loop-j : goal.decreases-loop-j
-decreases-loop-j l = length l.branches - l.j

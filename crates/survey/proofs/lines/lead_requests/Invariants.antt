@@ -8,6 +8,3 @@ use Rattle.survey.proofs.lines.lead_requests.Given as goal
 abbrev pub invariant-loop-i : goal.invariant-loop-i
 invariant-loop-i l =
     Along (lead l.led l.gap l.k l.stations l.ways) l.frames l.ends l.list l.write l.initial.next l.initial.path l.initial.numbers l.initial.branches l.i l.next l.path l.numbers l.branches
-
-abbrev pub decreases-loop-i : goal.decreases-loop-i
-decreases-loop-i l = length l.list - l.i

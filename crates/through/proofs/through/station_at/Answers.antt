@@ -3,10 +3,10 @@ use mathlib.Core.Path.{sym, ap, ◌∙◌}
 use Rattle.through.specs.Through.{station_at}
 use Rattle.through.proofs.through.station_at.Goals as goal
 
-pub returns-in-Bus : goal.returns-in-Bus
+pub returns-in-Some : goal.returns-in-Some
 unfolding station_at
-returns-in-Bus c = c.station_of.ensures.value ∙ sym (ap (station_at c.args.sub.now) c.in-Bus.is)
+returns-in-Some c = c.station_of.ensures.value ∙ sym (ap (station_at c.args.sub.now) c.in-Some.is)
 
-pub returns-in-Unknown : goal.returns-in-Unknown
+pub returns-in-None : goal.returns-in-None
 unfolding station_at
-returns-in-Unknown c = sym (ap (station_at c.args.sub.now) c.in-Unknown.is)
+returns-in-None c = sym (ap (station_at c.args.sub.now) c.in-None.is)

@@ -7,6 +7,3 @@ use Rattle.turns.proofs.turns.fill_keys.Given as goal
 
 abbrev pub invariant-loop-s : goal.invariant-loop-s
 invariant-loop-s l = (l.s ≤ l.k) × (length l.keys ≡ length l.initial.keys) × ((t : ℕ) → t < l.s → get_or l.keys t 0 ≡ falling 0)
-
-abbrev pub decreases-loop-s : goal.decreases-loop-s
-decreases-loop-s l = l.k - l.s

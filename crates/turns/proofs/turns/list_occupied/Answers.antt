@@ -7,6 +7,7 @@ use Rattle.network.specs.Views.{counts_in}
 use Rattle.turns.specs.Stages.Listed.{Listed}
 use Rattle.turns.proofs.Queue.{listed_none, counted_yes, counted_no}
 use Rattle.turns.proofs.turns.list_occupied.Goals as goal
+use Rattle.turns.proofs.turns.list_occupied.Goals.{then-count-gt0, else-count-gt0}
 
 pub loop-s-init : goal.loop-s-init
 loop-s-init c = (omega arith, omega arith, refl, refl, listed_none _ _ _)
@@ -14,23 +15,24 @@ loop-s-init c = (omega arith, omega arith, refl, refl, listed_none _ _ _)
 pub overflow_cast-count : goal.overflow_cast-count
 overflow_cast-count c = omega (arith, c.shared_slice_known-in-loop-s-1.given (2 * c.loop-s.s))
 
-pub loop-s-preserved-then-count-gt0 : goal.loop-s-preserved-then-count-gt0
-loop-s-preserved-then-count-gt0 c = (
-  omega arith,
-  omega arith,
-  simp length-set (omega arith),
-  simp length-set (omega arith),
-  counted_yes _ _ _ _ _ _ _ c.loop-s.invariant.4 c.loop-s-test.true c.falling.ensures (omega arith) (omega arith) c.if-count-gt0.true,
-)
-
 pub loop-s-preserved : goal.loop-s-preserved
-loop-s-preserved c = (
-  omega arith,
-  omega arith,
-  simp length-set (omega arith),
-  omega arith,
-  counted_no _ _ _ _ _ _ _ c.loop-s.invariant.4 c.loop-s-test.true c.falling.ensures (omega arith) c.if-count-gt0.false,
-)
+loop-s-preserved c =
+    elim c.if-count-gt0.branch [
+      | then-count-gt0 w ↦ rw w.sorted-is (rw w.r-is ((
+        omega arith,
+        omega arith,
+        simp length-set (omega arith),
+        simp length-set (omega arith),
+        counted_yes _ _ _ _ _ _ _ c.loop-s.invariant.4 c.loop-s-test.true c.falling.ensures (omega arith) (omega arith) w.if-count-gt0.true,
+      )))
+      | else-count-gt0 w ↦ rw w.sorted-is (rw w.r-is ((
+        omega arith,
+        omega arith,
+        simp length-set (omega arith),
+        omega arith,
+        counted_no _ _ _ _ _ _ _ c.loop-s.invariant.4 c.loop-s-test.true c.falling.ensures (omega arith) w.if-count-gt0.false,
+      )))
+    ]
 
 pub returns : goal.returns
 returns c =

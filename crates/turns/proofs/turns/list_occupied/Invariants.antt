@@ -8,6 +8,3 @@ use Rattle.turns.proofs.turns.list_occupied.Given as goal
 
 abbrev pub invariant-loop-s : goal.invariant-loop-s
 invariant-loop-s l = (l.s ≤ l.k) × (l.r ≤ l.s) × (length l.keys ≡ length l.initial.keys) × (length l.sorted ≡ length l.initial.sorted) × Listed (counts_in l.k l.stations) l.s l.keys l.sorted l.r
-
-abbrev pub decreases-loop-s : goal.decreases-loop-s
-decreases-loop-s l = l.k - l.s

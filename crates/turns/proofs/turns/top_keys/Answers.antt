@@ -7,6 +7,7 @@ use Rattle.columns.specs.Column.{falling}
 use Rattle.turns.proofs.Queue.{lowered_none, lowered_yes, lowered_no}
 use borrow.Author.Rules.{rules}
 use Rattle.turns.proofs.turns.top_keys.Goals as goal
+use Rattle.turns.proofs.turns.top_keys.Goals.{then-v-keys, else-v-keys}
 
 pub loop-i-init : goal.loop-i-init
 loop-i-init c =
@@ -33,19 +34,20 @@ pub bounds-keys-s-then-v-keys : goal.bounds-keys-s-then-v-keys
 bounds-keys-s-then-v-keys c =
     omega (arith, c.requires.by_index c.loop-i.i (omega arith))
 
-pub loop-i-preserved-then-v-keys : goal.loop-i-preserved-then-v-keys
-loop-i-preserved-then-v-keys c = (
-  omega arith,
-  simp length-set (omega arith),
-  lowered_yes c.args.sub.now c.args.kv.now c.args.k c.loop-i.keys c.loop-i.i _ c.loop-i.invariant.2 (c.falling-v.ensures ∙ ap falling c.key_of_bits.ensures) (c.requires.by_index c.loop-i.i (omega arith)) c.if-v-keys.true (omega arith),
-)
-
 pub loop-i-preserved : goal.loop-i-preserved
-loop-i-preserved c = (
-  omega arith,
-  omega arith,
-  lowered_no c.args.sub.now c.args.kv.now c.args.k c.loop-i.keys c.loop-i.i _ c.loop-i.invariant.2 (c.falling-v.ensures ∙ ap falling c.key_of_bits.ensures) (c.requires.by_index c.loop-i.i (omega arith)) c.if-v-keys.false,
-)
+loop-i-preserved c =
+    elim c.if-v-keys.branch [
+      | then-v-keys w ↦ rw w.keys-is ((
+        omega arith,
+        simp length-set (omega arith),
+        lowered_yes c.args.sub.now c.args.kv.now c.args.k c.loop-i.keys c.loop-i.i _ c.loop-i.invariant.2 (c.falling-v.ensures ∙ ap falling c.key_of_bits.ensures) (c.requires.by_index c.loop-i.i (omega arith)) w.if-v-keys.true (omega arith),
+      ))
+      | else-v-keys w ↦ rw w.keys-is ((
+        omega arith,
+        omega arith,
+        lowered_no c.args.sub.now c.args.kv.now c.args.k c.loop-i.keys c.loop-i.i _ c.loop-i.invariant.2 (c.falling-v.ensures ∙ ap falling c.key_of_bits.ensures) (c.requires.by_index c.loop-i.i (omega arith)) w.if-v-keys.false,
+      ))
+    ]
 
 pub returns : goal.returns
 returns c =

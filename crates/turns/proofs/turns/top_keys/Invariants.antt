@@ -7,6 +7,3 @@ use Rattle.turns.proofs.turns.top_keys.Given as goal
 
 abbrev pub invariant-loop-i : goal.invariant-loop-i
 invariant-loop-i l = (l.i ≤ length l.sub) × (length l.keys ≡ length l.initial.keys) × Lowered l.sub l.kv l.k l.keys l.i
-
-abbrev pub decreases-loop-i : goal.decreases-loop-i
-decreases-loop-i l = length l.sub - l.i

@@ -7,6 +7,3 @@ use Rattle.walk.proofs.trace.start.Given as goal
 
 abbrev pub invariant-loop-p : goal.invariant-loop-p
 invariant-loop-p l = Seeking l.corners (point_at l.points) l.va l.vb l.p
-
-abbrev pub decreases-loop-p : goal.decreases-loop-p
-decreases-loop-p l = length l.corners - l.p

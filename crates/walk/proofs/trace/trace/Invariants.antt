@@ -6,7 +6,4 @@ use Rattle.geometry.specs.Plane.{point_at}
 use Rattle.walk.proofs.trace.trace.Given as goal
 
 abbrev pub invariant-loop-n : goal.invariant-loop-n
-invariant-loop-n l = Going l.corners l.twins (point_at l.points) l.va l.vb l.initial.trail l.trail l.n l.x × (length l.corners ≤ length l.initial.trail)
-
-abbrev pub decreases-loop-n : goal.decreases-loop-n
-decreases-loop-n l = length l.corners - l.n
+invariant-loop-n l = Going l.corners l.twins (point_at l.points) l.va l.vb l.initial.trail l.trail l.n l.x

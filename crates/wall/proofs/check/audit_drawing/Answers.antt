@@ -34,4 +34,4 @@ pub shape_of-path : goal.shape_of-path
 shape_of-path c = c.tx_layout_quality.auto.path
 
 pub returns : goal.returns
-returns c = parts_audited _ _ _ _ _ _ _ _ _ _ _ _ _ _ _ _ c.station_count-k.ensures.value c.shorter-b.ensures c.shorter-m.ensures c.tx_layout_quality.ensures
+returns c = parts_audited _ _ _ _ _ _ _ _ _ _ _ _ _ _ _ _ c.station_count-k.ensures.value c.min-b.ensures c.min-m.ensures c.tx_layout_quality.ensures

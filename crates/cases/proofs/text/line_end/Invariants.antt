@@ -1,9 +1,0 @@
--- What the loops of `cases::text::line_end` keep.
-use Rattle.std.proofs.Common.{◌-◌, ◌≤◌, length}
-use Rattle.cases.proofs.text.line_end.Given as goal
-
-abbrev pub invariant-loop-i : goal.invariant-loop-i
-invariant-loop-i l = (l.from ≤ l.i) × (l.i ≤ length l.text)
-
-abbrev pub decreases-loop-i : goal.decreases-loop-i
-decreases-loop-i l = length l.text - l.i

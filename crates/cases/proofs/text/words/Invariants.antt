@@ -1,9 +1,0 @@
--- What the loops of `cases::text::words` keep.
-use Rattle.std.proofs.Common.{◌-◌, ◌≤◌}
-use Rattle.cases.proofs.text.words.Given as goal
-
-abbrev pub invariant-loop-k : goal.invariant-loop-k
-invariant-loop-k l = (l.k ≤ 32)
-
-abbrev pub decreases-loop-k : goal.decreases-loop-k
-decreases-loop-k l = 32 - l.k

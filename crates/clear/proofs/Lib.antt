@@ -1,2 +1,0 @@
--- Laws of lent lists.
-mod Equal

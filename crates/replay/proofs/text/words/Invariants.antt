@@ -1,9 +1,0 @@
--- What the loops of `replay::text::words` keep.
-use Rattle.std.proofs.Common.{◌≡◌, ◌-◌, length}
-use Rattle.replay.proofs.text.words.Given as goal
-
-abbrev pub invariant-loop-i : goal.invariant-loop-i
-invariant-loop-i l = length l.out ≡ length l.initial.out
-
-abbrev pub decreases-loop-i : goal.decreases-loop-i
-decreases-loop-i l = length l.line - l.i

@@ -1,2 +1,0 @@
--- Laws that the functions' proofs and the crates above use.
-pub mod Requesting

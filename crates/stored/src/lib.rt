@@ -1,0 +1,54 @@
+// The words of a stored line, numbers in hexadecimal digits with a space between them, and numbers taken from words.
+#![tactic(auto)]
+
+ghost use Rattle.std.specs.Prelude.{◌≡◌, ◌++◌, min, length, take, drop, get_or, from_bits};
+ghost use Rattle.std.specs.Float.{binary64};
+ghost use Rattle.stored.specs.Words.{digit as digit_of, number as number_of, words as words_of};
+
+// What a digit stands for, 0 for any other byte.
+fn digit(b: u8) -> u64
+    ensures { result ≡ digit_of b }
+{
+    match b {
+        b'0'..=b'9' => u64::from(b - b'0'),
+        b'A'..=b'F' => u64::from(b - b'A') + 10,
+        _ => 0,
+    }
+}
+
+// The number that digits stand for; of more than sixteen, the last sixteen.
+fn number(digits: &[u8]) -> u64
+    ensures { result ≡ number_of digits.now }
+{
+    digits
+        .iter()
+        .fold(0u64, |v, b| v.wrapping_mul(16).wrapping_add(digit(*b)))
+}
+
+// Writes a text's words over the front of a list, as many as it holds; how many.
+pub fn words(text: &[u8], out: &mut [u64]) -> usize
+    ensures count { result ≡ min (length (words_of text.now)) (length out.old) }
+    ensures out_after { out.new ≡ take result (words_of text.now) ++ drop result out.old }
+{
+    // the count is the result, so it serves as the index too
+    let mut count = 0;
+    for field in text.split(|b| *b == b' ').take(out.len()) {
+        out[count] = number(field);
+        count += 1;
+    }
+    count
+}
+
+// The word at i, 0 past the end.
+pub fn word_at(words: &[u64], i: usize) -> u64
+    ensures { result ≡ get_or words.now i 0 }
+{
+    words.get(i).copied().unwrap_or(0)
+}
+
+// The float whose bits are the word at i.
+pub fn float_at(words: &[u64], i: usize) -> f64
+    ensures { result ≡ from_bits binary64 (get_or words.now i 0) }
+{
+    float::bits::of_bits(word_at(words, i))
+}
