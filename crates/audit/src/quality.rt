@@ -6,9 +6,11 @@ use crate::inside::audited;
 use audit_limits::refuse::check_input;
 use findings::answer::Figures;
 use findings::room::Room;
+use fit::drawn::Drawn;
 use refusals::Refusal;
 
 // Audits a drawing: the figures of each station and line in the result lists, the others in the answer.
+// The lists stand as C hands them over, each with its length.
 pub fn tx_layout_quality(
     displacement: &mut [f64],
     spacing: &mut [f64],
@@ -45,8 +47,7 @@ pub fn tx_layout_quality(
         points: points.len(),
         path: path.len(),
     };
-    check_input(sub, kv, from, to, xy, boxes, roles, pieces, branches, room)?;
-    let a = audited(
+    let drawing = Drawn {
         sub,
         kv,
         from,
@@ -56,6 +57,10 @@ pub fn tx_layout_quality(
         roles,
         pieces,
         branches,
+    };
+    check_input(&drawing, room)?;
+    let a = audited(
+        &drawing,
         displacement,
         spacing,
         relative,

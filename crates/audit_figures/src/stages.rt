@@ -8,6 +8,9 @@ ghost use Rattle.findings.specs.Answer.{Figured};
 
 use figures::figure::{displacements, middles, spacings};
 use findings::answer::Figures;
+use fit::drawn::Drawn;
+use neighbours::points::Points;
+use network::lists::{Placed, Stations};
 use overlaps::count_overlaps;
 use seeds::seeds;
 use stretches::relative::relative_lengths;
@@ -16,15 +19,7 @@ use units::coordinates;
 
 // The figures of a drawing that isn't refused.
 pub fn figures_of(
-    sub: &[u32],
-    kv: &[u64],
-    from: &[i64],
-    to: &[i64],
-    xy: &[f64],
-    boxes: &[f64],
-    roles: &[u8],
-    pieces: &[f64],
-    branches: &[u32],
+    drawing: &Drawn<'_>,
     k: usize,
     stations: &[u32],
     displacement: &mut [f64],
@@ -36,23 +31,31 @@ pub fn figures_of(
     points: &mut [f64],
     path: &mut [f64],
 ) -> Figures
-    requires k_value { (k ≡ station_count sub.now) × (length sub.now ≤ 4096) × (k ≤ length sub.now) × (counts_in k stations.now ≡ bus_counts sub.now) }
-    requires k_in_bounds { (4 * k ≤ length boxes.now) × (length pieces.now ≡ 4 * length branches.now) × (2 * length sub.now ≤ length stations.now) × Finite boxes.now }
-    requires k_in_bounds_2 { (k ≤ length displacement.old) × (k ≤ length spacing.old) × (length branches.now ≤ length relative.old) × (2 * length sub.now ≤ length points.old) × (2 * length sub.now ≤ length path.old) }
-    requires sub_in_bounds { (length sub.now ≤ length index.old) × (length sub.now ≤ length spare.old) × (length sub.now ≤ length keys.old) }
-    ensures { Figured (drawn sub.now kv.now from.now to.now xy.now boxes.now roles.now pieces.now branches.now)
+    requires k_value { (k ≡ station_count drawing.now.sub.now) × (length drawing.now.sub.now ≤ 4096) × (k ≤ length drawing.now.sub.now) × (counts_in k stations.now ≡ bus_counts drawing.now.sub.now) }
+    requires k_in_bounds { (4 * k ≤ length drawing.now.boxes.now) × (length drawing.now.pieces.now ≡ 4 * length drawing.now.branches.now) × (2 * length drawing.now.sub.now ≤ length stations.now) × Finite drawing.now.boxes.now }
+    requires k_in_bounds_2 { (k ≤ length displacement.old) × (k ≤ length spacing.old) × (length drawing.now.branches.now ≤ length relative.old) × (2 * length drawing.now.sub.now ≤ length points.old) × (2 * length drawing.now.sub.now ≤ length path.old) }
+    requires sub_in_bounds { (length drawing.now.sub.now ≤ length index.old) × (length drawing.now.sub.now ≤ length spare.old) × (length drawing.now.sub.now ≤ length keys.old) }
+    ensures { Figured (drawn drawing.now.sub.now drawing.now.kv.now drawing.now.from.now drawing.now.to.now drawing.now.xy.now drawing.now.boxes.now drawing.now.roles.now drawing.now.pieces.now drawing.now.branches.now)
         (record { displacement = displacement.old; spacing = spacing.old; relative = relative.old }) result (record { displacement = displacement.new; spacing = spacing.new; relative = relative.new }) }
 {
-    seeds(sub, xy, k, stations, points);
-    displacements(k, stations, points, boxes, displacement);
-    middles(k, boxes, points);
-    let n = coordinates(k, stations, points, path);
-    spacings(k, n, stations, boxes, path, spacing, keys, index, spare);
-    let overlaps = count_overlaps(k, stations, boxes, keys, index, spare);
-    let through = count_through(
-        k, stations, boxes, index, sub, from, to, roles, pieces, branches,
-    );
-    let lengths = relative_lengths(roles, pieces, branches, relative);
+    let counted = Stations {
+        k,
+        counts: stations,
+    };
+    let placed = Placed {
+        k,
+        stations,
+        frames: drawing.boxes,
+    };
+    seeds(drawing.sub, drawing.xy, &counted, points);
+    displacements(&placed, points, displacement);
+    middles(k, drawing.boxes, points);
+    let n = coordinates(&counted, points, path);
+    let points = Points { n, xy: path };
+    spacings(&placed, &points, spacing, keys, index, spare);
+    let overlaps = count_overlaps(&placed, keys, index, spare);
+    let through = count_through(&placed, index, drawing);
+    let lengths = relative_lengths(drawing.roles, drawing.pieces, drawing.branches, relative);
     Figures {
         stations: n,
         overlaps,

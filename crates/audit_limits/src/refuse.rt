@@ -6,10 +6,12 @@ ghost use Rattle.findings.specs.Answer.{too_short, early};
 
 use box_cells::build::index_length;
 use findings::room::Room;
+use fit::drawn::Drawn;
 use network::words::station_count;
 use refusals::{Refusal, check_shape, too_far};
 
 // Whether a list is too short for n buses, k stations and p piece branch numbers.
+// n is bounded by what `check_shape` passed: a struct of one number is no plainer.
 #[tactic(auto, unfolding(findings::specs::Answer::too_short))]
 fn too_short(n: usize, k: usize, p: usize, room: Room) -> bool
     requires { n ≤ 4096 }
@@ -27,25 +29,19 @@ fn too_short(n: usize, k: usize, p: usize, room: Room) -> bool
 }
 
 // 1 to 4, 15, 6 and 7.
-pub fn check_input(
-    sub: &[u32],
-    kv: &[u64],
-    from: &[i64],
-    to: &[i64],
-    xy: &[f64],
-    boxes: &[f64],
-    roles: &[u8],
-    pieces: &[f64],
-    branches: &[u32],
-    room: Room,
-) -> Result<(), Refusal>
-    ensures { result_err result ≡ early (drawn sub.now kv.now from.now to.now xy.now boxes.now roles.now pieces.now branches.now) room }
+pub fn check_input(drawing: &Drawn<'_>, room: Room) -> Result<(), Refusal>
+    ensures { result_err result ≡ early (drawn drawing.now.sub.now drawing.now.kv.now drawing.now.from.now drawing.now.to.now drawing.now.xy.now drawing.now.boxes.now drawing.now.roles.now drawing.now.pieces.now drawing.now.branches.now) room }
 {
-    check_shape(sub, kv, from, to)?;
-    if too_far(sub.len(), xy) {
+    check_shape(drawing.sub, drawing.kv, drawing.from, drawing.to)?;
+    if too_far(drawing.sub.len(), drawing.xy) {
         return Err(Refusal::TooFar);
     }
-    if too_short(sub.len(), station_count(sub), branches.len(), room) {
+    if too_short(
+        drawing.sub.len(),
+        station_count(drawing.sub),
+        drawing.branches.len(),
+        room,
+    ) {
         return Err(Refusal::ListTooShort);
     }
     Ok(())

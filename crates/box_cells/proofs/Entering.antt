@@ -1,18 +1,16 @@
 -- The list as a whole: none entered, chains emptied, and all boxes entered. Assumes nothing.
 use mathlib.Core.Path.{◌≡◌, refl, sym, ap, ◌∙◌, subst}
-use mathlib.Core.Logic.{◌⊎◌, inl, inr}
-use mathlib.Core.Bool.{true, false}
-use mathlib.Core.List.{List, [], ◌∷◌}
+use mathlib.Core.Bool.{true}
+use mathlib.Core.List.{List, [], ◌∷◌, ◌++◌}
 use Prim.Native.Nat.{ℕ, ◌+◌, ◌*◌, ◌^◌, ◌≤◌, ◌<◌}
 use native.Mathlib.Nat.{mul-le-mul, mul-le-mul_left, mul-le-mul_right}
 use native.Mathlib.Omega.{arith}
-use lib.ListN.{length, get_or, set, length-set}
-use lib.Seq.{get_or-set_same, get_or-set_other}
+use lib.ListN.{length, get_or, set, take, length-set, replicate, length-replicate, get_or-replicate, get_or-append}
+use lib.Seq.{get_or-set_same, get_or-set_other, get_or-append-add, get_or-take, length-take-le}
 use Rattle.float.specs.Small.{is_finite}
 use Rattle.float.specs.Ops.{◌⊖◌, ◌⊘◌, num}
 use Rattle.geometry.specs.declared.Box.{Box}
 use Rattle.order.proofs.Laws.{All}
-use Rattle.order.proofs.Merging.{le_or_lt}
 use Rattle.geometry.specs.Plane.{box_in}
 use Rattle.windows.specs.Stages.Window.{finite_box}
 use Rattle.float.proofs.Ordered.{lift}
@@ -37,52 +35,27 @@ pub none_empty : (boxes : List Box) (stations l : List ℕ) → length l ≡ 0 �
 none_empty boxes stations [] h = none_entered boxes stations [] refl
 none_empty boxes stations (x ∷ l) h = none_entered boxes stations (x ∷ l) (omega (arith, h))
 
--- ---- all sides finite
-pub finite_of : (b : Box) → is_finite b.left ≡ true → is_finite b.top ≡ true → is_finite b.right ≡ true → is_finite b.bottom ≡ finite_box b
-unfolding finite_box
-finite_of b h g d = rw (h, g, d)
-
-pub infinite_right : (b : Box) → is_finite b.left ≡ true → is_finite b.top ≡ true → is_finite b.right ≡ false → false ≡ finite_box b
-unfolding finite_box
-infinite_right b h g d = rw (h, g, d)
-
-pub infinite_top : (b : Box) → is_finite b.left ≡ true → is_finite b.top ≡ false → false ≡ finite_box b
-unfolding finite_box
-infinite_top b h g = rw (h, g)
-
-pub infinite_left : (b : Box) → is_finite b.left ≡ false → false ≡ finite_box b
-unfolding finite_box
-infinite_left b h = rw h
-
 -- ---- the chains emptied, and the grid's places kept
-pub empty_start : (l : List ℕ) → Empty 0 l
-empty_start l = record { none = λ c h. absurd (below c h) }
-  where
-    below : (c : ℕ) → c < 0 → ⊥
-    below c h = omega arith
+module _ (l ys rest : List ℕ) (m n : ℕ) (room : 7 + n ≤ length l) (zeros : ys ≡ replicate m 0) (many : m ≡ n) where
+  filled : ys ≡ replicate n 0
+  filled = zeros ∙ ap (λ (x : ℕ). replicate x 0) many
 
-pub empty_more : (n : ℕ) (l : List ℕ) → 7 + n < length l → Empty n l → Empty (n + 1) (set l (7 + n) 0)
-unfolding chain_at
-empty_more n l h e = record { none = λ c g. go c g (le_or_lt n c) }
-  where
-    go : (c : ℕ) → c < n + 1 → (n ≤ c) ⊎ (c < n) → get_or (set l (7 + n) 0) (7 + c) 0 ≡ 0
-    go c g (inl i) = let m : n ≡ c = omega arith in subst (λ (v : ℕ). get_or (set l (7 + n) 0) (7 + v) 0 ≡ 0) m (get_or-set_same l (7 + n) 0 0 h)
-    go c g (inr i) = get_or-set_other l (7 + n) (7 + c) 0 0 (λ m. apart m) ∙ e.none c i
-      where
-        apart : 7 + c ≡ 7 + n → ⊥
-        apart m = omega arith
+  front : length (take 7 l) ≡ 7
+  front = length-take-le 7 l (omega arith)
 
-pub empty_end : (c n : ℕ) (l : List ℕ) → n ≤ c → Empty c l → Empty n l
-empty_end c n l h e = record { none = λ d g. e.none d (omega arith) }
+  pub emptied : Empty n (take 7 l ++ (ys ++ rest)) × SameGrid l (take 7 l ++ (ys ++ rest))
+  unfolding chain_at
+  emptied = (
+    record {
+      none = λ c h.
+          ap (λ (x : ℕ). get_or (take 7 l ++ (ys ++ rest)) (x + c) 0) (sym front) ∙ get_or-append-add (take 7 l) (ys ++ rest) c 0
+          ∙ ap (λ (x : List ℕ). get_or (x ++ rest) c 0) filled ∙ get_or-append (replicate n 0) rest 0 c (simp length-replicate h) ∙ get_or-replicate n c 0 0 h;
+    },
+    record { same = λ i h. get_or-append (take 7 l) (ys ++ rest) 0 i (omega (arith, front, h)) ∙ get_or-take 7 l i 0 h },
+  )
 
 pub same_start : (l : List ℕ) → SameGrid l l
 same_start l = record { same = λ i h. refl }
-
-pub same_set : (l m : List ℕ) (j v : ℕ) → 7 ≤ j → SameGrid l m → SameGrid l (set m j v)
-same_set l m j v h s = record { same = λ i g. get_or-set_other m j i v 0 (λ e. apart i g e) ∙ s.same i g }
-  where
-    apart : (i : ℕ) → i < 7 → i ≡ j → ⊥
-    apart i g e = omega arith
 
 pub same_linked : (k c s : ℕ) (l m : List ℕ) → s < k → 7 + c < 4 * k → 5 * k ≤ length m → SameGrid l m → SameGrid l (linked k c s m)
 same_linked k c s l m h g n e = record { same = λ i j. first_other k c s m h g n i j ∙ e.same i j }

@@ -14,6 +14,7 @@ use crate::finite::all_finite;
 use first_box::box_in;
 use float::small::is_finite;
 use grid::{Grid, chain_of, grid_of};
+use network::lists::Placed;
 
 // The needed length of a list that the boxes of n stations are entered in.
 pub fn index_length(n: usize) -> usize
@@ -32,26 +33,25 @@ fn link(k: usize, chain: usize, s: usize, index: &mut [u32])
     index[7 + chain] = s as u32 + 1;
 }
 
-// Empties the first n chains.
-fn clear_chains(n: usize, index: &mut [u32])
-    requires { (7 + n ≤ length index.old) × (n ≤ 16384) }
-    ensures { Empty n index.new × SameGrid index.old index.new }
+// Empties the chains of a grid.
+fn clear_chains(g: Grid, index: &mut [u32])
+    requires { (8 + g.columns * g.rows ≤ length index.old) × (g.columns * g.rows ≤ 16384) }
+    ensures { Empty (1 + g.columns * g.rows) index.new × SameGrid index.old index.new }
 {
-    for c in 0..n {
-        index[7 + c] = 0;
-    }
+    index[7..8 + g.columns * g.rows].fill(0);
 }
 
-// Enters the occupied stations' boxes into empty chains; a chain begins with its last station.
-fn enter(g: Grid, k: usize, stations: &[u32], frames: &[f64], index: &mut [u32])
-    requires k_in_bounds { (2 * k ≤ length stations.now) × (4 * k ≤ length frames.now) × (k ≤ 4096) × (5 * k ≤ length index.old) }
-    requires le_columns { (1 ≤ g.columns) × (1 ≤ g.rows) × (8 + g.columns * g.rows ≤ 4 * k) × Empty (1 + g.columns * g.rows) index.old }
-    ensures chained { Chained g (boxes_in k frames.now) (occupied (counts_in k stations.now)) k index.new }
+// Enters the occupied stations' boxes into empty chains; a chain begins with its last station. The bound of k and the room in `index`, which changes, are asked here, in `fill` and in `grow`: a struct for them would be made once, for these three.
+fn enter(g: Grid, placed: &Placed<'_>, index: &mut [u32])
+    requires k_in_bounds { (placed.now.k ≤ 4096) × (5 * placed.now.k ≤ length index.old) }
+    requires le_columns { (1 ≤ g.columns) × (1 ≤ g.rows) × (8 + g.columns * g.rows ≤ 4 * placed.now.k) × Empty (1 + g.columns * g.rows) index.old }
+    ensures chained { Chained g (boxes_in placed.now.k placed.now.frames.now) (occupied (counts_in placed.now.k placed.now.stations.now)) placed.now.k index.new }
     ensures same_grid { SameGrid index.old index.new }
 {
-    for s in 0..k {
-        if 0 < stations[2 * s] {
-            link(k, chain_of(g, box_in(k, frames, s)), s, index);
+    for s in 0..placed.k {
+        if 0 < placed.stations[2 * s] {
+            let b = box_in(placed.k, placed.frames, s);
+            link(placed.k, chain_of(g, b), s, index);
         }
     }
 }
@@ -70,13 +70,13 @@ fn put_grid(e: Extent, c: Counts, index: &mut [u32])
 }
 
 // Enters the occupied stations' boxes in the cells of the list's grid, if its corner is finite; else none.
-fn fill(k: usize, stations: &[u32], frames: &[f64], index: &mut [u32])
-    requires k_in_bounds { (2 * k ≤ length stations.now) × (4 * k ≤ length frames.now) × (k ≤ 4096) × (5 * k ≤ length index.old) }
-    requires bound { (1 ≤ get_or index.old 5 0) × (1 ≤ get_or index.old 6 0) × (8 + get_or index.old 5 0 * get_or index.old 6 0 ≤ 4 * k) }
-    requires all { All (λ s. finite_box (box_in (boxes_in k frames.now) s) ≡ true) (occupied (counts_in k stations.now)) }
-    ensures { Indexed (boxes_in k frames.now) (occupied (counts_in k stations.now)) index.new }
+fn fill(placed: &Placed<'_>, index: &mut [u32])
+    requires k_in_bounds { (placed.now.k ≤ 4096) × (5 * placed.now.k ≤ length index.old) }
+    requires bound { (1 ≤ get_or index.old 5 0) × (1 ≤ get_or index.old 6 0) × (8 + get_or index.old 5 0 * get_or index.old 6 0 ≤ 4 * placed.now.k) }
+    requires all { All (λ s. finite_box (box_in (boxes_in placed.now.k placed.now.frames.now) s) ≡ true) (occupied (counts_in placed.now.k placed.now.stations.now)) }
+    ensures { Indexed (boxes_in placed.now.k placed.now.frames.now) (occupied (counts_in placed.now.k placed.now.stations.now)) index.new }
 {
-    let g = grid_of(k, frames, index);
+    let g = grid_of(placed.k, placed.frames, index);
     if !is_finite(g.left) {
         index[0] = 0;
         return;
@@ -85,44 +85,44 @@ fn fill(k: usize, stations: &[u32], frames: &[f64], index: &mut [u32])
         index[0] = 0;
         return;
     }
-    clear_chains(1 + g.columns * g.rows, index);
-    enter(g, k, stations, frames, index);
+    clear_chains(g, index);
+    enter(g, placed, index);
     index[0] = 1;
 }
 
 // Enters the occupied stations' boxes, if there is room for cells; else none.
-fn grow(k: usize, stations: &[u32], frames: &[f64], index: &mut [u32])
-    requires k_in_bounds { (2 * k ≤ length stations.now) × (4 * k ≤ length frames.now) × (k ≤ 4096) × (0 < length index.old) × (5 * k ≤ length index.old) }
-    requires all { All (λ s. finite_box (box_in (boxes_in k frames.now) s) ≡ true) (occupied (counts_in k stations.now)) }
-    ensures { Indexed (boxes_in k frames.now) (occupied (counts_in k stations.now)) index.new }
+fn grow(placed: &Placed<'_>, index: &mut [u32])
+    requires k_in_bounds { (placed.now.k ≤ 4096) × (0 < length index.old) × (5 * placed.now.k ≤ length index.old) }
+    requires all { All (λ s. finite_box (box_in (boxes_in placed.now.k placed.now.frames.now) s) ≡ true) (occupied (counts_in placed.now.k placed.now.stations.now)) }
+    ensures { Indexed (boxes_in placed.now.k placed.now.frames.now) (occupied (counts_in placed.now.k placed.now.stations.now)) index.new }
 {
-    let e = extent_of(k, stations, frames);
+    let e = extent_of(placed);
     let most = 2 * e.count;
     if most == 0 {
         index[0] = 0;
         return;
     }
-    if 4 * k < 8 + most {
+    if 4 * placed.k < 8 + most {
         index[0] = 0;
         return;
     }
-    let c = counts_for(k, frames, e, most);
+    let c = counts_for(placed, e, most);
     put_grid(e, c, index);
-    fill(k, stations, frames, index);
+    fill(placed, index);
 }
 
 // Enters the occupied stations' boxes where `wanted`, if the list has room and all sides are finite; else none.
-pub fn index_boxes(wanted: bool, k: usize, stations: &[u32], frames: &[f64], index: &mut [u32])
-    requires { (2 * k ≤ length stations.now) × (4 * k ≤ length frames.now) × (k ≤ 4096) }
-    ensures { Indexed (boxes_in k frames.now) (occupied (counts_in k stations.now)) index.new }
+pub fn index_boxes(wanted: bool, placed: &Placed<'_>, index: &mut [u32])
+    requires { placed.now.k ≤ 4096 }
+    ensures { Indexed (boxes_in placed.now.k placed.now.frames.now) (occupied (counts_in placed.now.k placed.now.stations.now)) index.new }
 {
     if index.len() == 0 {
         return;
     }
     if wanted {
-        if 5 * k <= index.len() {
-            if all_finite(k, stations, frames) {
-                grow(k, stations, frames, index);
+        if 5 * placed.k <= index.len() {
+            if all_finite(placed) {
+                grow(placed, index);
                 return;
             }
         }

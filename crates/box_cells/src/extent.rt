@@ -1,9 +1,10 @@
 // The extent of boxes, and how many columns and rows their grid has. Only speed depends on it.
-ghost use Rattle.std.specs.Prelude.{◌+◌, ◌*◌, ◌≤◌, length};
+ghost use Rattle.std.specs.Prelude.{◌+◌, ◌*◌, ◌≤◌};
 
 use first_box::box_in;
 use float::small::max;
 use grid::cell;
+use network::lists::Placed;
 
 // The stations whose left-top corners lie farthest to each side, the sums of the boxes' sides, and how many there are.
 #[derive(Clone, Copy)]
@@ -29,15 +30,15 @@ fn lesser(before: usize, x: f64, y: f64, r: usize, s: usize) -> usize
 }
 
 // The extent with station s.
-fn extended(k: usize, frames: &[f64], e: Extent, s: usize) -> Extent
-    requires { (4 * k ≤ length frames.now) × (s ≤ 4095) × (e.left ≤ 4096) × (e.right ≤ 4096) × (e.top ≤ 4096) × (e.bottom ≤ 4096) × (e.count ≤ s) }
+fn extended(placed: &Placed<'_>, e: Extent, s: usize) -> Extent
+    requires { (s ≤ 4095) × (e.left ≤ 4096) × (e.right ≤ 4096) × (e.top ≤ 4096) × (e.bottom ≤ 4096) × (e.count ≤ s) }
     ensures { (result.left ≤ 4096) × (result.right ≤ 4096) × (result.top ≤ 4096) × (result.bottom ≤ 4096) × (result.count ≤ s + 1) }
 {
-    let b = box_in(k, frames, s);
-    let l = box_in(k, frames, e.left);
-    let r = box_in(k, frames, e.right);
-    let t = box_in(k, frames, e.top);
-    let d = box_in(k, frames, e.bottom);
+    let b = box_in(placed.k, placed.frames, s);
+    let l = box_in(placed.k, placed.frames, e.left);
+    let r = box_in(placed.k, placed.frames, e.right);
+    let t = box_in(placed.k, placed.frames, e.top);
+    let d = box_in(placed.k, placed.frames, e.bottom);
     Extent {
         left: lesser(e.count, l.left, b.left, e.left, s),
         right: lesser(e.count, b.left, r.left, e.right, s),
@@ -50,9 +51,10 @@ fn extended(k: usize, frames: &[f64], e: Extent, s: usize) -> Extent
 }
 
 // The extent of the occupied stations' boxes.
-pub(crate) fn extent_of(k: usize, stations: &[u32], frames: &[f64]) -> Extent
-    requires { (2 * k ≤ length stations.now) × (4 * k ≤ length frames.now) × (k ≤ 4096) }
-    ensures { (result.left ≤ 4096) × (result.right ≤ 4096) × (result.top ≤ 4096) × (result.bottom ≤ 4096) × (result.count ≤ k) }
+// `Placed` is lent with more stations too (`sized`, `results`), so the bound of k is asked where it is needed.
+pub(crate) fn extent_of(placed: &Placed<'_>) -> Extent
+    requires { placed.now.k ≤ 4096 }
+    ensures { (result.left ≤ 4096) × (result.right ≤ 4096) × (result.top ≤ 4096) × (result.bottom ≤ 4096) × (result.count ≤ placed.now.k) }
 {
     let mut e = Extent {
         left: 0,
@@ -63,9 +65,9 @@ pub(crate) fn extent_of(k: usize, stations: &[u32], frames: &[f64]) -> Extent
         height: 0.0,
         count: 0,
     };
-    for s in 0..k {
-        if 0 < stations[2 * s] {
-            e = extended(k, frames, e, s);
+    for s in 0..placed.k {
+        if 0 < placed.stations[2 * s] {
+            e = extended(placed, e, s);
         }
     }
     e
@@ -99,14 +101,14 @@ fn counts_over(x: f64, y: f64, w: f64, h: f64, most: usize) -> Counts
 }
 
 // The numbers of columns and rows for boxes of this extent: a cell is at least twice as large as a box in the mean.
-pub(crate) fn counts_for(k: usize, frames: &[f64], e: Extent, most: usize) -> Counts
-    requires { (4 * k ≤ length frames.now) × (e.count ≤ 4096) × (1 ≤ most) × (most ≤ 16384) }
+pub(crate) fn counts_for(placed: &Placed<'_>, e: Extent, most: usize) -> Counts
+    requires { (e.count ≤ 4096) × (1 ≤ most) × (most ≤ 16384) }
     ensures { (1 ≤ result.columns) × (1 ≤ result.rows) × (result.columns * result.rows ≤ most) }
 {
-    let l = box_in(k, frames, e.left);
-    let r = box_in(k, frames, e.right);
-    let t = box_in(k, frames, e.top);
-    let b = box_in(k, frames, e.bottom);
+    let l = box_in(placed.k, placed.frames, e.left);
+    let r = box_in(placed.k, placed.frames, e.right);
+    let t = box_in(placed.k, placed.frames, e.top);
+    let b = box_in(placed.k, placed.frames, e.bottom);
     let n = e.count as f64;
     counts_over(
         r.left - l.left,

@@ -9,31 +9,23 @@ ghost use Rattle.windows.specs.Stages.Window.{finite_box};
 use first_box::box_in;
 use float::small::is_finite;
 use geometry::Box;
+use network::lists::Placed;
 
 // Whether all sides of a box are finite.
+#[tactic(auto, unfolding(windows::specs::Stages::Window::finite_box))]
 fn finite_box(b: Box) -> bool
     ensures { result ≡ finite_box b }
 {
-    if is_finite(b.left) {
-        if is_finite(b.top) {
-            if is_finite(b.right) {
-                return is_finite(b.bottom);
-            }
-            return false;
-        }
-        return false;
-    }
-    false
+    is_finite(b.left) && is_finite(b.top) && is_finite(b.right) && is_finite(b.bottom)
 }
 
 // Whether all sides of the occupied stations' boxes are finite.
-pub(crate) fn all_finite(k: usize, stations: &[u32], frames: &[f64]) -> bool
-    requires { (2 * k ≤ length stations.now) × (4 * k ≤ length frames.now) }
-    ensures { result ≡ true → All (λ s. finite_box (box_in (boxes_in k frames.now) s) ≡ true) (occupied (counts_in k stations.now)) }
+pub(crate) fn all_finite(placed: &Placed<'_>) -> bool
+    ensures { result ≡ true → All (λ s. finite_box (box_in (boxes_in placed.now.k placed.now.frames.now) s) ≡ true) (occupied (counts_in placed.now.k placed.now.stations.now)) }
 {
-    for s in 0..k {
-        if 0 < stations[2 * s] {
-            if !finite_box(box_in(k, frames, s)) {
+    for s in 0..placed.k {
+        if 0 < placed.stations[2 * s] {
+            if !finite_box(box_in(placed.k, placed.frames, s)) {
                 return false;
             }
         }

@@ -5,6 +5,7 @@ use crate::words::{all_same, floats, same};
 use channel::Channel;
 use channel::ends::channel;
 use geometry::Point;
+use neighbours::points::Points;
 use stored::{float_at, word_at};
 
 // The most elements of a list.
@@ -62,9 +63,8 @@ pub(crate) fn nearest_agrees(w: &[u64]) -> bool {
     let mut keys = [0; MOST];
     let mut order = [0; MOST];
     let mut spare = [0; MOST];
-    neighbours::nearest_neighbour_distances(
-        &points, n, &mut out, &mut keys, &mut order, &mut spare,
-    );
+    let points = Points { n, xy: &points };
+    neighbours::nearest_neighbour_distances(&points, &mut out, &mut keys, &mut order, &mut spare);
     all_same(&out[..n], w, 1 + 2 * n)
 }
 
@@ -74,14 +74,8 @@ pub(crate) fn within_agrees(w: &[u64]) -> bool {
     let mut counts = [0; MOST];
     let mut keys = [0; MOST];
     let mut order = [0; MOST];
-    neighbours::neighbour_counts(
-        &points,
-        n,
-        float_at(w, 1),
-        &mut counts,
-        &mut keys,
-        &mut order,
-    );
+    let points = Points { n, xy: &points };
+    neighbours::neighbour_counts(&points, float_at(w, 1), &mut counts, &mut keys, &mut order);
     counts[..n].iter().enumerate().all(|(i, count)| u64::from(*count) == word_at(w, 2 + 2 * n + i))
 }
 

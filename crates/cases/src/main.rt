@@ -12,6 +12,7 @@ mod words;
 
 use std::io;
 use std::io::Read;
+use words::{WORD, words};
 
 // How much of the input is read.
 const MOST_BYTES: u64 = 524288;
@@ -33,8 +34,9 @@ impl Tally {
 
 // Whether the test on one line agrees; one whose name is unknown does not.
 fn agrees(line: &[u8]) -> bool {
-    let mut w = [0; 32];
-    let count = stored::words(line.get(4..).unwrap_or(&[]), &mut w);
+    let digits = line.get(4..).unwrap_or(&[]);
+    let w = words(digits);
+    let count = digits.len().div_ceil(WORD);
     let name = line.get(..3).unwrap_or(&[]);
     match name {
         b"hit" => plane::hit_agrees(&w),

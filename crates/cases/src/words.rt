@@ -1,8 +1,17 @@
 // Numbers of a test, compared with its words and taken from them.
 use float::bits::of_bits;
-use stored::{float_at, word_at};
+use stored::{float_at, padded, word_at};
+
+// How far one word of a line begins after another: sixteen digits and a space.
+pub(crate) const WORD: usize = 17;
+
+// The first 32 words of a line's digits, 0 past their end; a word that lacks digits is read as with zeros behind it.
+pub(crate) fn words(digits: &[u8]) -> [u64; 32] {
+    std::array::from_fn(|i| padded(digits.get(WORD * i..).unwrap_or(&[])))
+}
 
 // Whether x has the pattern `bits`, or both are NaNs.
+// The library has no such equality: `==` takes +0 for -0 and no NaN for another, and bits tell NaNs apart.
 pub(crate) fn same(x: f64, bits: u64) -> bool {
     if x.is_nan() {
         of_bits(bits).is_nan()

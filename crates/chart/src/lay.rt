@@ -7,6 +7,7 @@ ghost use Rattle.chart.specs.Stages.Laid.{Laid};
 
 use exits::write_exits;
 use measures::Measures;
+use network::lists::Bounded;
 use options::{Options, search_of};
 use plan::{interiors, settle};
 use spans::spans;
@@ -19,16 +20,10 @@ fn search_in(o: Options) -> usize
 }
 
 // Lays a drawing out: rows, sizes, places and boxes of its stations, and the exits of its lines. Answers the unit.
+// Lists that are written are no struct: behind `&mut` others could stand in it, so each contract would have to say that it keeps them and their lengths. k, the number of stations, is counted once by the caller: beside lists that are written no struct can hold it.
 pub(crate) fn lay(
     o: Options,
-    sub: &[u32],
-    kv: &[u64],
-    from: &[i64],
-    to: &[i64],
-    service: &[u8],
-    xy: &[f64],
-    corners: &[u32],
-    twins: &[u32],
+    net: &Bounded<'_>,
     k: usize,
     stations: &mut [u32],
     buses: &mut [u32],
@@ -41,24 +36,32 @@ pub(crate) fn lay(
     frames: &mut [f64],
     path: &mut [f64],
 ) -> f64
-    requires k_value { (k ≡ station_count sub.now) × (length sub.now ≤ 4096) × (k ≤ length sub.now) × (length from.now ≤ 8192) × (length kv.now ≡ length sub.now) × (search_of o.search ≤ 20) }
-    requires sub_in_bounds { (2 * length sub.now ≤ length stations.old) × (3 * length sub.now ≤ length buses.old) × (4 * length from.now ≤ length ends.old) × (2 * length sub.now + 4 * length from.now ≤ length places.old) × (3 * length sub.now ≤ length blocks.old) × (4 * length sub.now ≤ length frames.old) × (2 * length sub.now ≤ length path.old) }
-    requires from_in_bounds { (length sub.now + 2 * length from.now ≤ length sorted.old) × (length sub.now + 2 * length from.now ≤ length spare.old) × (length sub.now + 2 * length from.now ≤ length keys.old) }
-    ensures { Laid o (network sub.now kv.now from.now to.now service.now xy.now corners.now twins.now) k result stations.new buses.new ends.new blocks.new places.new frames.new }
+    requires k_value { (k ≡ station_count net.now.lists.sub.now) × (k ≤ length net.now.lists.sub.now) × (length net.now.lists.kv.now ≡ length net.now.lists.sub.now) × (search_of o.search ≤ 20) }
+    requires sub_in_bounds { (2 * length net.now.lists.sub.now ≤ length stations.old) × (3 * length net.now.lists.sub.now ≤ length buses.old) × (4 * length net.now.lists.from.now ≤ length ends.old) × (2 * length net.now.lists.sub.now + 4 * length net.now.lists.from.now ≤ length places.old) × (3 * length net.now.lists.sub.now ≤ length blocks.old) × (4 * length net.now.lists.sub.now ≤ length frames.old) × (2 * length net.now.lists.sub.now ≤ length path.old) }
+    requires from_in_bounds { (length net.now.lists.sub.now + 2 * length net.now.lists.from.now ≤ length sorted.old) × (length net.now.lists.sub.now + 2 * length net.now.lists.from.now ≤ length spare.old) × (length net.now.lists.sub.now + 2 * length net.now.lists.from.now ≤ length keys.old) }
+    ensures { Laid o (network net.now.lists.sub.now net.now.lists.kv.now net.now.lists.from.now net.now.lists.to.now net.now.lists.service.now net.now.lists.xy.now net.now.lists.mesh.corners.now net.now.lists.mesh.twins.now) k result stations.new buses.new ends.new blocks.new places.new frames.new }
 {
     let unit = interiors(
-        o, sub, kv, from, to, service, xy, k, stations, buses, ends, sorted, spare, keys, places,
-        blocks, frames, path,
+        o, net, k, stations, buses, ends, sorted, spare, keys, places, blocks, frames, path,
     );
-    spans(sub, from, to, service, ends, buses);
+    spans(net, ends, buses);
     let search = search_in(o);
     let gaps = o.gaps;
     let measures = Measures { unit, gaps };
     settle(
-        sub, kv, k, measures, search, stations, sorted, spare, keys, blocks, places, frames,
+        net.lists.sub,
+        net.lists.kv,
+        k,
+        measures,
+        search,
+        stations,
+        sorted,
+        spare,
+        keys,
+        blocks,
+        places,
+        frames,
     );
-    write_exits(
-        sub, from, to, service, measures, ends, blocks, frames, places,
-    );
+    write_exits(net, measures, ends, blocks, frames, places);
     unit
 }

@@ -16,23 +16,18 @@ ghost use Rattle.chart.specs.Stages.Charted.{Charted};
 use crate::lay::lay;
 use box_cells::build::index_boxes;
 use measures::Measures;
+use network::lists::{Bounded, Network, Placed};
 use options::Options;
 use refusals::Refusal;
 use routes::route_lines;
 use sized::ill_sized;
 
 // Routes the lines of a drawing that is laid out, unless its sizes are ill, and answers its unit; the crossing list holds `room` crossings.
+// Lists that are written are no struct: behind `&mut` others could stand in it, so each contract would have to say that it keeps them and their lengths.
 fn route(
     o: Options,
     ill: bool,
-    sub: &[u32],
-    kv: &[u64],
-    from: &[i64],
-    to: &[i64],
-    service: &[u8],
-    xy: &[f64],
-    corners: &[u32],
-    twins: &[u32],
+    net: &Bounded<'_>,
     k: usize,
     unit: f64,
     room: usize,
@@ -50,12 +45,12 @@ fn route(
     along: &mut [f64],
     ways: &mut [f64],
 ) -> Result<f64, Refusal>
-    requires k_value { (k ≡ station_count sub.now) × (length from.now ≤ 8192) × (k ≤ 4096) × (2 * k ≤ length stations.old) × (2 * k ≤ length places.now) × (4 * k ≤ length frames.now) × (2 * k ≤ length path.old) × (length sub.now ≤ 4096) }
+    requires k_value { (k ≡ station_count net.now.lists.sub.now) × (k ≤ 4096) × (2 * k ≤ length stations.old) × (2 * k ≤ length places.now) × (4 * k ≤ length frames.now) × (2 * k ≤ length path.old) }
     requires room_in_bounds { (3 * room ≤ length numbers.old) × (room ≤ length along.old) × (2 * room ≤ length ways.old) × (room ≤ length sorted.old) × (room ≤ length spare.old) × (room ≤ length keys.old) }
-    requires corners_in_bounds { (4 * length from.now + 4 * min (length corners.now) 24576 + 4 ≤ length ends.old) × (min (length corners.now) 24576 ≤ length sorted.old) × (min (length corners.now) 24576 ≤ length spare.old) × (min (length corners.now) 24576 ≤ length keys.old) × (2 * k + 3 * min (length corners.now) 24576 + 16 ≤ length path.old) }
+    requires corners_in_bounds { (4 * length net.now.lists.from.now + 4 * min (length net.now.lists.mesh.corners.now) 24576 + 4 ≤ length ends.old) × (min (length net.now.lists.mesh.corners.now) 24576 ≤ length sorted.old) × (min (length net.now.lists.mesh.corners.now) 24576 ≤ length spare.old) × (min (length net.now.lists.mesh.corners.now) 24576 ≤ length keys.old) × (2 * k + 3 * min (length net.now.lists.mesh.corners.now) 24576 + 16 ≤ length path.old) }
     requires ill_value { ill ≡ ill_sized (boxes_in k frames.now) (occupied (counts_in k stations.old)) }
-    requires laid { Laid o (network sub.now kv.now from.now to.now service.now xy.now corners.now twins.now) k unit stations.old buses.now ends.old blocks.now places.now frames.now }
-    ensures { Charted o (network sub.now kv.now from.now to.now service.now xy.now corners.now twins.now) k room result stations.new buses.now ends.new blocks.now places.now frames.now path.new ways.new }
+    requires laid { Laid o (network net.now.lists.sub.now net.now.lists.kv.now net.now.lists.from.now net.now.lists.to.now net.now.lists.service.now net.now.lists.xy.now net.now.lists.mesh.corners.now net.now.lists.mesh.twins.now) k unit stations.old buses.now ends.old blocks.now places.now frames.now }
+    ensures { Charted o (network net.now.lists.sub.now net.now.lists.kv.now net.now.lists.from.now net.now.lists.to.now net.now.lists.service.now net.now.lists.xy.now net.now.lists.mesh.corners.now net.now.lists.mesh.twins.now) k room result stations.new buses.now ends.new blocks.now places.now frames.now path.new ways.new }
 {
     if ill {
         return Err(Refusal::IllSized);
@@ -65,12 +60,7 @@ fn route(
     route_lines(
         o.route_iterations,
         room,
-        sub,
-        from,
-        to,
-        service,
-        corners,
-        twins,
+        net,
         measures,
         k,
         stations,
@@ -89,17 +79,24 @@ fn route(
     Ok(unit)
 }
 
+// Enters the boxes of k stations in `sorted` where it is wanted.
+fn enter<'a>(wanted: bool, k: usize, stations: &'a [u32], frames: &'a [f64], sorted: &mut [u32])
+    requires { (k ≤ 4096) × (2 * k ≤ length stations.now) × (4 * k ≤ length frames.now) }
+    ensures { Indexed (boxes_in k frames.now) (occupied (counts_in k stations.now)) sorted.new }
+{
+    let placed = Placed {
+        k,
+        stations,
+        frames,
+    };
+    index_boxes(wanted, &placed, sorted);
+}
+
 // Lays a drawing out, routes its lines, and enters its boxes in `sorted` where lines are led round them. Answers the unit, or 8, 9 or 10.
+// Lists that are written are no struct: behind `&mut` others could stand in it, so each contract would have to say that it keeps them and their lengths.
 pub fn chart(
     o: Options,
-    sub: &[u32],
-    kv: &[u64],
-    from: &[i64],
-    to: &[i64],
-    service: &[u8],
-    xy: &[f64],
-    corners: &[u32],
-    twins: &[u32],
+    net: &Bounded<'_>,
     k: usize,
     room: usize,
     stations: &mut [u32],
@@ -116,23 +113,26 @@ pub fn chart(
     along: &mut [f64],
     ways: &mut [f64],
 ) -> Result<f64, Refusal>
-    requires k_value { (k ≡ station_count sub.now) × (length sub.now ≤ 4096) × (k ≤ length sub.now) × (length from.now ≤ 8192) × (length kv.now ≡ length sub.now) × (search_of o.search ≤ 20) }
-    requires sub_in_bounds { (2 * length sub.now ≤ length stations.old) × (3 * length sub.now ≤ length buses.old) × (4 * length from.now ≤ length ends.old) × (2 * length sub.now + 4 * length from.now ≤ length places.old) × (3 * length sub.now ≤ length blocks.old) × (4 * length sub.now ≤ length frames.old) × (2 * length sub.now ≤ length path.old) }
-    requires from_in_bounds { (length sub.now + 2 * length from.now ≤ length sorted.old) × (length sub.now + 2 * length from.now ≤ length spare.old) × (length sub.now + 2 * length from.now ≤ length keys.old) }
+    requires k_value { (k ≡ station_count net.now.lists.sub.now) × (k ≤ length net.now.lists.sub.now) × (length net.now.lists.kv.now ≡ length net.now.lists.sub.now) × (search_of o.search ≤ 20) }
+    requires sub_in_bounds { (2 * length net.now.lists.sub.now ≤ length stations.old) × (3 * length net.now.lists.sub.now ≤ length buses.old) × (4 * length net.now.lists.from.now ≤ length ends.old) × (2 * length net.now.lists.sub.now + 4 * length net.now.lists.from.now ≤ length places.old) × (3 * length net.now.lists.sub.now ≤ length blocks.old) × (4 * length net.now.lists.sub.now ≤ length frames.old) × (2 * length net.now.lists.sub.now ≤ length path.old) }
+    requires from_in_bounds { (length net.now.lists.sub.now + 2 * length net.now.lists.from.now ≤ length sorted.old) × (length net.now.lists.sub.now + 2 * length net.now.lists.from.now ≤ length spare.old) × (length net.now.lists.sub.now + 2 * length net.now.lists.from.now ≤ length keys.old) }
     requires room_in_bounds { (3 * room ≤ length numbers.old) × (room ≤ length along.old) × (2 * room ≤ length ways.old) × (room ≤ length sorted.old) × (room ≤ length spare.old) × (room ≤ length keys.old) }
-    requires corners_in_bounds { (4 * length from.now + 4 * min (length corners.now) 24576 + 4 ≤ length ends.old) × (min (length corners.now) 24576 ≤ length sorted.old) × (min (length corners.now) 24576 ≤ length spare.old) × (min (length corners.now) 24576 ≤ length keys.old) × (2 * length sub.now + 3 * min (length corners.now) 24576 + 16 ≤ length path.old) }
-    ensures charted { Charted o (network sub.now kv.now from.now to.now service.now xy.now corners.now twins.now) k room result stations.new buses.new ends.new blocks.new places.new frames.new path.new ways.new }
+    requires corners_in_bounds { (4 * length net.now.lists.from.now + 4 * min (length net.now.lists.mesh.corners.now) 24576 + 4 ≤ length ends.old) × (min (length net.now.lists.mesh.corners.now) 24576 ≤ length sorted.old) × (min (length net.now.lists.mesh.corners.now) 24576 ≤ length spare.old) × (min (length net.now.lists.mesh.corners.now) 24576 ≤ length keys.old) × (2 * length net.now.lists.sub.now + 3 * min (length net.now.lists.mesh.corners.now) 24576 + 16 ≤ length path.old) }
+    ensures charted { Charted o (network net.now.lists.sub.now net.now.lists.kv.now net.now.lists.from.now net.now.lists.to.now net.now.lists.service.now net.now.lists.xy.now net.now.lists.mesh.corners.now net.now.lists.mesh.twins.now) k room result stations.new buses.new ends.new blocks.new places.new frames.new path.new ways.new }
     ensures indexed { Indexed (boxes_in k frames.new) (occupied (counts_in k stations.new)) sorted.new }
 {
     let unit = lay(
-        o, sub, kv, from, to, service, xy, corners, twins, k, stations, buses, ends, sorted, spare,
-        keys, places, blocks, frames, path,
+        o, net, k, stations, buses, ends, sorted, spare, keys, places, blocks, frames, path,
     );
-    let ill = ill_sized(k, stations, frames);
+    let ill = ill_sized(&Placed {
+        k,
+        stations,
+        frames,
+    });
     let course = route(
-        o, ill, sub, kv, from, to, service, xy, corners, twins, k, unit, room, stations, buses,
-        ends, sorted, spare, keys, places, blocks, frames, path, numbers, along, ways,
+        o, ill, net, k, unit, room, stations, buses, ends, sorted, spare, keys, places, blocks,
+        frames, path, numbers, along, ways,
     );
-    index_boxes(0 < o.route_iterations, k, stations, frames, sorted);
+    enter(0 < o.route_iterations, k, stations, frames, sorted);
     course
 }

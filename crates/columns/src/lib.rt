@@ -20,16 +20,18 @@ fn falling_keys(kv: &[u64], keys: &mut [u64])
     }
 }
 
-fn put_columns(places: &[u32], n: usize, buses: &mut [u32])
-    requires { (n ≤ length places.now) × (3 * n ≤ length buses.old) }
-    ensures { columns_in n buses.new ≡ take n places.now }
+// Puts each bus's column beside its bus.
+fn put_columns(places: &[u32], buses: &mut [u32])
+    requires { 3 * length places.now ≤ length buses.old }
+    ensures { columns_in (length places.now) buses.new ≡ places.now }
 {
-    for i in 0..n {
+    for i in 0..places.len() {
         buses[3 * i] = places[i];
     }
 }
 
 // Each bus's column, beside its bus; the counters of the k stations are used, their bus counts stay. The other lists are lent for the work.
+// Lists that are written are no struct: behind `&mut` others could stand in it, so each contract would have to say that it keeps them and their lengths.
 pub fn columns(
     sub: &[u32],
     kv: &[u64],
@@ -47,5 +49,5 @@ pub fn columns(
 {
     falling_keys(kv, keys);
     rank_in_stations(sub, sub.len(), k, keys, stations, sorted, spare);
-    put_columns(spare, sub.len(), buses);
+    put_columns(&spare[..sub.len()], buses);
 }

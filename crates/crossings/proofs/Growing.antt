@@ -7,7 +7,7 @@ use native.Mathlib.Omega.{arith}
 use native.Mathlib.Nat.{add-zero, zero-add, add-suc, suc-add}
 use native.Mathlib.Numerals.{add-one}
 use lib.ListN.{length, get_or, set, take, length-set, length-append}
-use lib.Seq.{take-suc, take-suc-set}
+use lib.Seq.{take-suc, take-suc-set, take_all}
 use lib.Ieee.{Float}
 use borrow.Author.Tests.{eq-eqb, ne_eqb}
 use Rattle.order.specs.Order.{pick}
@@ -175,6 +175,9 @@ module _ (m : ℕ) (corners : List ℕ) (points : List Float) (va vb e : ℕ) (t
       subst (λ (n : ℕ). Grown m corners points (up_to (i + 1)) a (stock k' n ends' numbers' places')) z
       (grown_more i h a (stock k (x + i) ends numbers places) (stock k' (x + i + 1) ends' numbers' places') l q p f)
 
-  pub trail_end : (i n x k : ℕ) (a : Stock) (ends numbers : List ℕ) (places : List Float) → i ≡ n
-      → Grown m corners points (up_to i) a (stock k (x + i) ends numbers places) → Grown m corners points (up_to n) a (stock k (x + n) ends numbers places)
-  trail_end i n x k a ends numbers places e p = subst (λ (j : ℕ). Grown m corners points (up_to j) a (stock k (x + j) ends numbers places)) e p
+  pub trail_end : (i x k : ℕ) (a : Stock) (ends numbers : List ℕ) (places : List Float) → i ≡ length trail
+      → Grown m corners points (up_to i) a (stock k (x + i) ends numbers places)
+      → Grown m corners points (λ S r. cross_all S va vb e 0 trail r) a (stock k (x + length trail) ends numbers places)
+  trail_end i x k a ends numbers places q p =
+      subst (λ (t : List ℕ). Grown m corners points (λ S r. cross_all S va vb e 0 t r) a (stock k (x + length trail) ends numbers places)) (take_all (length trail) trail (omega arith))
+      (subst (λ (j : ℕ). Grown m corners points (up_to j) a (stock k (x + j) ends numbers places)) q p)

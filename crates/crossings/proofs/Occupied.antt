@@ -187,9 +187,6 @@ module _ (k : ℕ) (first : List ℕ) where
         ap (λ (n : ℕ). order_in n now) (sym (count_all k first) ∙ ap (passed_count k first) (sym e) ∙ sym v.many)
         ∙ v.order ∙ ap (passed k first) e ∙ passed_all k first
 
-pub order_as : (r n : ℕ) (l o : List ℕ) → r ≡ n → order_in n l ≡ o → order_in r l ≡ o
-order_as r n l o e h = ap (λ (k : ℕ). order_in k l) e ∙ h
-
 -- what `occupied_corners` writes rises
 pub order_rises : (c : ℕ) (stations counts : List ℕ) → order_in c stations ≡ occupied counts → Rising (order_in c stations)
 order_rises c stations counts e = subst Rising (sym e) (occupied_rises counts)

@@ -6,9 +6,19 @@ ghost use Rattle.units.specs.Unit.{coordinates};
 ghost use Rattle.crossings.specs.Route.{vertex_of};
 ghost use Rattle.crossings.specs.Stages.Store.{Rising};
 
+use network::lists::Stations;
 use order::at;
 
-// Writes the occupied stations, in order, as the second of two numbers each.
+// The corners of a mesh: the c occupied stations, in order, each the second of two numbers.
+#[derive(Clone, Copy)]
+pub struct Vertices<'a> {
+    pub c: usize,
+    pub stations: &'a [u32],
+    pub ghost few: { c ≤ 4096 },
+    pub ghost rising: { Rising (order_in c stations.now) },
+}
+
+// Writes the occupied stations, in order, as the second of two numbers each. The bounds of k are asked here and in the two functions that lend the list on to be written: a struct that held it would have to keep them true at each write.
 fn note_occupied(k: usize, stations: &mut [u32])
     requires { (k ≤ 4096) × (2 * k ≤ length stations.old) }
     ensures stations_unchanged { counts_in k stations.new ≡ counts_in k stations.old }
@@ -32,29 +42,36 @@ pub fn occupied_corners(k: usize, stations: &mut [u32], places: &[f64], path: &m
     ensures path_after { take (2 * result) path.new ≡ coordinates (points_in k places.now) (occupied (counts_in k stations.old)) }
     ensures upper_bound { result ≤ k }
 {
-    let c = units::coordinates(k, stations, places, path);
+    let c = units::coordinates(
+        &Stations {
+            k,
+            counts: stations,
+        },
+        places,
+        path,
+    );
     note_occupied(k, stations);
     c
 }
 
-// Where station s stands among the c occupied ones, by halving; c where it isn't one.
-pub fn corner_of(c: usize, stations: &[u32], s: usize) -> usize
-    requires { (c ≤ 4096) × Rising (order_in c stations.now) }
-    ensures value { result ≡ vertex_of s (order_in c stations.now) }
-    ensures upper_bound { result ≤ c }
+// Where station s stands among the occupied ones, by halving; their number where it isn't one.
+pub fn corner_of(vertices: &Vertices<'_>, s: usize) -> usize
+    ensures value { result ≡ vertex_of s (order_in vertices.now.c vertices.now.stations.now) }
+    ensures upper_bound { result ≤ vertices.now.c }
 {
     // no `partition_point`: the stations are every second number of the list
+    let c = vertices.c;
     let mut lo = 0;
     let mut hi = c;
     while lo < hi {
         let mid = lo + (hi - lo) / 2;
-        if (at(stations, 2 * mid + 1) as usize) < s {
+        if (at(vertices.stations, 2 * mid + 1) as usize) < s {
             lo = mid + 1;
         } else {
             hi = mid;
         }
     }
-    if lo < c && at(stations, 2 * lo + 1) as usize == s {
+    if lo < c && at(vertices.stations, 2 * lo + 1) as usize == s {
         lo
     } else {
         c

@@ -1,7 +1,6 @@
 // The crossings of one walk, stored one after another.
-ghost use Rattle.std.specs.Prelude.{◌≡◌, ℕ, ◌+◌, ◌*◌, ◌≤◌, ◌<◌, length, get_or, take, set};
+ghost use Rattle.std.specs.Prelude.{◌≡◌, ℕ, ◌+◌, ◌*◌, ◌≤◌, ◌<◌, length, get_or, set};
 ghost use Rattle.mesh.specs.Mesh.{low_at, high_at};
-ghost use Rattle.half_edges.specs.Round.{round_of};
 ghost use Rattle.crossings.specs.Route.{cross, cross_all};
 ghost use Rattle.crossings.specs.Stages.Store.{place_on, stock, Grown};
 
@@ -10,43 +9,36 @@ use crossing::line_param;
 use geometry::point_at;
 use mesh::end_at;
 use order::at;
+use walk::trace::Line;
 
 // The lower corner of half-edge h.
 #[tactic(auto, unfolding(mesh::specs::Mesh::low_at))]
-pub fn low_at(corners: &[u32], h: usize) -> usize
-    requires { h < 0x1_0000_0000 }
-    ensures value { result ≡ low_at corners.now h }
-    ensures upper_bound { result < 0x1_0000_0000 }
+pub fn low_at(corners: &[u32], h: u32) -> u32
+    ensures { result ≡ low_at corners.now h }
 {
-    let a = at(corners, h) as usize;
-    let b = end_at(corners, h) as usize;
-    if a <= b { a } else { b }
+    at(corners, h as usize).min(end_at(corners, h as usize))
 }
 
 // The higher corner of half-edge h.
 #[tactic(auto, unfolding(mesh::specs::Mesh::high_at))]
-pub fn high_at(corners: &[u32], h: usize) -> usize
-    requires { h < 0x1_0000_0000 }
-    ensures value { result ≡ high_at corners.now h }
-    ensures upper_bound { result < 0x1_0000_0000 }
+pub fn high_at(corners: &[u32], h: u32) -> u32
+    ensures { result ≡ high_at corners.now h }
 {
-    let a = at(corners, h) as usize;
-    let b = end_at(corners, h) as usize;
-    if a <= b { b } else { a }
+    at(corners, h as usize).max(end_at(corners, h as usize))
 }
 
-// Where the line from corner va to corner vb crosses half-edge h, 1/2 where they are parallel.
-fn place_on(corners: &[u32], points: &[f64], va: usize, vb: usize, h: usize) -> f64
-    requires { (va < 0x1_0000_0000) × (vb < 0x1_0000_0000) × (h < 0x1_0000_0000) }
-    ensures { result ≡ place_on corners.now points.now va vb h }
+// Where the line crosses half-edge h, 1/2 where they are parallel.
+#[tactic(auto, unfolding(crate::specs::Stages::Store::place_on))]
+fn place_on(line: &Line<'_>, h: u32) -> f64
+    ensures { result ≡ place_on line.now.turned.mesh.corners.now line.now.points.now line.now.start line.now.end h }
 {
-    let a = low_at(corners, h);
-    let b = high_at(corners, h);
+    let a = low_at(line.turned.mesh.corners, h) as usize;
+    let b = high_at(line.turned.mesh.corners, h) as usize;
     line_param(
-        point_at(points, va),
-        point_at(points, vb),
-        point_at(points, a),
-        point_at(points, b),
+        point_at(line.points, line.start as usize),
+        point_at(line.points, line.end as usize),
+        point_at(line.points, a),
+        point_at(line.points, b),
     )
     .unwrap_or(0.5)
 }
@@ -62,74 +54,49 @@ fn put_crossing(x: usize, c: u32, e: u32, t: f64, numbers: &mut [u32], places: &
     places[x] = t;
 }
 
-// Stores crossing x, of branch e with half-edge h; how many channels there are then, k before.
+// Stores crossing x, of branch e's line with half-edge h; how many channels there are then, k before.
 fn store_crossing(
-    corners: &[u32],
-    points: &[f64],
-    around: &[u32],
-    m: usize,
-    va: usize,
-    vb: usize,
-    e: usize,
-    h: usize,
+    line: &Line<'_>,
+    m: u32,
+    e: u32,
+    h: u32,
     x: usize,
     k: usize,
     ends: &mut [u32],
     numbers: &mut [u32],
     places: &mut [f64],
 ) -> usize
-    requires m_bound { (m ≤ 8192) × (length corners.now ≤ 24576) × (va < 0x1_0000_0000) × (vb < 0x1_0000_0000) × (e < 0x1_0000_0000) × (k < 0xffff_ffff) × (h < length corners.now) × (4 * (m + length corners.now) + 4 ≤ length ends.old) × (3 * x + 1 < length numbers.old) × (x < length places.old) }
-    requires around_value { take (length corners.now) around.now ≡ round_of corners.now }
-    ensures by_index { (j : ℕ) → Grown m corners.now points.now (λ S s. cross S va vb e j h s) (stock k x ends.old numbers.old places.old) (stock result (x + 1) ends.new numbers.new places.new) }
+    requires { (k < 0xffff_ffff) × (h < length line.now.turned.mesh.corners.now) × (4 * (m + length line.now.turned.mesh.corners.now) + 4 ≤ length ends.old) × (3 * x + 1 < length numbers.old) × (x < length places.old) }
+    ensures by_index { (j : ℕ) → Grown m line.now.turned.mesh.corners.now line.now.points.now (λ S s. cross S line.now.start line.now.end e j h s) (stock k x ends.old numbers.old places.old) (stock result (x + 1) ends.new numbers.new places.new) }
     ensures upper_bound { result ≤ k + 1 }
 {
-    let t = place_on(corners, points, va, vb, h);
-    let c = channel_for(corners, around, m, h, k, ends);
-    put_crossing(x, c as u32, e as u32, t, numbers, places);
+    let t = place_on(line, h);
+    let c = channel_for(&line.turned, m, h, k, ends);
+    put_crossing(x, c as u32, e, t, numbers, places);
     count_with(k, c)
 }
 
-// Stores the crossings of branch e with the first n half-edges of a trail, from number x on; how many channels there are then, k before.
+// Stores the crossings of branch e's line with the half-edges of a trail, from number x on; how many channels there are then, k before.
 pub fn store_trail(
-    corners: &[u32],
-    points: &[f64],
-    around: &[u32],
-    m: usize,
-    va: usize,
-    vb: usize,
-    e: usize,
+    line: &Line<'_>,
+    m: u32,
+    e: u32,
     trail: &[u32],
-    n: usize,
     x: usize,
     k: usize,
     ends: &mut [u32],
     numbers: &mut [u32],
     places: &mut [f64],
 ) -> usize
-    requires m_bound { (m ≤ 8192) × (length corners.now ≤ 24576) × (va < 0x1_0000_0000) × (vb < 0x1_0000_0000) × (e < 0x1_0000_0000) × (k ≤ x) × (x + n < 0xffff_ffff) × (n ≤ length trail.now) × (4 * (m + length corners.now) + 4 ≤ length ends.old) × (3 * (x + n) ≤ length numbers.old) × (x + n ≤ length places.old) }
-    requires around_value { take (length corners.now) around.now ≡ round_of corners.now }
-    requires by_index { (i : ℕ) → i < n → get_or trail.now i 0 < length corners.now }
-    ensures grown { Grown m corners.now points.now (λ S s. cross_all S va vb e 0 (take n trail.now) s) (stock k x ends.old numbers.old places.old) (stock result (x + n) ends.new numbers.new places.new) }
-    ensures upper_bound { result ≤ x + n }
+    requires x_bound { (k ≤ x) × (x + length trail.now < 0xffff_ffff) × (4 * (m + length line.now.turned.mesh.corners.now) + 4 ≤ length ends.old) × (3 * (x + length trail.now) ≤ length numbers.old) × (x + length trail.now ≤ length places.old) }
+    requires by_index { (i : ℕ) → i < length trail.now → get_or trail.now i 0 < length line.now.turned.mesh.corners.now }
+    ensures grown { Grown m line.now.turned.mesh.corners.now line.now.points.now (λ S s. cross_all S line.now.start line.now.end e 0 trail.now s) (stock k x ends.old numbers.old places.old) (stock result (x + length trail.now) ends.new numbers.new places.new) }
+    ensures upper_bound { result ≤ x + length trail.now }
 {
     let mut known = k;
-    for i in 0..n {
-        let h = at(trail, i) as usize;
-        known = store_crossing(
-            corners,
-            points,
-            around,
-            m,
-            va,
-            vb,
-            e,
-            h,
-            x + i,
-            known,
-            ends,
-            numbers,
-            places,
-        );
+    for i in 0..trail.len() {
+        let h = at(trail, i);
+        known = store_crossing(line, m, e, h, x + i, known, ends, numbers, places);
     }
     known
 }

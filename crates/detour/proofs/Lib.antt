@@ -2,6 +2,4 @@
 pub mod Shifting
 pub mod Detours
 pub mod DetourSizes
-pub mod Lending
 pub mod Turning
-pub mod Again

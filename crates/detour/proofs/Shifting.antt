@@ -1,59 +1,73 @@
 -- Points of a path moved one up, one put in between, and the path as a list of points after it. Assumes nothing.
-use mathlib.Core.Path.{◌≡◌, refl, sym, ap, ◌∙◌, subst}
-use mathlib.Core.Logic.{⊎_elim}
-use mathlib.Core.List.{List, [], ◌∷◌, ◌++◌}
+use mathlib.Core.Path.{◌≡◌, refl, sym, ap, ◌∙◌}
+use mathlib.Core.List.{List, [], ◌∷◌, ◌++◌, append_assoc}
 use Prim.Native.Nat.{ℕ, zero, suc, ◌+◌, ◌-◌, ◌*◌, ◌≤◌, ◌<◌}
 use native.Mathlib.Omega.{arith}
 use native.Mathlib.Numerals.{add-one}
-use lib.ListN.{length, get_or, take, set}
-use lib.Seq.{take-set-le, take-take, get_or-take}
+use lib.ListN.{length, get_or, take, drop, set, get_or-append, length-drop}
+use lib.Seq.{take-set-le, take-take, take-append-le, get_or-take, get_or-drop, get_or-append_right, length-take-le, length-paste}
 use lib.Ieee.{Float, nan}
 use Rattle.order.specs.Table.{table_from}
-use Rattle.order.proofs.Merging.{le_or_lt}
 use Rattle.order.proofs.Tables.{length_table_from}
 use Rattle.geometry.specs.declared.Point.{Point}
 use Rattle.geometry.specs.Plane.{point, point_at}
 use Rattle.network.proofs.Views.{put_point, point_same, point_other}
-use Rattle.detour.specs.Stages.Paths.{path_in, Shifted, PutIn}
+use Rattle.detour.specs.Stages.Paths.{path_in, PutIn}
 
--- ---- moving
-pub shift_start : (i end : ℕ) (l : List Float) → Shifted i end end l l
-shift_start i end l = record { before = refl; kept = λ m h. refl; moved = λ m h k. absurd (omega arith) }
+-- ---- putting a point in: the numbers from 2 i to before 2 e are copied two places up, and c is written where they were
+module _ (i end : ℕ) (c : Point) (was : List Float) (h : i ≤ end) (room : 2 * end + 1 < length was) where
+  abbrev up : List Float
+  up = take (2 * end - 2 * i) (drop (2 * i) was)
 
-put_before : (i j : ℕ) (l : List Float) (x y : Float) → i ≤ j → take (2 * i) (put_point l j x y) ≡ take (2 * i) l
-put_before i j l x y h =
-    take-set-le (2 * i) (set l (2 * j) x) (2 * j + 1) y (omega arith) ∙ take-set-le (2 * i) l (2 * j) x (omega arith)
+  abbrev rest : List Float
+  rest = up ++ drop (2 * i + 2 + (2 * end - 2 * i)) was
 
-module _ (i j end : ℕ) (was now : List Float) (p : Point) (h : i < j) (l : 2 * j + 1 < length now) (e : p ≡ point_at now (j - 1)) (S : Shifted i j end was now) where
-  abbrev next : List Float
-  next = put_point now j p.x p.y
+  abbrev copied : List Float
+  copied = (take (2 * i + 2) was ++ up) ++ drop (2 * i + 2 + (2 * end - 2 * i)) was
 
-  moved_next : (m : ℕ) → j - 1 ≤ m → m < end → point_at next (m + 1) ≡ point_at was m
-  moved_next m q r = ⊎_elim
-      (λ (k : j ≤ m). point_other now j (m + 1) p.x p.y (λ z. omega arith) ∙ S.moved m k r)
-      (λ (k : m < j).
-      let f : m + 1 ≡ j = omega arith in
-      let g : m ≡ j - 1 = omega arith in
-      ap (point_at next) f ∙ point_same now j p.x p.y l ∙ e ∙ S.kept (j - 1) (omega arith) ∙ ap (point_at was) (sym g))
-      (le_or_lt j m)
+  in_two : copied ≡ take (2 * i + 2) was ++ rest
+  in_two = append_assoc (take (2 * i + 2) was) up (drop (2 * i + 2 + (2 * end - 2 * i)) was)
 
-  pub shift_more : Shifted i (j - 1) end was next
-  shift_more = record {
-    before = put_before i j now p.x p.y (omega arith) ∙ S.before;
-    kept = λ m q. point_other now j m p.x p.y (λ z. omega arith) ∙ S.kept m (omega arith);
-    moved = moved_next;
+  front : length (take (2 * i + 2) was) ≡ 2 * i + 2
+  front = length-take-le (2 * i + 2) was (omega arith)
+
+  size : length copied ≡ length was
+  size = length-paste was (2 * i + 2) (drop (2 * i) was) (2 * end - 2 * i) (omega arith) (omega (arith, length-drop (2 * i) was))
+
+  many : length up ≡ 2 * end - 2 * i
+  many = length-take-le (2 * end - 2 * i) (drop (2 * i) was) (omega (arith, length-drop (2 * i) was))
+
+  moved_at : (j : ℕ) → 2 * i ≤ j → j < 2 * end → get_or copied (j + 2) nan ≡ get_or was j nan
+  moved_at j l k =
+      let e : j + 2 - length (take (2 * i + 2) was) ≡ j - 2 * i = omega (arith, front) in
+      let f : 2 * i + (j - 2 * i) ≡ j = omega arith in
+      ap (λ (l : List Float). get_or l (j + 2) nan) in_two
+      ∙ get_or-append_right (take (2 * i + 2) was) rest (j + 2) nan (omega (arith, front))
+      ∙ ap (λ (x : ℕ). get_or rest x nan) e
+      ∙ get_or-append up (drop (2 * i + 2 + (2 * end - 2 * i)) was) nan (j - 2 * i) (omega (arith, many))
+      ∙ get_or-take (2 * end - 2 * i) (drop (2 * i) was) (j - 2 * i) nan (omega arith)
+      ∙ get_or-drop (2 * i) was (j - 2 * i) nan ∙ ap (λ (x : ℕ). get_or was x nan) f
+
+  moved_point : (m : ℕ) → i ≤ m → m < end → point_at copied (m + 1) ≡ point_at was m
+  moved_point m l k =
+      let e : 2 * (m + 1) ≡ 2 * m + 2 = omega arith in
+      let f : 2 * (m + 1) + 1 ≡ 2 * m + 1 + 2 = omega arith in
+      ap (λ (x : ℕ). point (get_or copied x nan) (get_or copied (2 * (m + 1) + 1) nan)) e
+      ∙ ap (λ (x : ℕ). point (get_or copied (2 * m + 2) nan) (get_or copied x nan)) f
+      ∙ ap (λ (x : Float). point x (get_or copied (2 * m + 1 + 2) nan)) (moved_at (2 * m) (omega arith) (omega arith))
+      ∙ ap (point (get_or was (2 * m) nan)) (moved_at (2 * m + 1) (omega arith) (omega arith))
+
+  before : take (2 * i) (put_point copied i c.x c.y) ≡ take (2 * i) was
+  before =
+      take-set-le (2 * i) (set copied (2 * i) c.x) (2 * i + 1) c.y (omega arith) ∙ take-set-le (2 * i) copied (2 * i) c.x (omega arith)
+      ∙ ap (take (2 * i)) in_two ∙ take-append-le (2 * i) (take (2 * i + 2) was) rest (omega (arith, front)) ∙ take-take (2 * i) (2 * i + 2) was (omega arith)
+
+  pub put_in_made : PutIn i end c was (put_point copied i c.x c.y)
+  put_in_made = record {
+    before = before;
+    here = point_same copied i c.x c.y (omega (arith, size));
+    moved = λ m q r. point_other copied i (m + 1) c.x c.y (λ z. omega arith) ∙ moved_point m q r;
   }
-
-pub shift_end : (i j end : ℕ) (was now : List Float) → i ≤ j → j ≤ i → Shifted i j end was now → Shifted i i end was now
-shift_end i j end was now h k S = let e : j ≡ i = omega arith in subst (λ (m : ℕ). Shifted i m end was now) e S
-
--- ---- putting a point in
-pub put_in_made : (i end : ℕ) (c : Point) (was now : List Float) → 2 * i + 1 < length now → Shifted i i end was now → PutIn i end c was (put_point now i c.x c.y)
-put_in_made i end c was now l S = record {
-  before = put_before i i now c.x c.y (omega arith) ∙ S.before;
-  here = point_same now i c.x c.y l;
-  moved = λ m q r. point_other now i (m + 1) c.x c.y (λ z. omega arith) ∙ S.moved m q r;
-}
 
 -- a point before a kept part
 pub point_before : (i m : ℕ) (was now : List Float) → take (2 * i) now ≡ take (2 * i) was → m < i → point_at now m ≡ point_at was m

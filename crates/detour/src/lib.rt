@@ -1,5 +1,4 @@
-// Leading a path round boxes: the box that a piece enters first, and at most four points put in.
+// Leading a path round boxes: at most four points put in, each beside the box that a piece enters first.
 #![tactic(auto)]
 
-pub mod boxes;
 pub mod path;

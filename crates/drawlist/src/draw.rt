@@ -10,6 +10,7 @@ use listing::output::{print, print_refusal};
 use refusals::Refusal;
 
 // Draws a network of at most 64 buses and 64 branches, and writes its pieces or its refusal to out.
+// An array of 15,960 bytes would ask more: a longer list may be lent.
 fn list_drawing(
     sub: &[u32],
     kv: &[u64],
@@ -42,7 +43,7 @@ fn list_drawing(
     }
 }
 
-// Draws the network of the first n buses and the first m branches of these lists.
+// Draws the network of the first n buses and the first m branches of these lists, which are cut here.
 fn list_front(
     n: usize,
     m: usize,

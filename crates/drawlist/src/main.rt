@@ -50,6 +50,7 @@ fn run<R: Read + Drop, W: Write>(
 }
 
 fn main(rt: HostRuntime) -> io::Result<()> {
+    // no heap is a rule of the project, so the text has a buffer that is long enough for the longest
     let mut out = [0u8; 16384];
     run(rt.alloc(), rt.reader(), &mut io::writer(&rt), &mut out)
 }

@@ -29,6 +29,7 @@ fn options() -> Options
 }
 
 // Draws, and gives what a listing shows: roles, pieces and their branches.
+// The lists stand as the public call takes them.
 pub(crate) fn plot(
     sub: &[u32],
     kv: &[u64],

@@ -10,6 +10,7 @@ ghost use Rattle.exits.specs.Stages.Exits.{no_exits, exit_from, line_exits, exit
 use bars::row_y;
 use geometry::{Point, number_at};
 use measures::Measures;
+use network::lists::{Bounded, Network};
 use network::words::{Kind, kind_of, station_of};
 use order::at;
 use runs::run::{box_at, exit_of, put_point};
@@ -22,6 +23,7 @@ pub struct Exits {
 }
 
 // The exit of station s towards t, at the height of a row.
+// The lists come one by one and not as `Laid`: the exits are written into `places` itself, which no struct of shared lists can hold meanwhile.
 #[tactic(auto, unfolding(crate::specs::Stages::Exits::exit_from, runs::specs::Stages::Views::block_of))]
 fn exit_at(
     measures: Measures,
@@ -82,10 +84,7 @@ fn no_exits() -> Exits
 
 // The exits of branch e.
 fn exits_of(
-    sub: &[u32],
-    from: &[i64],
-    to: &[i64],
-    service: &[u8],
+    net: &Network<'_>,
     measures: Measures,
     ends: &[u32],
     blocks: &[f64],
@@ -94,38 +93,34 @@ fn exits_of(
     e: usize,
 ) -> Exits
     requires { e < 2 ^ 32 }
-    ensures { result ≡ exits_in (grid sub.now from.now to.now service.now measures ends.now blocks.now places.now frames.now) e }
+    ensures { result ≡ exits_in (grid net.now.sub.now net.now.from.now net.now.to.now net.now.service.now measures ends.now blocks.now places.now frames.now) e }
 {
     let ra = at(ends, 4 * e);
     let rb = at(ends, 4 * e + 1);
-    match kind_of(sub, from, to, service, e) {
-        Kind::Line(a, b) => line_exits(sub, measures, blocks, places, frames, a, b, ra, rb),
+    match kind_of(net, e) {
+        Kind::Line(a, b) => line_exits(net.sub, measures, blocks, places, frames, a, b, ra, rb),
         _ => no_exits(),
     }
 }
 
 // Writes every branch's exits behind the places of as many stations as there are buses.
+// Lists that are written are no struct: behind `&mut` others could stand in it, so each contract would have to say that it keeps them and their lengths.
 pub fn write_exits(
-    sub: &[u32],
-    from: &[i64],
-    to: &[i64],
-    service: &[u8],
+    net: &Bounded<'_>,
     measures: Measures,
     ends: &[u32],
     blocks: &[f64],
     frames: &[f64],
     places: &mut [f64],
 )
-    requires sub_len_bound { (length sub.now ≤ 4096) × (length from.now ≤ 8192) × (2 * length sub.now + 4 * length from.now ≤ length places.old) }
-    requires by_index { (i : ℕ) → i < length sub.now → station_of sub.now i < length sub.now }
-    ensures exited { Exited (grid sub.now from.now to.now service.now measures ends.now blocks.now places.new frames.now) }
-    ensures by_index_2 { (s : ℕ) → s < length sub.now → point_at places.new s ≡ point_at places.old s }
+    requires sub_len_bound { 2 * length net.now.lists.sub.now + 4 * length net.now.lists.from.now ≤ length places.old }
+    requires by_index { (i : ℕ) → i < length net.now.lists.sub.now → station_of net.now.lists.sub.now i < length net.now.lists.sub.now }
+    ensures exited { Exited (grid net.now.lists.sub.now net.now.lists.from.now net.now.lists.to.now net.now.lists.service.now measures ends.now blocks.now places.new frames.now) }
+    ensures by_index_2 { (s : ℕ) → s < length net.now.lists.sub.now → point_at places.new s ≡ point_at places.old s }
 {
-    let n = sub.len();
-    for e in 0..from.len() {
-        let x = exits_of(
-            sub, from, to, service, measures, ends, blocks, places, frames, e,
-        );
+    let n = net.lists.sub.len();
+    for e in 0..net.lists.from.len() {
+        let x = exits_of(&net.lists, measures, ends, blocks, places, frames, e);
         put_point(places, n + 2 * e, x.first);
         put_point(places, n + 2 * e + 1, x.second);
     }

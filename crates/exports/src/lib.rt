@@ -9,6 +9,8 @@ ghost use Rattle.float.specs.Hypot.{hypot_of};
 ghost use Rattle.order.specs.Table.{table};
 ghost use Rattle.proximity.specs.Near.{nearest};
 
+use neighbours::points::Points;
+
 // The root of x * x + y * y, correctly rounded.
 #[unsafe(no_mangle)]
 pub extern "C" fn tansygate_hypot(x: f64, y: f64) -> f64
@@ -31,6 +33,6 @@ pub extern "C" fn tansygate_nearest(out: &mut [f64], points: &[f64]) -> usize
     ensures out_after { out.new ≡ table (nearest points.now result) result ++ drop result out.old }
 {
     let n = points_in(points.len(), out.len());
-    neighbours::nearest_of_all(points, n, out);
+    neighbours::nearest_of_all(&Points { n, xy: points }, out);
     n
 }

@@ -37,6 +37,7 @@ fn closed(text: &[u8], at: usize, stop: u8, value: u64) -> Option<Parsed<u64>>
 }
 
 // The number whose first digits stand for `first`, and whose others begin at `at`.
+// The bound is asked of the three functions that read one number, each by the next: a type of its own would say no more.
 #[tactic(auto, using(crate::proofs::Fields::test_laws, crate::proofs::Fields::over_limit), unfolding(crate::specs::Stages::Places::field_of, crate::specs::Field::limited, crate::specs::Field::digits_to))]
 fn digits_to(text: &[u8], at: usize, stop: u8, first: u64, most: u64) -> Option<Parsed<u64>>
     requires { (first ≤ most) × (most ≤ 2 ^ 63) }

@@ -45,9 +45,6 @@ module _ {A : Type 0} where
       let q : f.done ≡ whole = sym (append-nil f.done) ∙ ap (λ (x : List A). f.done ++ x) (sym e) ∙ f.joined in
       sym f.written.size ∙ ap length q
 
-  pub front_room : (whole left old l : List A) (c : ℕ) → Front whole left old l c → length l ≡ length old
-  front_room whole left old l c f = f.written.room
-
   -- what is read next is as it was before
   pub front_next : (whole left old l : List A) (c : ℕ) (d : A) → Front whole left old l c → get_or l c d ≡ get_or old c d
   front_next whole left old l c d f =

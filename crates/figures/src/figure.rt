@@ -10,6 +10,8 @@ use float::small::{max, min};
 use geometry::{Box, Point, box_at, point_at};
 use hypot::hypot;
 use neighbours::nearest_neighbour_distances;
+use neighbours::points::Points;
+use network::lists::Placed;
 use seeds::put_point;
 
 // The middle of a box.
@@ -32,6 +34,7 @@ pub fn distance(p: Point, q: Point) -> f64
 }
 
 // The middles of k boxes.
+// Boxes are read here without the stations' counts: a `Placed` would ask for them.
 pub fn middles(k: usize, boxes: &[f64], points: &mut [f64])
     requires { (4 * k ≤ length boxes.now) × (2 * k ≤ length points.old) }
     ensures { points_in k points.new ≡ middles (boxes_in k boxes.now) }
@@ -43,20 +46,15 @@ pub fn middles(k: usize, boxes: &[f64], points: &mut [f64])
 }
 
 // The distance from each occupied station's seed to its box's middle.
-pub fn displacements(
-    k: usize,
-    stations: &[u32],
-    seeds: &[f64],
-    boxes: &[f64],
-    displacement: &mut [f64],
-)
-    requires { (k ≤ 4096) × (2 * k ≤ length stations.now) × (4 * k ≤ length boxes.now) × (k ≤ length displacement.old) }
-    ensures { displacement.new ≡ over (displacements (points_in k seeds.now) (boxes_in k boxes.now) (occupied (counts_in k stations.now))) displacement.old }
+// `Placed` is lent with more stations too (`sized`, `results`), so the bound of k is asked where it is needed.
+pub fn displacements(placed: &Placed<'_>, seeds: &[f64], displacement: &mut [f64])
+    requires { (placed.now.k ≤ 4096) × (placed.now.k ≤ length displacement.old) }
+    ensures { displacement.new ≡ over (displacements (points_in placed.now.k seeds.now) (boxes_in placed.now.k placed.now.frames.now) (occupied (counts_in placed.now.k placed.now.stations.now))) displacement.old }
 {
     let mut c = 0;
-    for s in 0..k {
-        if 0 < stations[2 * s] {
-            displacement[c] = distance(point_at(seeds, s), middle(box_at(boxes, s)));
+    for s in 0..placed.k {
+        if 0 < placed.stations[2 * s] {
+            displacement[c] = distance(point_at(seeds, s), middle(box_at(placed.frames, s)));
             c += 1;
         }
     }
@@ -74,35 +72,33 @@ fn shorter(b: Box) -> f64
 }
 
 // A number for each occupied station, in order at the front of `spacing`, by the shorter side of its box.
-fn by_sides(k: usize, stations: &[u32], boxes: &[f64], spacing: &mut [f64])
-    requires { (k ≤ 4096) × (2 * k ≤ length stations.now) × (4 * k ≤ length boxes.now) × (k ≤ length spacing.old) }
-    ensures { spacing.new ≡ over (by_sides spacing.old (boxes_in k boxes.now) 0 (occupied (counts_in k stations.now))) spacing.old }
+fn by_sides(placed: &Placed<'_>, spacing: &mut [f64])
+    requires { (placed.now.k ≤ 4096) × (placed.now.k ≤ length spacing.old) }
+    ensures { spacing.new ≡ over (by_sides spacing.old (boxes_in placed.now.k placed.now.frames.now) 0 (occupied (counts_in placed.now.k placed.now.stations.now))) spacing.old }
 {
     let mut c = 0;
-    for s in 0..k {
-        if 0 < stations[2 * s] {
-            spacing[c] = spacing[c] / shorter(box_at(boxes, s));
+    for s in 0..placed.k {
+        if 0 < placed.stations[2 * s] {
+            spacing[c] = spacing[c] / shorter(box_at(placed.frames, s));
             c += 1;
         }
     }
 }
 
-// The least positive distance of each of n points to another by the shorter side of its station's box: the points are the occupied stations' in order. `keys`, `order` and `spare` are work lists.
+// The least positive distance of each point to another by the shorter side of its station's box: the points are the occupied stations' in order. `keys`, `order` and `spare` are work lists.
+// Lists that are written are no struct: behind `&mut` others could stand in it, so each contract would have to say that it keeps them and their lengths.
 pub fn spacings(
-    k: usize,
-    n: usize,
-    stations: &[u32],
-    boxes: &[f64],
-    path: &[f64],
+    placed: &Placed<'_>,
+    points: &Points<'_>,
     spacing: &mut [f64],
     keys: &mut [u64],
     order: &mut [u32],
     spare: &mut [u32],
 )
-    requires k_bound { (k ≤ 4096) × (n ≡ length (occupied (counts_in k stations.now))) × (2 * n ≤ length path.now) × (2 * k ≤ length stations.now) × (4 * k ≤ length boxes.now) × (k ≤ length spacing.old) }
-    requires k_in_bounds { (k ≤ length keys.old) × (k ≤ length order.old) × (k ≤ length spare.old) }
-    ensures { spacing.new ≡ over (spacings_from path.now n (boxes_in k boxes.now) 0 (occupied (counts_in k stations.now))) spacing.old }
+    requires k_bound { (placed.now.k ≤ 4096) × (points.now.n ≡ length (occupied (counts_in placed.now.k placed.now.stations.now))) × (placed.now.k ≤ length spacing.old) }
+    requires k_in_bounds { (placed.now.k ≤ length keys.old) × (placed.now.k ≤ length order.old) × (placed.now.k ≤ length spare.old) }
+    ensures { spacing.new ≡ over (spacings_from points.now.xy.now points.now.n (boxes_in placed.now.k placed.now.frames.now) 0 (occupied (counts_in placed.now.k placed.now.stations.now))) spacing.old }
 {
-    nearest_neighbour_distances(path, n, spacing, keys, order, spare);
-    by_sides(k, stations, boxes, spacing);
+    nearest_neighbour_distances(points, spacing, keys, order, spare);
+    by_sides(placed, spacing);
 }

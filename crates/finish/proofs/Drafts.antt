@@ -10,6 +10,7 @@ use lib.Ieee.{Float}
 use Rattle.std.specs.Prelude.{Some, None, Ok, Err}
 use Rattle.order.specs.Over.{over}
 use Rattle.geometry.specs.declared.Box.{Box}
+use Rattle.options.specs.declared.Gaps.{Gaps}
 use Rattle.options.specs.declared.Options.{Options}
 use Rattle.refusals.specs.declared.Refusal.{Refusal}
 use Rattle.refusals.proofs.Unless as Unless
@@ -26,6 +27,7 @@ use Rattle.survey.specs.Stages.Runs.{runs_in}
 use Rattle.results.specs.Stages.Bars.{bars_in}
 use Rattle.results.specs.Bounds.{bounds_of}
 use Rattle.crossings.specs.Gap.{gap_of}
+use Rattle.measures.specs.declared.Measures.{Measures}
 use Rattle.drawing.specs.declared.answer.Plot.{Plot}
 use Rattle.drawing.specs.declared.room.Room.{Room}
 use Rattle.drawing.specs.Network.{Network, Lists}
@@ -39,6 +41,9 @@ use Rattle.drawing.proofs.Lates.{room_of_lem}
 lists_eq : {a a' b b' c c' d d' : List Float} {e e' : List ℕ} {f f' : List Float} {g g' : List ℕ}
     → a ≡ a' → b ≡ b' → c ≡ c' → d ≡ d' → e ≡ e' → f ≡ f' → g ≡ g' → lists a b c d e f g ≡ lists a' b' c' d' e' f' g'
 lists_eq p q r s t u w = rw (p, q, r, s, t, u, w)
+
+abbrev measure : Float → Gaps → Measures
+measure u g = record { unit = u; gaps = g }
 
 module _ (o : Options) (N : Network) (R : Room) where
   -- Where a refusal decides the answer, no list is written.
@@ -56,12 +61,15 @@ module _ (o : Options) (N : Network) (k : ℕ) (R : Room) (stations buses ends :
   unfolding late late_by routed_late
   refused_before r L C = let e = Unless.refused _ r _ C.course_is in unwritten o N R r L (rw (sym e))
 
-  module _ (unit : Float) (C : Charted o N k (crossing_room R) (Ok unit) stations buses ends blocks places frames path ways) where
-    passed : (None ≡ routed_late o N (crossing_room R)) × (unit ≡ (drawing o N).unit)
-    passed = accepted _ unit _ C.course_is
+  module _ (M : Measures) (gaps : M.gaps ≡ o.gaps) (C : Charted o N k (crossing_room R) (Ok M.unit) stations buses ends blocks places frames path ways) where
+    passed : (None ≡ routed_late o N (crossing_room R)) × (M.unit ≡ (drawing o N).unit)
+    passed = accepted _ M.unit _ C.course_is
 
-    bars_are : bars_in N.station (measures_of o unit) buses blocks frames ≡ (drawing o N).bars
-    bars_are = (let e = passed.1 in cc) ∙ C.bars
+    measured : M ≡ measures_of o (drawing o N).unit
+    measured = ap (measure M.unit) gaps ∙ ap (measures_of o) passed.1
+
+    bars_are : bars_in N.station M buses blocks frames ≡ (drawing o N).bars
+    bars_are = ap (λ (m : Measures). bars_in N.station m buses blocks frames) measured ∙ C.bars
 
     pub fits : (e : ℕ) → e < length N.from → Fits ends path e
     fits = C.fits (sym passed.0)
@@ -71,12 +79,12 @@ module _ (o : Options) (N : Network) (k : ℕ) (R : Room) (stations buses ends :
     unfolding late routed_late
     late_is pieces e = let z = passed.0 in cc
 
-    module _ (gap : Float) (led : Bool) (ge : gap ≡ gap_of unit) (le : led ≡ ltb 0 o.route_iterations) where
+    module _ (gap : Float) (led : Bool) (ge : gap ≡ gap_of M.unit) (le : led ≡ ltb 0 o.route_iterations) where
       abbrev held_by : RunLists
-      held_by = held N.station (measures_of o unit) buses ends blocks places frames (lead led gap k stations ways)
+      held_by = held N.station M buses ends blocks places frames (lead led gap k stations ways)
 
       runs_are : runs_in held_by N.from N.to N.service ≡ (drawing o N).runs
-      runs_are = (let e = passed.1 in cc (ge, le)) ∙ C.runs (sym passed.0)
+      runs_are = (let e = passed.1 in let m = measured in cc (ge, le)) ∙ C.runs (sym passed.0)
 
       all_pieces_lem : all_pieces (kinds N.station N.from N.to N.service) (runs_in held_by N.from N.to N.service) ≡ (drawing o N).pieces
       unfolding drawing
@@ -100,7 +108,7 @@ module _ (o : Options) (N : Network) (k : ℕ) (R : Room) (stations buses ends :
         unfolding answer_for
         judged_full r e = rw (← (e ∙ late_is pieces counted))
 
-        pub judged : None ≡ late_by None pieces R.pieces R.branches → Ok (record { unit = unit; bounds = bounds; pieces = pieces }) ≡ answer_for (late (drawing o N) R) (drawing o N)
+        pub judged : None ≡ late_by None pieces R.pieces R.branches → Ok (record { unit = M.unit; bounds = bounds; pieces = pieces }) ≡ answer_for (late (drawing o N) R) (drawing o N)
         unfolding answer_for
         judged e = rw (← (e ∙ late_is pieces counted)) (let u = passed.1 in let b = d ∙ bounds_are in cc (counted))
 
@@ -117,8 +125,8 @@ module _ (o : Options) (N : Network) (k : ℕ) (R : Room) (stations buses ends :
             subst (λ (ps : List Piece). (4 * length ps ≤ R.pieces) × (length ps ≤ R.branches)) (sym all_pieces_lem) (room_of_lem _ _ _ _ (sym none_late))
 
         pub drew : (L : Lists) (p b x s : List Float) (r : List ℕ) (n : List Float) (e : List ℕ)
-            → p ≡ over (flat (λ t. point_numbers (position t)) (bars_in N.station (measures_of o unit) buses blocks frames)) L.positions
-            → b ≡ over (flat bar_numbers (bars_in N.station (measures_of o unit) buses blocks frames)) L.bars
+            → p ≡ over (flat (λ t. point_numbers (position t)) (bars_in N.station M buses blocks frames)) L.positions
+            → b ≡ over (flat bar_numbers (bars_in N.station M buses blocks frames)) L.bars
             → x ≡ over (flat box_numbers (boxes_in k frames)) L.boxes
             → s ≡ over (scales_in k blocks) L.scales
             → r ≡ over (map role (kinds N.station N.from N.to N.service)) L.roles

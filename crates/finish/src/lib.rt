@@ -3,10 +3,11 @@
 
 pub mod draft;
 
-ghost use Rattle.std.specs.Prelude.{◌≡◌, ◌*◌, ◌≤◌, length};
+ghost use Rattle.std.specs.Prelude.{◌≡◌, ◌*◌, ◌≤◌, ltb, length};
 ghost use Rattle.network.specs.Words.{occupied};
 ghost use Rattle.network.specs.Views.{counts_in, boxes_in};
 ghost use Rattle.grid.specs.Stages.Cells.{Indexed};
+ghost use Rattle.crossings.specs.Gap.{gap_of};
 ghost use Rattle.drawing.specs.Network.{network};
 ghost use Rattle.drawing.specs.Drawing.{drawing};
 ghost use Rattle.drawing.specs.Answer.{crossing_room, late};
@@ -17,36 +18,24 @@ use crate::draft::{is_led, judge};
 use crossings::gap::gap_of;
 use drawing::answer::Plot;
 use drawing::room::Room;
+use grid::index::BoxIndex;
 use measures::Measures;
+use network::lists::{Bounded, Placed};
 use options::Options;
 use refusals::Refusal;
 use results::buses::write_buses;
 use results::lists::{write_roles, write_stations};
+use runs::laid::{Guide, Laid};
 use survey::write_pieces;
 
-// Judges a drawing of this unit that nothing refuses so far, and writes it where nothing does.
+// Judges a drawing that nothing refuses so far, and writes it where nothing does.
 fn write(
     o: Options,
-    sub: &[u32],
-    kv: &[u64],
-    from: &[i64],
-    to: &[i64],
-    service: &[u8],
-    xy: &[f64],
-    corners: &[u32],
-    twins: &[u32],
-    k: usize,
+    net: &Bounded<'_>,
+    laid: &Laid<'_>,
+    guide: &Guide<'_>,
     room: Room,
-    unit: f64,
-    stations: &[u32],
-    buses: &[u32],
-    ends: &[u32],
-    sorted: &[u32],
-    blocks: &[f64],
-    places: &[f64],
-    frames: &[f64],
     path: &mut [f64],
-    ways: &[f64],
     positions: &mut [f64],
     bars: &mut [f64],
     boxes: &mut [f64],
@@ -55,86 +44,87 @@ fn write(
     pieces: &mut [f64],
     branches: &mut [u32],
 ) -> Result<Plot, Refusal>
-    requires sub_len_bound { (length sub.now ≤ 4096) × (length from.now ≤ 8192) × (k ≤ 4096) × (2 * k ≤ length stations.now) × (4 * k ≤ length frames.now) × (3 * k ≤ length blocks.now) }
-    requires sub_in_bounds { (2 * length sub.now ≤ length positions.old) × (4 * length sub.now ≤ length bars.old) × (4 * k ≤ length boxes.old) × (k ≤ length scales.old) × (length from.now ≤ length roles.old) × (room.pieces ≡ length pieces.old) × (room.branches ≡ length branches.old) }
-    requires charted { Charted o (network sub.now kv.now from.now to.now service.now xy.now corners.now twins.now) k (crossing_room room) (Ok unit) stations.now buses.now ends.now blocks.now places.now frames.now path.old ways.now }
-    requires indexed { Indexed (boxes_in k frames.now) (occupied (counts_in k stations.now)) sorted.now }
-    ensures { Drew o (network sub.now kv.now from.now to.now service.now xy.now corners.now twins.now) (late (drawing o (network sub.now kv.now from.now to.now service.now xy.now corners.now twins.now)) room) (record { positions = positions.old; bars = bars.old; boxes = boxes.old; scales = scales.old; roles = roles.old; pieces = pieces.old; branches = branches.old }) result (record { positions = positions.new; bars = bars.new; boxes = boxes.new; scales = scales.new; roles = roles.new; pieces = pieces.new; branches = branches.new }) }
+    requires measured { laid.now.measures.gaps ≡ o.gaps }
+    requires guided { (guide.now.led ≡ ltb 0 o.route_iterations) × (guide.now.gap ≡ gap_of laid.now.measures.unit) }
+    requires sub_len_bound { 3 * guide.now.index.placed.k ≤ length laid.now.blocks.now }
+    requires sub_in_bounds { (2 * length net.now.lists.sub.now ≤ length positions.old) × (4 * length net.now.lists.sub.now ≤ length bars.old) × (4 * guide.now.index.placed.k ≤ length boxes.old) × (guide.now.index.placed.k ≤ length scales.old) × (length net.now.lists.from.now ≤ length roles.old) × (room.pieces ≡ length pieces.old) × (room.branches ≡ length branches.old) }
+    requires charted { Charted o (network net.now.lists.sub.now net.now.lists.kv.now net.now.lists.from.now net.now.lists.to.now net.now.lists.service.now net.now.lists.xy.now net.now.lists.mesh.corners.now net.now.lists.mesh.twins.now) guide.now.index.placed.k (crossing_room room) (Ok laid.now.measures.unit) guide.now.index.placed.stations.now laid.now.buses.now laid.now.ends.now laid.now.blocks.now laid.now.places.now guide.now.index.placed.frames.now path.old guide.now.ways.now }
+    ensures { Drew o (network net.now.lists.sub.now net.now.lists.kv.now net.now.lists.from.now net.now.lists.to.now net.now.lists.service.now net.now.lists.xy.now net.now.lists.mesh.corners.now net.now.lists.mesh.twins.now) (late (drawing o (network net.now.lists.sub.now net.now.lists.kv.now net.now.lists.from.now net.now.lists.to.now net.now.lists.service.now net.now.lists.xy.now net.now.lists.mesh.corners.now net.now.lists.mesh.twins.now)) room) (record { positions = positions.old; bars = bars.old; boxes = boxes.old; scales = scales.old; roles = roles.old; pieces = pieces.old; branches = branches.old }) result (record { positions = positions.new; bars = bars.new; boxes = boxes.new; scales = scales.new; roles = roles.new; pieces = pieces.new; branches = branches.new }) }
 {
+    let plot = judge(o, net, laid, guide, room, path)?;
+    let placed = guide.index.placed;
+    write_buses(
+        net.lists.sub,
+        laid.measures,
+        laid.buses,
+        laid.blocks,
+        placed.frames,
+        positions,
+        bars,
+    );
+    write_stations(placed.k, placed.frames, laid.blocks, boxes, scales);
+    write_roles(&net.lists, roles);
+    write_pieces(net, laid, guide, path, pieces, branches);
+    Ok(plot)
+}
+
+// Writes a charted drawing where nothing refuses it; `sorted` enters its boxes.
+// Lists that are written are no struct: behind `&mut` others could stand in it, so each contract would have to say that it keeps them and their lengths.
+pub fn finish<'a>(
+    o: Options,
+    net: &Bounded<'_>,
+    k: usize,
+    stations: &'a [u32],
+    frames: &'a [f64],
+    sorted: &'a [u32],
+    room: Room,
+    course: Result<f64, Refusal>,
+    buses: &'a [u32],
+    ends: &'a [u32],
+    blocks: &'a [f64],
+    places: &'a [f64],
+    path: &mut [f64],
+    ways: &'a [f64],
+    positions: &mut [f64],
+    bars: &mut [f64],
+    boxes: &mut [f64],
+    scales: &mut [f64],
+    roles: &mut [u8],
+    pieces: &mut [f64],
+    branches: &mut [u32],
+) -> Result<Plot, Refusal>
+    requires k_in_bounds { (k ≤ 4096) × (2 * k ≤ length stations.now) × (4 * k ≤ length frames.now) × (3 * k ≤ length blocks.now) }
+    requires indexed { Indexed (boxes_in k frames.now) (occupied (counts_in k stations.now)) sorted.now }
+    requires sub_in_bounds { (2 * length net.now.lists.sub.now ≤ length positions.old) × (4 * length net.now.lists.sub.now ≤ length bars.old) × (4 * k ≤ length boxes.old) × (k ≤ length scales.old) × (length net.now.lists.from.now ≤ length roles.old) × (room.pieces ≡ length pieces.old) × (room.branches ≡ length branches.old) }
+    requires charted { Charted o (network net.now.lists.sub.now net.now.lists.kv.now net.now.lists.from.now net.now.lists.to.now net.now.lists.service.now net.now.lists.xy.now net.now.lists.mesh.corners.now net.now.lists.mesh.twins.now) k (crossing_room room) course stations.now buses.now ends.now blocks.now places.now frames.now path.old ways.now }
+    ensures { Drew o (network net.now.lists.sub.now net.now.lists.kv.now net.now.lists.from.now net.now.lists.to.now net.now.lists.service.now net.now.lists.xy.now net.now.lists.mesh.corners.now net.now.lists.mesh.twins.now) (late (drawing o (network net.now.lists.sub.now net.now.lists.kv.now net.now.lists.from.now net.now.lists.to.now net.now.lists.service.now net.now.lists.xy.now net.now.lists.mesh.corners.now net.now.lists.mesh.twins.now)) room) (record { positions = positions.old; bars = bars.old; boxes = boxes.old; scales = scales.old; roles = roles.old; pieces = pieces.old; branches = branches.old }) result (record { positions = positions.new; bars = bars.new; boxes = boxes.new; scales = scales.new; roles = roles.new; pieces = pieces.new; branches = branches.new }) }
+{
+    let unit = course?;
     let gaps = o.gaps;
     let measures = Measures { unit, gaps };
-    let plot = judge(
-        o, sub, kv, from, to, service, xy, corners, twins, k, room, unit, stations, buses, ends,
-        sorted, blocks, places, frames, path, ways,
-    )?;
-    write_buses(sub, measures, buses, blocks, frames, positions, bars);
-    write_stations(k, frames, blocks, boxes, scales);
-    write_roles(sub, from, to, service, roles);
-    write_pieces(
-        sub,
-        from,
-        to,
-        service,
+    let laid = Laid {
         measures,
         buses,
         ends,
         blocks,
         places,
-        frames,
-        is_led(o),
-        gap_of(unit),
+    };
+    let placed = Placed {
         k,
         stations,
-        sorted,
+        frames,
+    };
+    let index = BoxIndex {
+        placed,
+        cells: sorted,
+    };
+    let guide = Guide {
+        led: is_led(o),
+        gap: gap_of(unit),
+        index,
         ways,
-        path,
-        pieces,
-        branches,
-    );
-    Ok(plot)
-}
-
-// Writes a charted drawing where nothing refuses it.
-pub fn finish(
-    o: Options,
-    sub: &[u32],
-    kv: &[u64],
-    from: &[i64],
-    to: &[i64],
-    service: &[u8],
-    xy: &[f64],
-    corners: &[u32],
-    twins: &[u32],
-    k: usize,
-    room: Room,
-    course: Result<f64, Refusal>,
-    stations: &[u32],
-    buses: &[u32],
-    ends: &[u32],
-    sorted: &[u32],
-    blocks: &[f64],
-    places: &[f64],
-    frames: &[f64],
-    path: &mut [f64],
-    ways: &[f64],
-    positions: &mut [f64],
-    bars: &mut [f64],
-    boxes: &mut [f64],
-    scales: &mut [f64],
-    roles: &mut [u8],
-    pieces: &mut [f64],
-    branches: &mut [u32],
-) -> Result<Plot, Refusal>
-    requires sub_len_bound { (length sub.now ≤ 4096) × (length from.now ≤ 8192) × (k ≤ 4096) × (2 * k ≤ length stations.now) × (4 * k ≤ length frames.now) × (3 * k ≤ length blocks.now) }
-    requires sub_in_bounds { (2 * length sub.now ≤ length positions.old) × (4 * length sub.now ≤ length bars.old) × (4 * k ≤ length boxes.old) × (k ≤ length scales.old) × (length from.now ≤ length roles.old) × (room.pieces ≡ length pieces.old) × (room.branches ≡ length branches.old) }
-    requires charted { Charted o (network sub.now kv.now from.now to.now service.now xy.now corners.now twins.now) k (crossing_room room) course stations.now buses.now ends.now blocks.now places.now frames.now path.old ways.now }
-    requires indexed { Indexed (boxes_in k frames.now) (occupied (counts_in k stations.now)) sorted.now }
-    ensures { Drew o (network sub.now kv.now from.now to.now service.now xy.now corners.now twins.now) (late (drawing o (network sub.now kv.now from.now to.now service.now xy.now corners.now twins.now)) room) (record { positions = positions.old; bars = bars.old; boxes = boxes.old; scales = scales.old; roles = roles.old; pieces = pieces.old; branches = branches.old }) result (record { positions = positions.new; bars = bars.new; boxes = boxes.new; scales = scales.new; roles = roles.new; pieces = pieces.new; branches = branches.new }) }
-{
-    let unit = course?;
+    };
     write(
-        o, sub, kv, from, to, service, xy, corners, twins, k, room, unit, stations, buses, ends,
-        sorted, blocks, places, frames, path, ways, positions, bars, boxes, scales, roles, pieces,
-        branches,
+        o, net, &laid, &guide, room, path, positions, bars, boxes, scales, roles, pieces, branches,
     )
 }

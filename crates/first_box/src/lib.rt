@@ -9,8 +9,9 @@ ghost use Rattle.first_box.specs.First.{entry_at, comes_first, sooner, look};
 
 use geometry::entry::enters;
 use geometry::{Box, Point, box_at};
+use network::lists::Placed;
 
-// Station s's box, zeros past the last.
+// Station s's box, zeros past the last. Here, in `entry_at` and in `grid::grid_of` boxes are lent without bus counts: a `Placed` would ask for more, and a struct of k and frames would be made anew at each call.
 #[tactic(auto, using(network::proofs::Views::get_d_boxes, crate::proofs::Looking::box_past))]
 pub fn box_in(k: usize, frames: &[f64], s: usize) -> Box
     requires { 4 * k ≤ length frames.now }
@@ -75,22 +76,13 @@ pub fn sooner(s: usize, e: Option<f64>, best: Option<(f64, usize)>) -> Option<(f
 
 // The box entered first of all occupied stations'.
 #[tactic(auto, using(crate::proofs::Looking::scanned))]
-pub fn scan(
-    k: usize,
-    stations: &[u32],
-    frames: &[f64],
-    p: Point,
-    q: Point,
-    a: usize,
-    b: usize,
-) -> Option<(f64, usize)>
-    requires { (2 * k ≤ length stations.now) × (4 * k ≤ length frames.now) }
-    ensures { result ≡ look (boxes_in k frames.now) p q a b (occupied (counts_in k stations.now)) None }
+pub fn scan(placed: &Placed<'_>, p: Point, q: Point, a: usize, b: usize) -> Option<(f64, usize)>
+    ensures { result ≡ look (boxes_in placed.now.k placed.now.frames.now) p q a b (occupied (counts_in placed.now.k placed.now.stations.now)) None }
 {
     let mut best = None;
-    for s in 0..k {
-        if 0 < stations[2 * s] {
-            best = sooner(s, entry_at(k, frames, p, q, a, b, s), best);
+    for s in 0..placed.k {
+        if 0 < placed.stations[2 * s] {
+            best = sooner(s, entry_at(placed.k, placed.frames, p, q, a, b, s), best);
         }
     }
     best

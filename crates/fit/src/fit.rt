@@ -2,6 +2,7 @@
 ghost use Rattle.std.specs.Prelude.{◌≡◌, ◌*◌, ◌≤◌, eqb, length, get_or};
 ghost use Rattle.fit.specs.Fit.{all_named, is_line, end_at, joins, all_join, moderate, all_moderate, ordered, all_ordered, fits};
 
+use crate::drawn::Drawn;
 use float::small::abs;
 use geometry::{Box, box_at};
 use network::words::{known_bus, station_count, station_of};
@@ -29,6 +30,7 @@ pub fn is_line(roles: &[u8], e: usize) -> bool
 }
 
 // The bus at the end of branch e, of n; unknown past the list's end.
+// Here and below n is how many buses there are: the lists beside it have an element for each branch.
 pub fn end_at(n: usize, ends: &[i64], e: usize) -> Option<usize>
     ensures { result ≡ end_at n ends.now e }
 {
@@ -90,25 +92,17 @@ fn fours(pieces: &[f64], branches: &[u32]) -> bool
 
 // Whether the drawing fits: 13 is given where it doesn't.
 #[tactic(auto, unfolding(crate::specs::Fit::fits))]
-pub fn fits(
-    sub: &[u32],
-    from: &[i64],
-    to: &[i64],
-    boxes: &[f64],
-    roles: &[u8],
-    pieces: &[f64],
-    branches: &[u32],
-) -> bool
-    requires { length sub.now ≤ 4096 }
-    ensures { result ≡ fits sub.now from.now to.now boxes.now roles.now pieces.now branches.now }
+pub fn fits(drawing: &Drawn<'_>) -> bool
+    requires { length drawing.now.sub.now ≤ 4096 }
+    ensures { result ≡ fits drawing.now.sub.now drawing.now.from.now drawing.now.to.now drawing.now.boxes.now drawing.now.roles.now drawing.now.pieces.now drawing.now.branches.now }
 {
-    let k = station_count(sub);
-    boxes.len() == 4 * k
-        && roles.len() == from.len()
-        && fours(pieces, branches)
-        && all_named(from.len(), branches)
-        && all_join(sub.len(), from, to, roles)
-        && all_moderate(boxes)
-        && all_moderate(pieces)
-        && all_ordered(k, boxes)
+    let k = station_count(drawing.sub);
+    drawing.boxes.len() == 4 * k
+        && drawing.roles.len() == drawing.from.len()
+        && fours(drawing.pieces, drawing.branches)
+        && all_named(drawing.from.len(), drawing.branches)
+        && all_join(drawing.sub.len(), drawing.from, drawing.to, drawing.roles)
+        && all_moderate(drawing.boxes)
+        && all_moderate(drawing.pieces)
+        && all_ordered(k, drawing.boxes)
 }

@@ -4,6 +4,7 @@ ghost use Rattle.network.specs.Words.{occupied};
 ghost use Rattle.network.specs.Views.{counts_in, boxes_in};
 ghost use Rattle.fit.specs.Scale.{sized_ends, ill_drawn};
 
+use network::lists::Placed;
 use sized::{any_occupied, ill_sized, largest, sized};
 
 // Whether every piece end's coordinate divided by l is at most 2^40 in size.
@@ -15,10 +16,9 @@ fn sized_ends(l: f64, pieces: &[f64]) -> bool
 
 // Whether the boxes are ill sized, or a piece end lies too far out for their size.
 #[tactic(auto, unfolding(crate::specs::Scale::ill_drawn))]
-pub fn ill_drawn(k: usize, stations: &[u32], boxes: &[f64], pieces: &[f64]) -> bool
-    requires { (2 * k ≤ length stations.now) × (4 * k ≤ length boxes.now) }
-    ensures { result ≡ ill_drawn (boxes_in k boxes.now) (occupied (counts_in k stations.now)) pieces.now }
+pub fn ill_drawn(placed: &Placed<'_>, pieces: &[f64]) -> bool
+    ensures { result ≡ ill_drawn (boxes_in placed.now.k placed.now.frames.now) (occupied (counts_in placed.now.k placed.now.stations.now)) pieces.now }
 {
-    ill_sized(k, stations, boxes)
-        || any_occupied(k, stations) && !sized_ends(largest(k, stations, boxes), pieces)
+    ill_sized(placed)
+        || any_occupied(placed.k, placed.stations) && !sized_ends(largest(placed), pieces)
 }

@@ -3,13 +3,12 @@ use mathlib.Core.Path.{◌≡◌, refl, sym, ap, subst, ◌∙◌}
 use mathlib.Core.Bool.{Bool, true, false, not, ◌&&◌}
 use mathlib.Core.List.{List, [], ◌∷◌, map}
 use Prim.Native.Nat.{ℕ, zero, suc, ◌+◌, ◌-◌, ◌*◌, ◌≤◌, ◌<◌}
-use native.Mathlib.Nat.{not-suc-le-zero, le_of_suc-le-suc}
 use native.Mathlib.Omega.{arith}
 use native.Mathlib.Numerals.{add-one}
-use lib.Dec.{eqb, eqb-suc-zero}
+use lib.Dec.{ltb, eqb, eqb-suc-zero}
 use lib.IntN.{ℤ}
 use lib.ListN.{length, get_or, take, drop}
-use lib.Seq.{length-take-le, get_or-take, drop-cons, take-take}
+use lib.Seq.{length-take-le, get_or-take, drop-cons}
 use lib.Ieee.{Float}
 use Rattle.float.specs.Ops.{f1, f2, f4}
 use Rattle.order.specs.Order.{pick, count}
@@ -19,11 +18,11 @@ use Rattle.geometry.specs.declared.Box.{Box}
 use Rattle.geometry.specs.Plane.{box_at}
 use Rattle.proximity.specs.Overlap.{overlap}
 use Rattle.box_order.specs.declared.kept.Stretch.{Stretch}
-use Rattle.cells.specs.Stages.Cells.{cell_key}
+use Rattle.cells.specs.Stages.Cells.{cell_key, from}
 use Rattle.box_order.specs.Stages.Kept.{Bounds}
 use Rattle.cells.proofs.CellOrder.{stretch_count}
-use Rattle.cells.proofs.CellHalving.{below_most}
-use Rattle.box_order.proofs.Keeping.{stretch_part}
+use Rattle.cells.proofs.CellHalving.{count_length}
+use Rattle.box_order.proofs.Keeping.{same_length, stretch_part}
 use Rattle.offsets.specs.declared.offset.Offset.{Offset}
 use Rattle.std.specs.Prelude.{Option, Some, None, unwrap_or}
 use Rattle.free_places.specs.Search.{Frame, free, place, buffered, first_free, place_for}
@@ -78,42 +77,27 @@ module _ (p : Box) (fs : List Float) (sorted : List ℕ) (first end : ℕ) (l : 
       sym (ap (λ (m : ℕ). free p (map (box_at fs) (take m (drop j sorted)))) e) ∙ i
 
 -- ---- the boxes of the stretch that can overlap answer for all that are kept
-part_same : (a b n : ℕ) (l : List ℕ) → b ≤ n → take (b - a) (drop a (take n l)) ≡ take (b - a) (drop a l)
-part_same zero b n l h = take-take (b - 0) n l (omega arith)
-part_same (suc a) b zero l h =
-    let e : b - suc a ≡ 0 = omega arith in
-    ap (λ (m : ℕ). take m (drop (suc a) (take zero l))) e ∙ sym (ap (λ (m : ℕ). take m (drop (suc a) l)) e)
-part_same (suc a) b (suc n) [] h = refl
-part_same (suc a) b (suc n) (x ∷ l) h =
-    let e : b - suc a ≡ b - 1 - a = omega arith in
-    ap (λ (m : ℕ). take m (drop a (take n l))) e ∙ part_same a (b - 1) n l (omega arith) ∙ sym (ap (λ (m : ℕ). take m (drop a l)) e)
+all_front : (P : ℕ → Type 0) (a : ℕ) (l : List ℕ) → All P l → All P (take a l)
+all_front P zero l A = tt
+all_front P (suc a) [] A = tt
+all_front P (suc a) (x ∷ l) A = (A.0, all_front P a l A.1)
 
-all_take : (P : ℕ → Type 0) (a n : ℕ) (l : List ℕ) → a ≤ n → All P (take n l) → All P (take a l)
-all_take P zero n l h A = tt
-all_take P (suc a) zero l h A = absurd (not-suc-le-zero h)
-all_take P (suc a) (suc n) [] h A = tt
-all_take P (suc a) (suc n) (x ∷ l) h A = (A.0, all_take P a n l (le_of_suc-le-suc h) A.1)
-
-module _ (unit : Float) (p : Box) (fs : List Float) (n most : ℕ) (keys sorted : List ℕ) (H : Holds unit fs n most keys sorted) (t : Stretch)
-    (B : Bounds unit p.left p.right n most keys t) where
-  end_most : t.end ≤ n
-  end_most = subst (λ (e : ℕ). e ≤ n) (sym B.ends) (below_most keys n (cell_key unit p.right + 1) H.keyed)
+module _ (unit : Float) (p : Box) (fs : List Float) (most : ℕ) (keys sorted : List ℕ) (H : Holds unit fs most keys sorted) (t : Stretch)
+    (B : Bounds unit p.left p.right most keys t) where
+  end_most : t.end ≤ length sorted
+  unfolding from
+  end_most = omega (arith, B.ends, count_length (λ x. ltb x (cell_key unit p.right + 1)) keys, same_length unit fs keys sorted H.kept.ordered)
 
   pub stretch_inside : (t.end ≤ length sorted) × All (λ s. 4 * s + 3 < length fs) (take t.end sorted)
-  stretch_inside = (
-    omega (arith, end_most, H.listed),
-    all_take (λ s. 4 * s + 3 < length fs) t.end n sorted end_most H.inside,
-  )
+  stretch_inside = (end_most, all_front (λ s. 4 * s + 3 < length fs) t.end sorted H.inside)
 
-  pub stretch_free : free p (boxes_among fs t.first t.end sorted) ≡ free p (kept_boxes fs n sorted)
+  pub stretch_free : free p (boxes_among fs t.first t.end sorted) ≡ free p (kept_boxes fs sorted)
   stretch_free =
       free_count (box_at fs) p (take (t.end - t.first) (drop t.first sorted))
       ∙ ap (λ (c : ℕ). eqb c 0)
-      (ap (count (λ s. overlap p (box_at fs s)))
-      (sym (part_same t.first t.end n sorted end_most)
-      ∙ sym (stretch_part unit fs n keys sorted H.kept.ordered most p t.first t.end B.begins B.ends))
-      ∙ sym (stretch_count unit (box_at fs) (take n sorted) most p H.kept.ordered.order H.kept.wide))
-      ∙ sym (free_count (box_at fs) p (take n sorted))
+      (ap (count (λ s. overlap p (box_at fs s))) (sym (stretch_part unit fs keys sorted H.kept.ordered most p t.first t.end B.begins B.ends))
+      ∙ sym (stretch_count unit (box_at fs) sorted most p H.kept.ordered.order H.kept.wide))
+      ∙ sym (free_count (box_at fs) p sorted)
 
 -- ---- lists of boxes that are free of the same boxes
 module _ (seed : Point) (r : Frame) (e e' : List Box) (f : (q : Box) → free q e ≡ free q e') where

@@ -66,6 +66,15 @@ fn place(seed: Point, w: f64, h: f64, widening: f64, o: Offset) -> Point
     }
 }
 
+// The offsets that a search tries, by the pairs of two lists: those outside the search are skipped.
+#[derive(Clone, Copy)]
+pub struct Tried<'a> {
+    pub a: &'a [i32],
+    pub b: &'a [i32],
+    pub search: usize,
+    pub ghost near: { search ≤ 20 },
+}
+
 // The number of an offset's column, from 0 for −20 on: all its places have the same left and right edges.
 fn column(o: Offset) -> usize
     requires { nat_abs o.a ≤ 20 }
@@ -74,7 +83,7 @@ fn column(o: Offset) -> usize
     (shifted(o.a as i64) - 4503599627370476) as usize
 }
 
-// The first free place at one widening, by the pairs of two lists: those outside the search are skipped.
+// The first free place at one widening.
 fn first_free(
     seed: Point,
     w: f64,
@@ -82,25 +91,21 @@ fn first_free(
     f: f64,
     buffer: f64,
     widening: f64,
-    a: &[i32],
-    b: &[i32],
-    search: usize,
+    tried: &Tried<'_>,
     unit: f64,
     boxes: &[f64],
     keys: &[u64],
     sorted: &[u32],
-    count: usize,
     most: u64,
 ) -> Option<Point>
-    requires { (search ≤ 20) × Holds unit boxes.now count most keys.now sorted.now }
-    ensures { result ≡ first_free seed (frame w h f buffer) (kept_boxes boxes.now count sorted.now) widening (skipped search (pairs_in a.now b.now)) }
+    requires { Holds unit boxes.now most keys.now sorted.now }
+    ensures { result ≡ first_free seed (frame w h f buffer) (kept_boxes boxes.now sorted.now) widening (skipped tried.now.search (pairs_in tried.now.a.now tried.now.b.now)) }
 {
     let mut firsts = [0; 41];
     let mut ends = [0; 41];
-    let mut j = 0;
-    while j < a.len() {
-        let o = pair_at(a, b, j);
-        if is_inside(o, search) {
+    for j in 0..tried.a.len() {
+        let o = pair_at(tried.a, tried.b, j);
+        if is_inside(o, tried.search) {
             let c = place(seed, w, h, widening, o);
             let p = buffered(c, w, h, f, buffer);
             let i = column(o);
@@ -108,15 +113,12 @@ fn first_free(
                 first: firsts[i],
                 end: ends[i],
             };
-            let t = stretch_of(known, unit, p.left, p.right, keys, count, most);
+            let t = stretch_of(known, unit, p.left, p.right, keys, most);
             firsts[i] = t.first;
             ends[i] = t.end;
             if is_free(p, boxes, sorted, t) {
                 return Some(c);
             }
-            j += 1;
-        } else {
-            j += 1; // skipped
         }
     }
     None
@@ -129,33 +131,30 @@ pub fn place_for(
     h: f64,
     f: f64,
     buffer: f64,
-    a: &[i32],
-    b: &[i32],
-    search: usize,
+    tried: &Tried<'_>,
     unit: f64,
     boxes: &[f64],
     keys: &[u64],
     sorted: &[u32],
-    count: usize,
     most: u64,
 ) -> Point
-    requires { (search ≤ 20) × Holds unit boxes.now count most keys.now sorted.now }
-    ensures { result ≡ place_for seed (frame w h f buffer) (kept_boxes boxes.now count sorted.now) (skipped search (pairs_in a.now b.now)) }
+    requires { Holds unit boxes.now most keys.now sorted.now }
+    ensures { result ≡ place_for seed (frame w h f buffer) (kept_boxes boxes.now sorted.now) (skipped tried.now.search (pairs_in tried.now.a.now tried.now.b.now)) }
 {
     let near = first_free(
-        seed, w, h, f, buffer, 1.0, a, b, search, unit, boxes, keys, sorted, count, most,
+        seed, w, h, f, buffer, 1.0, tried, unit, boxes, keys, sorted, most,
     );
     if let Some(c) = near {
         return c;
     }
     let wide = first_free(
-        seed, w, h, f, buffer, 2.0, a, b, search, unit, boxes, keys, sorted, count, most,
+        seed, w, h, f, buffer, 2.0, tried, unit, boxes, keys, sorted, most,
     );
     if let Some(c) = wide {
         return c;
     }
     let widest = first_free(
-        seed, w, h, f, buffer, 4.0, a, b, search, unit, boxes, keys, sorted, count, most,
+        seed, w, h, f, buffer, 4.0, tried, unit, boxes, keys, sorted, most,
     );
     widest.unwrap_or(seed)
 }

@@ -115,7 +115,7 @@ pub fn segment_hits_box(p: Point, q: Point, b: &[f64]) -> bool
 pub fn number_at(list: &[f64], i: usize) -> f64
     ensures { result ≡ get_or list.now i nan }
 {
-    if i < list.len() { list[i] } else { 0.0 / 0.0 }
+    list.get(i).copied().unwrap_or(f64::NAN)
 }
 
 // The point i of a list of coordinates.

@@ -1,6 +1,8 @@
 // The cells of boxes, and the list that holds them.
 #![tactic(auto)]
 
+pub mod index;
+
 ghost use Rattle.std.specs.Prelude.{◌≡◌, ◌*◌, ◌≤◌, ◌<◌, length};
 ghost use Rattle.network.specs.Views.{boxes_in};
 ghost use Rattle.grid.specs.Stages.Cells.{cell_at, column_of, row_of, chain_of, grid_in};
@@ -10,7 +12,7 @@ use first_box::box_in;
 use geometry::Box;
 use order::at;
 
-// The grid: its left-top corner, the sides of a cell, and how many columns and rows it has.
+// The grid: its left-top corner, the sides of a cell, and how many columns and rows it has. `grid_of` reads these from any list, so the bounds of columns and rows can't be a ghost field: who needs them asks for them.
 #[derive(Clone, Copy)]
 pub struct Grid {
     pub left: f64,
@@ -21,7 +23,7 @@ pub struct Grid {
     pub rows: usize,
 }
 
-// The column or row, of so many, of a coordinate.
+// The column or row, of so many, of a coordinate. `most` is bounded here and in `box_cells::extent`, which hands it on: a struct of one number is no plainer.
 #[tactic(auto, unfolding(crate::specs::Stages::Cells::cell_at))]
 pub fn cell(unit: f64, low: f64, most: usize, x: f64) -> usize
     requires { (1 ≤ most) × (most ≤ 16384) }

@@ -6,18 +6,18 @@ use mathlib.Core.List.{List, [], ◌∷◌, ◌++◌}
 use Prim.Native.Nat.{ℕ, zero, suc, ◌+◌, ◌-◌, ◌*◌, ◌≤◌, ◌<◌, zero-le}
 use native.Mathlib.Omega.{arith}
 use native.Mathlib.Numerals.{add-one}
-use lib.Dec.{eqb}
+use lib.Dec.{eqb, ltb}
 use lib.ListN.{length, get_or, take, drop, set, length-set, length-drop, drop_of_length-le}
 use lib.Seq.{drop-cons, take-suc, take_all, length-take-le, get_or-take, get_or-drop, get_or-set_same, get_or-set_other}
 use borrow.Author.Tests.{eq-eqb, ne_eqb}
-use Rattle.order.specs.Order.{key_at, keep}
+use Rattle.order.specs.Order.{keep}
 use Rattle.order.specs.Table.{table, which, strided}
 use Rattle.order.proofs.Laws.{keep_yes, keep_no}
 use Rattle.order.proofs.Merging.{le_or_lt}
 use Rattle.order.proofs.Tables.{how_many_le, table_ext}
 use Rattle.order.proofs.Strides.{is_table, strided_zero, strided_push, strided_other, strided_past, get_d_strided, length_strided}
 use Rattle.half_edges.specs.Round.{round_of, first_at, around}
-use Rattle.half_edges.proofs.Rounds.{length_round, corner_at, round_rises, first_is, before_first, from_first, around_first}
+use Rattle.half_edges.proofs.Rounds.{length_round, corner_at, before_first, from_first, around_first}
 use Rattle.grouping.specs.Stages.Grouped.{start_in, member_in, Copied, Started, Grouped}
 
 -- ---- the order copied beside the crossings
@@ -61,77 +61,42 @@ module _ (order before : List ℕ) where
 pub round_long : (keys order : List ℕ) → order ≡ round_of keys → length order ≡ length keys
 round_long keys order q = ap length q ∙ length_round keys
 
-pub record Starting (m : ℕ) (keys before now : List ℕ) (c j : ℕ) : Type 0 where
-  pub upto : j ≤ length keys
-  pub long : length now ≡ length before
-  pub below : (i : ℕ) → i < j → corner_at keys i < c
-  pub done : Started m c keys before now
+-- none begins past the crossings
+pub start_within : (keys order : List ℕ) → order ≡ round_of keys → (c : ℕ) → first_at keys c ≤ length order
+unfolding first_at
+start_within keys order q c = omega (arith, how_many_le (λ h. ltb (get_or keys h 0) c) (length keys), round_long keys order q)
 
 module _ (m : ℕ) (keys before : List ℕ) where
-  pub start_none : Starting m keys before before 0 0
-  start_none =
-      record {
-        upto = zero-le;
-        long = refl;
-        below = λ i h. absurd (omega arith);
-        done = record { starts = λ c h. absurd (omega arith); rows = λ o h j. refl; counts = refl };
-      }
+  pub start_none : Started m 0 keys before before
+  start_none = record { starts = λ c h. absurd (omega arith); rows = λ o h j. refl; counts = refl }
 
-  pub start_done : (now : List ℕ) (c j k : ℕ) → c ≡ k → Starting m keys before now c j → Started m k keys before now
-  start_done now c j k e r = subst (λ (t : ℕ). Started m t keys before now) e r.done
+  pub start_done : (now : List ℕ) (c k : ℕ) → c ≡ k → Started m c keys before now → Started m k keys before now
+  start_done now c k e r = subst (λ (t : ℕ). Started m t keys before now) e r
 
-  module _ (now : List ℕ) (c j : ℕ) (r : Starting m keys before now c j) where
-    -- j is where channel c's begin: none from there on is of a lower one
-    module _ (room : 4 * (m + c) + 4 ≤ length before) (h : (i : ℕ) → j ≤ i → i < length keys → c ≤ corner_at keys i) where
-      found : j ≡ first_at keys c
-      found = first_is keys c j r.upto r.below h
+  -- channel c's start is put behind those before it
+  module _ (now : List ℕ) (c j : ℕ) (room : 4 * (m + c) + 4 ≤ length now) (q : j ≡ first_at keys c) (r : Started m c keys before now) where
+    abbrev next : List ℕ
+    next = set now (4 * (m + c) + 3) j
 
-      abbrev next : List ℕ
-      next = set now (4 * (m + c) + 3) j
+    here : start_in m next c ≡ j
+    unfolding start_in
+    here = get_or-set_same now (4 * (m + c) + 3) j 0 (omega arith)
 
-      here : start_in m next c ≡ j
-      unfolding start_in
-      here = get_or-set_same now (4 * (m + c) + 3) j 0 (omega (arith, r.long))
+    others : (d : ℕ) → d < c → start_in m next d ≡ start_in m now d
+    unfolding start_in
+    others d g = get_or-set_other now (4 * (m + c) + 3) (4 * (m + d) + 3) j 0 (λ e. omega arith)
 
-      others : (d : ℕ) → d < c → start_in m next d ≡ start_in m now d
-      unfolding start_in
-      others d g = get_or-set_other now (4 * (m + c) + 3) (4 * (m + d) + 3) j 0 (λ e. omega arith)
-
-      pub start_put : Starting m keys before next (c + 1) j
-      start_put =
-          record {
-            upto = r.upto;
-            long = length-set now (4 * (m + c) + 3) j ∙ r.long;
-            below = λ i g. let z = r.below i g in omega arith;
-            done =
-                record {
-                  starts =
-                      λ d g. ⊎_elim
-                      (λ (l : c ≤ d). let e : d ≡ c = omega arith in subst (λ (t : ℕ). start_in m next t ≡ first_at keys t) (sym e) (here ∙ found))
-                      (λ (l : d < c). others d l ∙ r.done.starts d l)
-                      (le_or_lt c d);
-                  rows = λ o g k. strided_other 4 o 0 3 k (m + c) now j (omega arith) (omega arith) (λ q. omega arith) ∙ r.done.rows o g k;
-                  counts = strided_past 4 3 0 3 m (m + c) now j (omega arith) (omega arith) (omega arith) ∙ r.done.counts;
-                };
-          }
-
-    -- by the order that the code reads
-    module _ (order : List ℕ) (q : order ≡ round_of keys) where
-      read : (k : ℕ) → k ≡ key_at keys (get_or order j 0) → k ≡ corner_at keys j
-      read k e = e ∙ ap (λ (l : List ℕ). key_at keys (get_or l j 0)) q
-
-      pub start_past : (k : ℕ) → k ≡ key_at keys (get_or order j 0) → j < length order → k < c → Starting m keys before now c (j + 1)
-      start_past k e h g = record { upto = omega (arith, round_long keys order q); long = r.long; below = go; done = r.done }
-        where
-          go : (i : ℕ) → i < j + 1 → corner_at keys i < c
-          go i l = ⊎_elim (λ (b : j ≤ i). let z : j ≡ i = omega arith in subst (λ (t : ℕ). corner_at keys t < c) z (omega (arith, read k e))) (λ (b : i < j). r.below i b) (le_or_lt j i)
-
-      pub start_here : (k : ℕ) → k ≡ key_at keys (get_or order j 0) → 4 * (m + c) + 4 ≤ length before → j < length order → c ≤ k
-          → Starting m keys before (set now (4 * (m + c) + 3) j) (c + 1) j
-      start_here k e room l g = start_put room (λ i b u. let z = round_rises keys j i b u in omega (arith, read k e))
-
-      pub start_end : 4 * (m + c) + 4 ≤ length before → length order ≤ j → Starting m keys before (set now (4 * (m + c) + 3) j) (c + 1) j
-      start_end room l = start_put room (λ i b u. absurd (omega (arith, round_long keys order q)))
+    pub start_put : Started m (c + 1) keys before next
+    start_put =
+        record {
+          starts =
+              λ d g. ⊎_elim
+              (λ (l : c ≤ d). let e : d ≡ c = omega arith in subst (λ (t : ℕ). start_in m next t ≡ first_at keys t) (sym e) (here ∙ q))
+              (λ (l : d < c). others d l ∙ r.starts d l)
+              (le_or_lt c d);
+          rows = λ o g k. strided_other 4 o 0 3 k (m + c) now j (omega arith) (omega arith) (λ q. omega arith) ∙ r.rows o g k;
+          counts = strided_past 4 3 0 3 m (m + c) now j (omega arith) (omega arith) (omega arith) ∙ r.counts;
+        }
 
 -- ---- a channel's stretch
 

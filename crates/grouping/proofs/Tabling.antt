@@ -35,6 +35,3 @@ module _ {A : Type 0} (f : ℕ → A) (d : List A) where
   table_end now i e r =
       let short : length d ≤ i = omega arith in
       r.list ∙ ap (λ (l : List A). table f i ++ l) (drop_of_length-le d short) ∙ append-nil (table f i) ∙ ap (table f) e
-
-  pub table_stop : (now : List A) (i n : ℕ) → i ≡ n → Tabled f d now i → now ≡ table f n ++ drop n d
-  table_stop now i n e r = r.list ∙ ap (λ (k : ℕ). table f k ++ drop k d) e

@@ -1,7 +1,7 @@
 // Crossings grouped by channel.
 ghost use Rattle.std.specs.Prelude.{◌≡◌, ◌+◌, ◌*◌, ◌^◌, ◌≤◌, ◌<◌, length};
 ghost use Rattle.order.specs.Table.{strided};
-ghost use Rattle.half_edges.specs.Round.{round_of};
+ghost use Rattle.half_edges.specs.Round.{round_of, first_at};
 ghost use Rattle.grouping.specs.Stages.Grouped.{Started, Copied, Grouped};
 
 use order::{at, key_at, number, sort_by_key};
@@ -26,26 +26,22 @@ fn copy_order(order: &[u32], numbers: &mut [u32])
     }
 }
 
+// Where channel c's crossings begin in the order by channel, by halving.
+fn start_of(keys: &[u64], order: &[u32], c: usize) -> usize
+    requires { order.now ≡ round_of keys.now }
+    ensures { result ≡ first_at keys.now c }
+{
+    order.partition_point(|&x| (key_at(keys, x) as usize) < c)
+}
+
 // Where each channel's crossings begin in the order by channel, one past the last channel included.
 fn put_starts(m: usize, channels: usize, keys: &[u64], order: &[u32], ends: &mut [u32])
-    requires m_bound { (m ≤ 2 ^ 32) × (channels < 2 ^ 32) × (length order.now < 2 ^ 32) × (4 * (m + channels) + 4 ≤ length ends.old) }
+    requires m_bound { (length order.now < 2 ^ 32) × (4 * (m + channels) + 4 ≤ length ends.old) }
     requires order_value { order.now ≡ round_of keys.now }
     ensures { Started m (channels + 1) keys.now ends.old ends.new }
 {
-    let mut c = 0;
-    let mut j = 0;
-    while c <= channels {
-        if j < order.len() {
-            if (key_at(keys, order[j]) as usize) < c {
-                j += 1;
-            } else {
-                ends[4 * (m + c) + 3] = j as u32;
-                c += 1;
-            }
-        } else {
-            ends[4 * (m + c) + 3] = j as u32;
-            c += 1;
-        }
+    for c in 0..channels + 1 {
+        ends[4 * (m + c) + 3] = start_of(keys, order, c) as u32;
     }
 }
 
@@ -59,7 +55,7 @@ fn group_all(
     spare: &mut [u32],
     keys: &mut [u64],
 )
-    requires { (m ≤ 2 ^ 32) × (channels < 2 ^ 32) × (4 * (m + channels) + 4 ≤ length ends.old) × (length keys.old < 2 ^ 32) × (length sorted.old ≡ length keys.old) × (length spare.old ≡ length keys.old) × (3 * length keys.old ≤ length numbers.old) }
+    requires { (4 * (m + channels) + 4 ≤ length ends.old) × (length keys.old < 2 ^ 32) × (length sorted.old ≡ length keys.old) × (length spare.old ≡ length keys.old) × (3 * length keys.old ≤ length numbers.old) }
     ensures { Grouped m channels (length keys.old) ends.old numbers.old ends.new numbers.new }
 {
     channel_keys(numbers, keys);
@@ -69,20 +65,21 @@ fn group_all(
     put_starts(m, channels, keys, sorted, ends);
 }
 
-// Groups the first n crossings by channel: the third number of each, and behind the branches where each channel's begin; the last three are work lists.
+// Groups as many crossings as `keys` is long by channel: the third number of each, and behind the branches where each channel's begin; the last three are work lists.
+// Lists that are written are no struct: behind `&mut` others could stand in it, so each contract would have to say that it keeps them and their lengths.
 pub fn group(
     m: usize,
     channels: usize,
-    n: usize,
     ends: &mut [u32],
     numbers: &mut [u32],
     sorted: &mut [u32],
     spare: &mut [u32],
     keys: &mut [u64],
 )
-    requires { (m ≤ 2 ^ 32) × (channels < 2 ^ 32) × (4 * (m + channels) + 4 ≤ length ends.old) × (n < 2 ^ 32) × (3 * n ≤ length numbers.old) × (n ≤ length sorted.old) × (n ≤ length spare.old) × (n ≤ length keys.old) }
-    ensures { Grouped m channels n ends.old numbers.old ends.new numbers.new }
+    requires { (4 * (m + channels) + 4 ≤ length ends.old) × (length keys.old < 2 ^ 32) × (3 * length keys.old ≤ length numbers.old) × (length keys.old ≤ length sorted.old) × (length keys.old ≤ length spare.old) }
+    ensures { Grouped m channels (length keys.old) ends.old numbers.old ends.new numbers.new }
 {
+    let n = keys.len();
     group_all(
         m,
         channels,
@@ -90,6 +87,6 @@ pub fn group(
         numbers,
         &mut sorted[..n],
         &mut spare[..n],
-        &mut keys[..n],
+        keys,
     );
 }

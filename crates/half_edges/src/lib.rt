@@ -4,7 +4,17 @@
 ghost use Rattle.std.specs.Prelude.{◌≡◌, ◌++◌, ◌+◌, ◌^◌, ◌≤◌, ◌<◌, length, take, drop, replicate, get_or};
 ghost use Rattle.half_edges.specs.Round.{round_of, first_at};
 
+use mesh::Mesh;
 use order::{at, number, sort_by_key};
+
+// A mesh of no more half-edges than a mesh may have, and its half-edges by the corner that they start at, at the front of `around`.
+#[derive(Clone, Copy)]
+pub struct Turned<'a> {
+    pub mesh: Mesh<'a>,
+    pub around: &'a [u32],
+    pub ghost few: { length mesh.corners.now ≤ 24576 },
+    pub ghost turned: { take (length mesh.corners.now) around.now ≡ round_of mesh.corners.now },
+}
 
 // Copies the corners to a list of keys.
 fn widen(corners: &[u32], keys: &mut [u64])

@@ -65,6 +65,7 @@ fn square(v: u64) -> Wide
 }
 
 // w / 2 ^ s.
+// The bound is that of one sum's low word: the three functions hand it on, and a type of its own would say no more.
 fn shifted(w: Wide, s: u64) -> Wide
     requires { (w.hi < 2 ^ 54) × (w.lo < 2 ^ 54) × (s ≤ 54) }
     ensures { IsWide result.hi result.lo ((w.hi * 2 ^ 54 + w.lo) / 2 ^ s) }
@@ -196,6 +197,7 @@ fn nearer(h: f64, y: f64) -> f64 {
 }
 
 // Nearly the root of w: any number below 2^28 serves, since `word_root` mends it. Half of a pattern gives a first guess of 1 over the root.
+// The bound is that of one square: the three functions hand it on, and a type of its own would say no more.
 fn guess(w: u64) -> u64
     requires { w < 2 ^ 56 }
     ensures { result < 2 ^ 28 }

@@ -1,6 +1,6 @@
 -- The whole call from its parts: the answer and every lent list.
 -- Assumes nothing.
-use mathlib.Core.Path.{◌≡◌, refl, sym, ◌∙◌}
+use mathlib.Core.Path.{◌≡◌, sym, ◌∙◌}
 use lib.ListN.{length}
 use Rattle.options.specs.declared.Options.{Options}
 use Rattle.std.specs.Prelude.{Some, None, Result, Err}

@@ -10,6 +10,8 @@ use drawing::answer::Plot;
 use drawing::room::Room;
 use finish::finish;
 use layout_limits::refuse::check_input;
+use mesh::Mesh;
+use network::lists::{Bounded, Network};
 use network::words::station_count;
 use options::Options;
 use refusals::Refusal;
@@ -26,7 +28,8 @@ fn crossing_room(room: Room) -> usize
 }
 
 // Draws the network into the lent lists.
-pub fn tx_schematic_layout(
+// The lists stand as C hands them over, each with its length.
+pub fn tx_schematic_layout<'a>(
     positions: &mut [f64],
     bars: &mut [f64],
     boxes: &mut [f64],
@@ -48,14 +51,14 @@ pub fn tx_schematic_layout(
     crossing_places: &mut [f64],
     crossing_ways: &mut [f64],
     o: Options,
-    sub: &[u32],
-    kv: &[u64],
-    from: &[i64],
-    to: &[i64],
-    service: &[u8],
-    xy: &[f64],
-    corners: &[u32],
-    twins: &[u32],
+    sub: &'a [u32],
+    kv: &'a [u64],
+    from: &'a [i64],
+    to: &'a [i64],
+    service: &'a [u8],
+    xy: &'a [f64],
+    corners: &'a [u32],
+    twins: &'a [u32],
 ) -> Result<Plot, Refusal>
     ensures { Answered o
         (record { station = sub.now; kv = kv.now; from = from.now; to = to.now; service = service.now; xy = xy.now; corners = corners.now; twins = twins.now })
@@ -89,18 +92,22 @@ pub fn tx_schematic_layout(
         crossings: crossing_places.len(),
         ways: crossing_ways.len(),
     };
-    check_input(o, sub, kv, from, to, service, xy, corners, twins, room)?;
-    let k = station_count(sub);
-    let course = chart(
-        o,
+    let mesh = Mesh { corners, twins };
+    let net = Network {
         sub,
         kv,
         from,
         to,
         service,
         xy,
-        corners,
-        twins,
+        mesh,
+    };
+    check_input(o, &net, room)?;
+    let net = Bounded { lists: net };
+    let k = station_count(sub);
+    let course = chart(
+        o,
+        &net,
         k,
         crossing_room(room),
         stations,
@@ -119,24 +126,17 @@ pub fn tx_schematic_layout(
     );
     let a = finish(
         o,
-        sub,
-        kv,
-        from,
-        to,
-        service,
-        xy,
-        corners,
-        twins,
+        &net,
         k,
+        stations,
+        frames,
+        sorted,
         room,
         course,
-        stations,
         buses,
         ends,
-        sorted,
         blocks,
         places,
-        frames,
         path,
         crossing_ways,
         positions,

@@ -6,6 +6,7 @@ ghost use Rattle.drawing.specs.Answer.{short_results, short_work, early};
 
 use box_cells::build::index_length;
 use drawing::room::Room;
+use network::lists::Network;
 use network::words::station_count;
 use options::Options;
 use refusals::{Refusal, check_shape, too_far};
@@ -24,6 +25,7 @@ fn short_results(n: usize, m: usize, k: usize, room: Room) -> bool
 }
 
 // Whether a work list is too short for n buses, m branches and the mesh length.
+// n, m and the mesh length are bounded by what `check_shape` passed: a struct of them would be made for two tests.
 #[tactic(auto, unfolding(drawing::specs::Answer::short_work))]
 fn short_work(n: usize, m: usize, mesh: usize, room: Room) -> bool
     requires { (n ≤ 4096) × (m ≤ 8192) × (mesh ≤ 24576) }
@@ -51,31 +53,20 @@ fn mesh_length(corners: &[u32]) -> usize
 }
 
 // 1 to 7 and 15.
-pub fn check_input(
-    o: Options,
-    sub: &[u32],
-    kv: &[u64],
-    from: &[i64],
-    to: &[i64],
-    service: &[u8],
-    xy: &[f64],
-    corners: &[u32],
-    twins: &[u32],
-    room: Room,
-) -> Result<(), Refusal>
-    ensures { result_err result ≡ early o (network sub.now kv.now from.now to.now service.now xy.now corners.now twins.now) room }
+pub fn check_input(o: Options, net: &Network<'_>, room: Room) -> Result<(), Refusal>
+    ensures { result_err result ≡ early o (network net.now.sub.now net.now.kv.now net.now.from.now net.now.to.now net.now.service.now net.now.xy.now net.now.mesh.corners.now net.now.mesh.twins.now) room }
 {
-    check_shape(sub, kv, from, to)?;
+    check_shape(net.sub, net.kv, net.from, net.to)?;
     if !o.in_range() {
         return Err(Refusal::OptionRange);
     }
-    let n = sub.len();
-    if too_far(n, xy) {
+    let n = net.sub.len();
+    if too_far(n, net.xy) {
         return Err(Refusal::TooFar);
     }
-    let m = from.len();
-    if short_results(n, m, station_count(sub), room)
-        || short_work(n, m, mesh_length(corners), room)
+    let m = net.from.len();
+    if short_results(n, m, station_count(net.sub), room)
+        || short_work(n, m, mesh_length(net.mesh.corners), room)
     {
         return Err(Refusal::ListTooShort);
     }

@@ -32,7 +32,7 @@ fn at_names(text: &[u8], at: usize) -> bool
     begins(text, at, b"from to live\n")
 }
 
-// Bus n.
+// Bus n: a place, not a length.
 fn put_bus(n: usize, b: Bus, sub: &mut [u32], kv: &mut [u64], xy: &mut [f64])
     requires { (n < length sub.old) × (n < length kv.old) × (2 * n + 1 < length xy.old) }
     ensures sub_after { sub.new ≡ set sub.old n b.sub }
@@ -45,7 +45,7 @@ fn put_bus(n: usize, b: Bus, sub: &mut [u32], kv: &mut [u64], xy: &mut [f64])
     xy[2 * n + 1] = of_bits(b.y);
 }
 
-// Branch n.
+// Branch n: a place, not a length.
 fn put_branch(n: usize, b: Branch, from: &mut [i64], to: &mut [i64], live: &mut [u8])
     requires { (n < length from.old) × (n < length to.old) × (n < length live.old) }
     ensures from_after { from.new ≡ set from.old n b.from }
@@ -58,6 +58,7 @@ fn put_branch(n: usize, b: Branch, from: &mut [i64], to: &mut [i64], live: &mut 
 }
 
 // The bus lines from `at` on: how many there are, and the place after the line that ends them.
+// Arrays of 64 would ask more: a longer list may be lent.
 #[tactic(auto, using(crate::proofs::Reading::bus_laws), unfolding(fields::specs::Stages::Places::field_of, crate::specs::Input::read, crate::specs::Input::counted))]
 fn bus_lines(
     text: &[u8],
@@ -129,6 +130,7 @@ fn branch_lines(
 }
 
 // The text's network, or, where the text is malformed, what stands before the first malformed line.
+// Lists of 64 or more will do: an array type in place of the bounds would ask callers for just 64.
 #[tactic(auto, using(crate::proofs::Parsing::parse_laws), unfolding(fields::specs::Stages::Places::field_of, crate::specs::Line::bus_names, crate::specs::LinePlaces::answer, crate::specs::Input::no_buses, crate::specs::Input::no_branches, order::specs::Over::over))]
 pub fn parse(
     text: &[u8],

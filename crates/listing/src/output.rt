@@ -62,6 +62,7 @@ fn piece_line(
 }
 
 // The lines of the first `count` pieces; the place after them.
+// The count is no length of these lists: a piece past their ends is written too, with numbers that are not there.
 #[tactic(auto, using(crate::proofs::Writing::lines_laws))]
 fn piece_lines(
     count: usize,
@@ -83,7 +84,7 @@ fn piece_lines(
     p
 }
 
-// Writes a drawing of `count` pieces over the front of `out`, and returns its length: at most 83 bytes a piece.
+// Writes a drawing of `count` pieces over the front of `out`, and returns its length: at most 83 bytes a piece. The count is none of a list, as in `piece_lines`.
 #[tactic(auto, using(crate::proofs::Writing::text_laws), unfolding(crate::specs::Output::piece_names))]
 pub fn print(count: usize, roles: &[u8], pieces: &[f64], branches: &[u32], out: &mut [u8]) -> usize
     requires { 24 + 83 * count ≤ length out.old }

@@ -8,6 +8,8 @@ ghost use Rattle.units.specs.Unit as Unit;
 ghost use Rattle.scales.specs.Scale as Scale;
 ghost use Rattle.sizes.specs.Stages.Views.{sizes_in, scales_in, row_counts_in};
 
+use neighbours::points::Points;
+use network::lists::Stations;
 use options::{Gaps, Options};
 
 // What interiors are measured by: the unit, and the gaps in blocks.
@@ -19,10 +21,10 @@ pub struct Measures {
 
 // The unit of the first k stations, and the size and scale of each in blocks. `stations` has the bus count and the row count of each,
 // `places` the seeds. The other lists are work lists.
+// Lists that are written are no struct: behind `&mut` others could stand in it, so each contract would have to say that it keeps them and their lengths.
 pub fn units(
     o: Options,
-    k: usize,
-    stations: &[u32],
+    stations: &Stations<'_>,
     places: &[f64],
     blocks: &mut [f64],
     frames: &mut [f64],
@@ -31,17 +33,16 @@ pub fn units(
     sorted: &mut [u32],
     spare: &mut [u32],
 ) -> f64
-    requires { (k ≤ 4096) × (2 * k ≤ length stations.now) × (2 * k ≤ length places.now) × (3 * k ≤ length blocks.old) × (k ≤ length frames.old) × (2 * k ≤ length path.old) × (k ≤ length keys.old) × (k ≤ length sorted.old) × (k ≤ length spare.old) }
-    ensures value { result ≡ Unit.unit_for o.fill (Unit.spacing (points_in k places.now) (counts_in k stations.now)) (Unit.typical (sizes_for o.gaps (counts_in k stations.now) (row_counts_in k stations.now)) (counts_in k stations.now)) }
-    ensures blocks_after { sizes_in k blocks.new ≡ sizes_for o.gaps (counts_in k stations.now) (row_counts_in k stations.now) }
-    ensures blocks_after_2 { scales_in k blocks.new ≡ Scale.scales o (points_in k places.now) (counts_in k stations.now) (Unit.spacing (points_in k places.now) (counts_in k stations.now)) }
+    requires { (stations.now.k ≤ 4096) × (2 * stations.now.k ≤ length places.now) × (3 * stations.now.k ≤ length blocks.old) × (stations.now.k ≤ length frames.old) × (2 * stations.now.k ≤ length path.old) × (stations.now.k ≤ length keys.old) × (stations.now.k ≤ length sorted.old) × (stations.now.k ≤ length spare.old) }
+    ensures value { result ≡ Unit.unit_for o.fill (Unit.spacing (points_in stations.now.k places.now) (counts_in stations.now.k stations.now.counts.now)) (Unit.typical (sizes_for o.gaps (counts_in stations.now.k stations.now.counts.now) (row_counts_in stations.now.k stations.now.counts.now)) (counts_in stations.now.k stations.now.counts.now)) }
+    ensures blocks_after { sizes_in stations.now.k blocks.new ≡ sizes_for o.gaps (counts_in stations.now.k stations.now.counts.now) (row_counts_in stations.now.k stations.now.counts.now) }
+    ensures blocks_after_2 { scales_in stations.now.k blocks.new ≡ Scale.scales o (points_in stations.now.k places.now) (counts_in stations.now.k stations.now.counts.now) (Unit.spacing (points_in stations.now.k places.now) (counts_in stations.now.k stations.now.counts.now)) }
 {
-    sizes::sizes(o.gaps, k, stations, blocks);
-    let n = units::coordinates(k, stations, places, path);
-    let spacing = units::spacing(n, path, frames, keys, sorted, spare);
-    let side = units::typical(k, stations, blocks, frames, keys, sorted, spare);
-    scales::scales(
-        o, k, n, spacing, stations, path, blocks, keys, sorted, spare,
-    );
+    sizes::sizes(o.gaps, stations, blocks);
+    let n = units::coordinates(stations, places, path);
+    let points = Points { n, xy: path };
+    let spacing = units::spacing(&points, frames, keys, sorted, spare);
+    let side = units::typical(stations, blocks, frames, keys, sorted, spare);
+    scales::scales(o, stations, &points, spacing, blocks, keys, sorted, spare);
     units::unit_for(o.fill, spacing, side)
 }

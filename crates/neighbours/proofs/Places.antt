@@ -13,7 +13,7 @@ use Rattle.order.specs.Table.{how_many}
 use Rattle.order.proofs.Merging.{length_sort}
 use Rattle.order.proofs.Laws.{length_up, sorted, below_sort, place_law, rank_found, count_sort}
 use Rattle.order.proofs.Tables.{how_many_ext}
-use Rattle.neighbours.specs.Stages.Sweep.{x_at, Swept}
+use Rattle.neighbours.specs.Stages.Sweep.{x_at, x_key, Swept}
 
 -- a count by places
 count_later : (p : ℕ → Bool) (a n : ℕ) → count p (up_from (suc a) n) ≡ count (λ q. p (suc q)) (up_from a n)
@@ -28,33 +28,33 @@ count_places p (x ∷ xs) = ap (λ (c : ℕ). pick (p x) (suc c) c) (count_later
 
 module _ (ps : List Float) (n : ℕ) (o : List ℕ) (S : Swept ps n o) where
   abbrev order : List ℕ
-  order = sort_by S.key (up_from 0 n)
+  order = sort_by (x_key ps) (up_from 0 n)
 
   at_place : (q : ℕ) → q < n → get_or o q 0 ≡ get_or order q 0
   at_place q h = sym (get_or-take n o q 0 h) ∙ ap (λ (l : List ℕ). get_or l q 0) S.listed
 
   pub place_below : (q : ℕ) → q < n → get_or o q 0 < n
-  place_below q h = subst (λ (j : ℕ). j < n) (sym (at_place q h)) (below_sort S.key n q h)
+  place_below q h = subst (λ (j : ℕ). j < n) (sym (at_place q h)) (below_sort (x_key ps) n q h)
 
   pub place_rising : (i j : ℕ) → i ≤ j → j < n → T (le (x_at ps (get_or o i 0)) (x_at ps (get_or o j 0)))
   place_rising i j h k =
       let g : i < n = omega arith in
       let l : j < length (up_from 0 n) = rw (length_up 0 n) k in
       S.rising (get_or o i 0) (get_or o j 0) (place_below i g) (place_below j k)
-      (subst (λ (t : ℕ). S.key t ≤ S.key (get_or o j 0)) (sym (at_place i g))
-      (subst (λ (t : ℕ). S.key (get_or order i 0) ≤ S.key t) (sym (at_place j k)) (sorted S.key (up_from 0 n) i j h l)))
+      (subst (λ (t : ℕ). (x_key ps) t ≤ (x_key ps) (get_or o j 0)) (sym (at_place i g))
+      (subst (λ (t : ℕ). (x_key ps) (get_or order i 0) ≤ (x_key ps) t) (sym (at_place j k)) (sorted (x_key ps) (up_from 0 n) i j h l)))
 
   -- no number stands at two places, and each stands at one
   pub place_once : (q c : ℕ) → q < n → c < n → get_or o q 0 ≡ get_or o c 0 → q ≡ c
   place_once q c h k e =
-      sym (place_law S.key n q h) ∙ ap (rank S.key n) (sym (at_place q h) ∙ e ∙ at_place c k) ∙ place_law S.key n c k
+      sym (place_law (x_key ps) n q h) ∙ ap (rank (x_key ps) n) (sym (at_place q h) ∙ e ∙ at_place c k) ∙ place_law (x_key ps) n c k
 
   pub place_of : (j : ℕ) → j < n → (q : ℕ) × (q < n) × (get_or o q 0 ≡ j)
-  place_of j h = let r = rank_found S.key n j h in (rank S.key n j, r.0, at_place (rank S.key n j) r.0 ∙ r.1)
+  place_of j h = let r = rank_found (x_key ps) n j h in (rank (x_key ps) n j, r.0, at_place (rank (x_key ps) n j) r.0 ∙ r.1)
 
   -- as many of the first n numbers pass a test as of those at the places
   pub place_count : (p : ℕ → Bool) → how_many (λ q. p (get_or o q 0)) n ≡ how_many p n
   place_count p =
-      let e : length order ≡ n = length_sort S.key (up_from 0 n) ∙ length_up 0 n in
+      let e : length order ≡ n = length_sort (x_key ps) (up_from 0 n) ∙ length_up 0 n in
       how_many_ext (λ q. p (get_or o q 0)) (λ q. p (get_or order q 0)) n (λ q h. ap p (at_place q h))
-      ∙ ap (how_many (λ q. p (get_or order q 0))) (sym e) ∙ count_places p order ∙ count_sort S.key p (up_from 0 n)
+      ∙ ap (how_many (λ q. p (get_or order q 0))) (sym e) ∙ count_places p order ∙ count_sort (x_key ps) p (up_from 0 n)

@@ -4,6 +4,8 @@ ghost use Rattle.order.specs.Table.{table};
 ghost use Rattle.network.specs.Words.{station_count, station_of, bus_counts, known, live, kind_by, kind_of, Safe};
 ghost use Rattle.network.specs.Views.{counts_in};
 
+use crate::lists::Network;
+
 // What a branch is, with its two buses. One with an unknown end, or from a bus to itself, is not drawn.
 #[derive(Clone, Copy)]
 pub enum Kind {
@@ -53,7 +55,7 @@ pub(crate) fn live(service: &[u8], e: usize) -> bool
     service.get(e).copied().unwrap_or(1) != 0
 }
 
-// The bus at the end of branch e, of n; none past the list's end.
+// The bus at the end of branch e; none past the list's end. There are n buses: n isn't the length of this list of branch ends.
 fn end_of(n: usize, list: &[i64], e: usize) -> Option<usize>
     ensures { result ≡ known n (get_or list.now e (negsuc 0)) }
 {
@@ -78,20 +80,20 @@ fn kind_between(sub: &[u32], alive: bool, a: usize, b: usize) -> Kind
 }
 
 // What branch e is.
-pub fn kind_of(sub: &[u32], from: &[i64], to: &[i64], service: &[u8], e: usize) -> Kind
-    ensures value { result ≡ kind_of sub.now from.now to.now service.now e }
-    ensures safe { Safe sub.now result }
+pub fn kind_of(net: &Network<'_>, e: usize) -> Kind
+    ensures value { result ≡ kind_of net.now.sub.now net.now.from.now net.now.to.now net.now.service.now e }
+    ensures safe { Safe net.now.sub.now result }
 {
-    let Some(a) = end_of(sub.len(), from, e) else {
+    let Some(a) = end_of(net.sub.len(), net.from, e) else {
         return Kind::Undrawn;
     };
-    let Some(b) = end_of(sub.len(), to, e) else {
+    let Some(b) = end_of(net.sub.len(), net.to, e) else {
         return Kind::Undrawn;
     };
-    kind_between(sub, live(service, e), a, b)
+    kind_between(net.sub, live(net.service, e), a, b)
 }
 
-// Sets the bus counts of k stations to 0.
+// Sets the bus counts of k stations to 0. This and `count_buses` are the two loops of `bus_counts`, so they ask for what it asks.
 #[tactic(auto, using(crate::proofs::Counts::cleared_none, crate::proofs::Counts::cleared_more))]
 fn clear_counts(k: usize, stations: &mut [u32])
     requires { 2 * k ≤ length stations.old }
@@ -114,6 +116,7 @@ fn count_buses(sub: &[u32], k: usize, stations: &mut [u32])
 }
 
 // The bus counts of the k stations.
+// Lists that are written are no struct: behind `&mut` others could stand in it, so each contract would have to say that it keeps them and their lengths.
 pub fn bus_counts(sub: &[u32], k: usize, stations: &mut [u32])
     requires { (k ≡ station_count sub.now) × (length sub.now ≤ 4096) × (2 * k ≤ length stations.old) }
     ensures { counts_in k stations.new ≡ bus_counts sub.now }

@@ -25,6 +25,7 @@ fn offset_line(o: Offset, at: usize, out: &mut [u8]) -> usize
 }
 
 // The lines of the first `count` offsets; the place after them.
+// `offset_at` reads both lists by a place, so a slice of `sorted` would be counted through all the same.
 #[tactic(auto, using(crate::proofs::Lines::lines_laws))]
 fn offset_lines(count: usize, keys: &[u64], sorted: &[u32], at: usize, out: &mut [u8]) -> usize
     requires { at + 24 * count ≤ length out.old }
@@ -40,6 +41,7 @@ fn offset_lines(count: usize, keys: &[u64], sorted: &[u32], at: usize, out: &mut
 }
 
 // Writes the offsets of a search over the front of `out`, and returns the text's length. The other lists are work room.
+// Lists that are written are no struct: behind `&mut` others could stand in it, so each contract would have to say that it keeps them and their lengths.
 #[tactic(auto, using(crate::proofs::Lines::text_laws), unfolding(crate::specs::Stages::Text::offset_names))]
 pub fn print(
     search: usize,

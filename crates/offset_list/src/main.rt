@@ -23,6 +23,7 @@ fn run<W: Write>(output: &mut W, out: &mut [u8]) -> io::Result<()>
 }
 
 fn main(rt: HostRuntime) -> io::Result<()> {
+    // no heap is a rule of the project, so the text has a buffer of its length
     let mut out = [0u8; 40348];
     run(&mut io::writer(&rt), &mut out)
 }

@@ -162,10 +162,7 @@ pub const OFFSET_B: [i32; 1681] = [
 fn number_at(list: &[i32], j: usize) -> i32
     ensures { result ≡ get_or list.now j (pos 0) }
 {
-    if j < list.len() {
-        return list[j];
-    }
-    0
+    list.get(j).copied().unwrap_or(0)
 }
 
 // The j-th pair of two lists.
@@ -189,8 +186,7 @@ pub fn table_pair(j: usize) -> Offset
 fn size(z: i32) -> u64
     ensures { result ≡ nat_abs z }
 {
-    let d = z as i64;
-    if d < 0 { (0 - d) as u64 } else { d as u64 }
+    z.unsigned_abs() as u64
 }
 
 // Whether both numbers of a pair are from −search to search.

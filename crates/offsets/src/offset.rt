@@ -47,6 +47,7 @@ fn grid_keys(search: u64, side: u64, keys: &mut [u64])
 }
 
 // Sets the first c numbers of a list to 0, 1, 2, ..
+// c is at most 2^32 so that its numbers fit a u32.
 fn number_first(list: &mut [u32], c: usize)
     requires { (c ≤ length list.old) × (c ≤ 2 ^ 32) }
     ensures { list.new ≡ up_from 0 c ++ drop c list.old }
@@ -55,6 +56,7 @@ fn number_first(list: &mut [u32], c: usize)
 }
 
 // The generator: for each search from 0 to 20 every pair within it, once, in order. It returns how many there are; `offset_at` reads them.
+// Lists that are written are no struct: behind `&mut` others could stand in it, so each contract would have to say that it keeps them and their lengths.
 pub fn offset_order(search: usize, keys: &mut [u64], sorted: &mut [u32], spare: &mut [u32]) -> usize
     requires { (search ≤ 20) × (1681 ≤ length keys.old) × (1681 ≤ length sorted.old) × (1681 ≤ length spare.old) }
     ensures { (result ≡ suc (2 * search) * suc (2 * search)) × (offsets_in result keys.new sorted.new ≡ offsets search) × Complete search (offsets_in result keys.new sorted.new) }

@@ -7,9 +7,7 @@ use Prim.Native.Nat.{ℕ, zero, suc, ◌+◌, ◌-◌, ◌≤◌, ◌<◌}
 use native.Mathlib.Omega.{arith}
 use native.Mathlib.Numerals.{add-one}
 use lib.ListN.{length, length-append}
-use lib.Ieee.{Float, lt}
-use Rattle.float.specs.Small.{abs_of}
-use Rattle.float.specs.Ops.{f0, ◌⊕◌, ◌⊖◌}
+use lib.Ieee.{Float}
 use Rattle.order.specs.Order.{pick}
 use Rattle.order.specs.Table.{table_from, table, joined}
 use Rattle.order.proofs.Tables.{table_suc, joined_zero, joined_suc}
@@ -18,10 +16,6 @@ use Rattle.geometry.specs.Plane.{point_at}
 use Rattle.network.specs.Views.{points_in}
 use Rattle.runs.specs.Run.{Piece, apart, pieces}
 use Rattle.pieces.specs.Stages.Pieces.{piece, Counted}
-
-pub apart_is : (a b : Float) (p q : Point) → a ≡ abs_of (p.x ⊖ q.x) → b ≡ abs_of (p.y ⊖ q.y) → lt f0 (a ⊕ b) ≡ apart p q
-unfolding apart
-apart_is a b p q g h = rw (g, h)
 
 -- ---- the piece between two points, and between points j and j + 1 of a list
 unfoldable pub piece_from : ℕ → Point → Point → List Piece

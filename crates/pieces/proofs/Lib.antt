@@ -1,4 +1,3 @@
 -- Laws that the functions' proofs use.
 pub mod Laws
 pub mod Puts
-pub mod Tallies

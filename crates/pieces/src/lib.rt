@@ -11,6 +11,7 @@ use float::small::abs;
 use geometry::{Point, point_at};
 
 // Whether two points differ.
+#[tactic(auto, unfolding(runs::specs::Run::apart))]
 fn apart(p: Point, q: Point) -> bool
     ensures { result ≡ apart p q }
 {
@@ -18,18 +19,15 @@ fn apart(p: Point, q: Point) -> bool
 }
 
 // How many pieces run through the first c points.
+// c counts points over usize: as a `u32` it would be converted at each index.
 fn count_pieces(path: &[f64], c: usize) -> usize
     requires { c < 2 ^ 32 }
     ensures { Counted result (points_in c path.now) }
 {
-    let mut n: usize = 0;
-    let mut j: usize = 0;
-    while j + 1 < c {
+    let mut n = 0;
+    for j in 0..c.saturating_sub(1) {
         if apart(point_at(path, j), point_at(path, j + 1)) {
             n += 1;
-            j += 1;
-        } else {
-            j += 1;
         }
     }
     n
@@ -60,16 +58,12 @@ fn put_pieces(
     ensures { Put at result (pieces e (points_in c path.now)) numbers.old numbers.new branches.old branches.new }
 {
     let mut k = at;
-    let mut j: usize = 0;
-    while j + 1 < c {
+    for j in 0..c.saturating_sub(1) {
         let p = point_at(path, j);
         let q = point_at(path, j + 1);
         if apart(p, q) {
             put_piece(e, k, p, q, numbers, branches);
             k += 1;
-            j += 1;
-        } else {
-            j += 1;
         }
     }
     k
@@ -90,7 +84,8 @@ pub fn tally(
     ensures { Passed write first result (pieces e (points_in c path.now)) numbers.old numbers.new branches.old branches.new }
 {
     if write {
-        return put_pieces(path, c, e as u32, first, numbers, branches);
+        put_pieces(path, c, e as u32, first, numbers, branches)
+    } else {
+        first + count_pieces(path, c)
     }
-    first + count_pieces(path, c)
 }

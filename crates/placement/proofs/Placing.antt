@@ -61,13 +61,13 @@ module _ (M : Measures) (k : ℕ) (blocks : List Float) where
 pub record Placed (unit : Float) (fs : List Frame) (os : List Offset) (seeds : List Point) (order : List ℕ) (k p most : ℕ) (ps bs : List Float) (keys sorted : List ℕ) : Type 0 where
   pub points : points_in k ps ≡ places_to fs os seeds order p
   pub boxes : All (λ t. box_at bs t ≡ box_of fs (places_to fs os seeds order p) t) (take p order)
-  pub kept : Kept unit bs p most keys sorted
+  pub kept : Kept unit bs most (take p keys) (take p sorted)
   pub same : (t : ℕ → Bool) → count t (take p sorted) ≡ count t (take p order)
 
 pub placed_none : (unit : Float) (fs : List Frame) (os : List Offset) (order : List ℕ) (k : ℕ) (ps bs : List Float) (keys sorted : List ℕ)
     → Placed unit fs os (points_in k ps) order k 0 0 ps bs keys sorted
 unfolding places_to
-placed_none unit fs os order k ps bs keys sorted = record { points = refl; boxes = tt; kept = kept_none unit bs keys sorted; same = λ t. refl }
+placed_none unit fs os order k ps bs keys sorted = record { points = refl; boxes = tt; kept = kept_none unit bs; same = λ t. refl }
 
 all_two : (P Q R : ℕ → Type 0) → ((x : ℕ) → P x → Q x → R x) → (l : List ℕ) → All P l → All Q l → All R l
 all_two P Q R f [] a b = tt
@@ -78,11 +78,11 @@ all_end P [] x a h = (h, tt)
 all_end P (y ∷ l) x a h = (a.0, all_end P l x a.1 h)
 
 -- a box stored of a station that isn't kept changes nothing of those that are
-pub kept_on : (unit : Float) (bs bs' : List Float) (p most : ℕ) (keys sorted : List ℕ) (s : ℕ) (b : Box) → bs' ≡ put_box bs s b → All (λ y. s ≡ y → ⊥) (take p sorted)
-    → Kept unit bs p most keys sorted → Kept unit bs' p most keys sorted
-kept_on unit bs bs' p most keys sorted s b e f K =
-    kept_ext unit bs bs' p most keys sorted
-    (all_map (λ y. s ≡ y → ⊥) (λ y. box_at bs y ≡ box_at bs' y) (λ y n. sym (ap (λ (x : List Float). box_at x y) e ∙ box_other bs s y b (λ z. n (sym z)))) (take p sorted) f) K
+pub kept_on : (unit : Float) (bs bs' : List Float) (most : ℕ) (keys sorted : List ℕ) (s : ℕ) (b : Box) → bs' ≡ put_box bs s b → All (λ y. s ≡ y → ⊥) sorted
+    → Kept unit bs most keys sorted → Kept unit bs' most keys sorted
+kept_on unit bs bs' most keys sorted s b e f K =
+    kept_ext unit bs bs' most keys sorted
+    (all_map (λ y. s ≡ y → ⊥) (λ y. box_at bs y ≡ box_at bs' y) (λ y n. sym (ap (λ (x : List Float). box_at x y) e ∙ box_other bs s y b (λ z. n (sym z)))) sorted f) K
 
 module _ (unit : Float) (fs : List Frame) (os : List Offset) (seeds : List Point) (order : List ℕ) (k p most : ℕ) (ps bs : List Float) (keys sorted : List ℕ)
     (T : Turns k order) (D : Placed unit fs os seeds order k p most ps bs keys sorted) (h : p ≤ length order) where
@@ -94,11 +94,9 @@ module _ (unit : Float) (fs : List Frame) (os : List Offset) (seeds : List Point
       let j : i < p = subst (λ (n : ℕ). i < n) (length-take-le p order h) q in
       ap t (get_or-take p order i 0 j) ∙ f i j)))
 
-  pub holds_of : 4 * k ≤ length bs → p ≤ length keys → p ≤ length sorted → Holds unit bs p most keys sorted
-  holds_of l m n = record {
+  pub holds_of : 4 * k ≤ length bs → Holds unit bs most (take p keys) (take p sorted)
+  holds_of l = record {
     kept = D.kept;
-    keyed = m;
-    listed = n;
     inside =
         all_map (λ y. leb k y ≡ false) (λ y. 4 * y + 3 < length bs) (λ y e. let g : y < k = leb-false k y e in omega arith) (take p sorted)
         (kept_all (λ y. leb k y) (λ i q. lt-leb k (get_or order i 0) (T.below i (omega arith))));
@@ -110,7 +108,7 @@ module _ (unit : Float) (fs : List Frame) (os : List Offset) (seeds : List Point
       (kept_all (λ y. eqb s y) (λ i q. ne_eqb s (get_or order i 0) (λ z. let w : i ≡ p = T.once i p (omega arith) g (sym z ∙ e) in omega arith)))
 
   -- the boxes kept are free of what those of the stations placed are
-  free_same : (q : Box) → free q (kept_boxes bs p sorted) ≡ free q (map (box_of fs (places_to fs os seeds order p)) (take p order))
+  free_same : (q : Box) → free q (kept_boxes bs (take p sorted)) ≡ free q (map (box_of fs (places_to fs os seeds order p)) (take p order))
   free_same q =
       free_count (box_at bs) q (take p sorted)
       ∙ ap (λ (c : ℕ). eqb c 0) (D.same (λ y. overlap q (box_at bs y)))
@@ -139,9 +137,9 @@ module _ (M : Measures) (k : ℕ) (blocks : List Float) (os : List Offset) (seed
   chosen_is : S.at ≡ next_place fs os before (take p order) s
   unfolding next_place
   chosen_is =
-      S.chosen ∙ ap (λ (c : Point). place_for c (frame_in M blocks s) (kept_boxes bs p sorted) os) seed_is
-      ∙ ap (λ (r : Frame). place_for (place_at before s) r (kept_boxes bs p sorted) os) (sym (frame_at_lem M k blocks s below))
-      ∙ place_same (place_at before s) (frame_at fs s) (kept_boxes bs p sorted) (map (box_of fs before) (take p order))
+      S.chosen ∙ ap (λ (c : Point). place_for c (frame_in M blocks s) (kept_boxes bs (take p sorted)) os) seed_is
+      ∙ ap (λ (r : Frame). place_for (place_at before s) r (kept_boxes bs (take p sorted)) os) (sym (frame_at_lem M k blocks s below))
+      ∙ place_same (place_at before s) (frame_at fs s) (kept_boxes bs (take p sorted)) (map (box_of fs before) (take p order))
       (free_same M.unit fs os seeds order k p most ps bs keys sorted T D (omega arith)) os
 
   to_next : after ≡ places_to fs os seeds order (suc p)

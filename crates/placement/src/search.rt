@@ -12,7 +12,7 @@ ghost use Rattle.offset_rule.specs.Table.{skipped, pairs_in};
 ghost use Rattle.turns.specs.Stages.Listed.{Turns};
 
 use box_order::kept::keep_box;
-use free_places::{box_on, place_for};
+use free_places::{Tried, box_on, place_for};
 use geometry::{Box, Point};
 use measures::Measures;
 use offset_table::{OFFSET_A, OFFSET_B};
@@ -29,23 +29,22 @@ fn put_box(frames: &mut [f64], i: usize, b: Box)
 }
 
 // Places station s behind p others: its place is written over its seed, its box is stored, and it is kept with them. The answer is the most cells that a kept box spans.
+// s is read from the order as a u32 and used as an index ever after.
 fn place_station(
     s: usize,
     p: usize,
     m: Measures,
     blocks: &[f64],
-    a: &[i32],
-    b: &[i32],
-    search: usize,
+    tried: &Tried<'_>,
     most: u64,
     places: &mut [f64],
     boxes: &mut [f64],
     keys: &mut [u64],
     sorted: &mut [u32],
 ) -> u64
-    requires s_in_bounds { (3 * s + 2 < length blocks.now) × (2 * s + 1 < length places.old) × (4 * s + 3 < length boxes.old) × (s < 2 ^ 32) × (p < length keys.old) × (p < length sorted.old) × (search ≤ 20) }
-    requires holds { Holds m.unit boxes.old p most keys.old sorted.old × All (λ y. s ≡ y → ⊥) (take p sorted.old) }
-    ensures { PlacedAs m blocks.now (skipped search (pairs_in a.now b.now)) s p result places.old boxes.old sorted.old places.new boxes.new keys.new sorted.new }
+    requires s_in_bounds { (3 * s + 2 < length blocks.now) × (2 * s + 1 < length places.old) × (4 * s + 3 < length boxes.old) × (s < 2 ^ 32) × (p < length keys.old) × (p < length sorted.old) }
+    requires holds { Holds m.unit boxes.old most (take p keys.old) (take p sorted.old) × All (λ y. s ≡ y → ⊥) (take p sorted.old) }
+    ensures { PlacedAs m blocks.now (skipped tried.now.search (pairs_in tried.now.a.now tried.now.b.now)) s p result places.old boxes.old sorted.old places.new boxes.new keys.new sorted.new }
 {
     let f = m.unit * blocks[3 * s + 2];
     let w = blocks[3 * s] * f / 2.0;
@@ -56,7 +55,17 @@ fn place_station(
     };
     let buffer = m.gaps.buffer;
     let c = place_for(
-        seed, w, h, f, buffer, a, b, search, m.unit, boxes, keys, sorted, p, most,
+        seed,
+        w,
+        h,
+        f,
+        buffer,
+        tried,
+        m.unit,
+        boxes,
+        &keys[..p],
+        &sorted[..p],
+        most,
     );
     places[2 * s] = c.x;
     places[2 * s + 1] = c.y;
@@ -64,35 +73,32 @@ fn place_station(
     keep_box(m.unit, boxes, s, p, most, keys, sorted)
 }
 
-// Places the first r stations of the order, beside the counts in `stations`; `boxes` holds their boxes by station, `keys` and `sorted` keep them by cell.
+// Places the first r stations of the order, every second number of `stations` (so r is no list's length); `boxes` holds their boxes by station, `keys` and `sorted` keep them by cell.
+// Lists that are written are no struct: behind `&mut` others could stand in it, so each contract would have to say that it keeps them and their lengths.
 fn place_all(
     k: usize,
     r: usize,
     m: Measures,
     stations: &[u32],
     blocks: &[f64],
-    a: &[i32],
-    b: &[i32],
-    search: usize,
+    tried: &Tried<'_>,
     places: &mut [f64],
     boxes: &mut [f64],
     keys: &mut [u64],
     sorted: &mut [u32],
 )
-    requires search_bound { (search ≤ 20) × (r ≤ k) × (k ≤ 4096) × (2 * k ≤ length stations.now) × (3 * k ≤ length blocks.now) × (2 * k ≤ length places.old) × (4 * k ≤ length boxes.old) × (k ≤ length keys.old) × (k ≤ length sorted.old) }
+    requires search_bound { (r ≤ k) × (k ≤ 4096) × (2 * k ≤ length stations.now) × (3 * k ≤ length blocks.now) × (2 * k ≤ length places.old) × (4 * k ≤ length boxes.old) × (k ≤ length keys.old) × (k ≤ length sorted.old) }
     requires turns { Turns k (order_in r stations.now) }
-    ensures { points_in k places.new ≡ Place.places (frames_in m k blocks.now) (skipped search (pairs_in a.now b.now)) (points_in k places.old) (order_in r stations.now) }
+    ensures { points_in k places.new ≡ Place.places (frames_in m k blocks.now) (skipped tried.now.search (pairs_in tried.now.a.now tried.now.b.now)) (points_in k places.old) (order_in r stations.now) }
 {
     let mut most = 0;
     for p in 0..r {
         let s = stations[2 * p + 1] as usize;
-        most = place_station(
-            s, p, m, blocks, a, b, search, most, places, boxes, keys, sorted,
-        );
+        most = place_station(s, p, m, blocks, tried, most, places, boxes, keys, sorted);
     }
 }
 
-// The same by the table of offsets, lent once.
+// The same by the table of offsets, lent once; r is as there.
 pub fn place_by_table(
     k: usize,
     r: usize,
@@ -109,8 +115,13 @@ pub fn place_by_table(
     requires turns { Turns k (order_in r stations.now) }
     ensures { points_in k places.new ≡ Place.places (frames_in m k blocks.now) (offsets search) (points_in k places.old) (order_in r stations.now) }
 {
+    let tried = Tried {
+        a: &OFFSET_A,
+        b: &OFFSET_B,
+        search,
+    };
     place_all(
-        k, r, m, stations, blocks, &OFFSET_A, &OFFSET_B, search, places, boxes, keys, sorted,
+        k, r, m, stations, blocks, &tried, places, boxes, keys, sorted,
     );
 }
 

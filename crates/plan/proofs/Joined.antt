@@ -12,20 +12,16 @@ use Rattle.options.specs.declared.Options.{Options}
 use Rattle.network.specs.declared.words.Kind.{Kind}
 use Rattle.network.specs.Words.{bus_counts, kinds}
 use Rattle.seeds.specs.Seed as Seed
-use Rattle.network.specs.Views.{counts_in, columns_in, order_in, from_rows_in, to_rows_in, points_in, boxes_in}
+use Rattle.network.specs.Views.{counts_in, columns_in, from_rows_in, to_rows_in, points_in}
 use Rattle.columns.specs.Column as Column
 use Rattle.rows.specs.Row as Row
-use Rattle.measures.specs.declared.Measures.{Measures}
 use Rattle.sizes.specs.Size as Size
 use Rattle.units.specs.Unit as Unit
 use Rattle.scales.specs.Scale as Scale
 use Rattle.sizes.specs.Stages.Views.{sizes_in, scales_in, row_counts_in}
 use Rattle.sizes.proofs.Blocks.{sizes_view}
-use Rattle.offsets.specs.Offset.{offsets}
-use Rattle.turns.specs.Turns.{placement_order}
 use Rattle.placement.specs.Place as Place
-use Rattle.placement.specs.Stages.Views.{frames_in}
-use Rattle.plan.specs.Stages.Plan.{Interiors, Settled}
+use Rattle.plan.specs.Stages.Plan.{Interiors}
 
 module _ (o : Options) (sub kv : List ℕ) (from to : List ℤ) (service : List ℕ) (xy : List Float) (k : ℕ) where
   ks : List Kind
@@ -61,16 +57,3 @@ module _ (o : Options) (sub kv : List ℕ) (from to : List ℤ) (service : List 
         scales = sc ∙ cc (p, c);
         unit_is = u ∙ cc (p, c, v);
       }
-
-pub settled_joined : (sub kv : List ℕ) (k r : ℕ) (measures : Measures) (search : ℕ) (blocks : List Float) (seeds : List Point) (st : List ℕ) (places frames : List Float)
-    → counts_in k st ≡ bus_counts sub
-    → order_in r st ≡ placement_order sub kv (bus_counts sub)
-    → points_in k places ≡ Place.places (frames_in measures k blocks) (offsets search) seeds (order_in r st)
-    → boxes_in k frames ≡ Place.boxes (frames_in measures k blocks) (counts_in k st) (points_in k places)
-    → Settled sub kv k measures search blocks seeds st places frames
-settled_joined sub kv k r measures search blocks seeds st places frames cs od ps bs =
-    record {
-      counts = cs;
-      placed = ps ∙ cc od;
-      boxes = bs ∙ cc cs;
-    }

@@ -8,6 +8,7 @@ ghost use Rattle.plan.specs.Stages.Plan.{Interiors, Settled};
 
 use columns::columns;
 use measures::{Measures, units};
+use network::lists::{Bounded, Stations};
 use network::words::bus_counts;
 use options::Options;
 use placement::search::{place_by_table, station_boxes};
@@ -16,14 +17,10 @@ use seeds::seeds;
 use turns::turns::placement_order;
 
 // Bus counts, seeds, columns, rows, sizes and scales of k stations; answers the unit.
+// Lists that are written are no struct: behind `&mut` others could stand in it, so each contract would have to say that it keeps them and their lengths.
 pub fn interiors(
     o: Options,
-    sub: &[u32],
-    kv: &[u64],
-    from: &[i64],
-    to: &[i64],
-    service: &[u8],
-    xy: &[f64],
+    net: &Bounded<'_>,
     k: usize,
     stations: &mut [u32],
     buses: &mut [u32],
@@ -36,23 +33,50 @@ pub fn interiors(
     frames: &mut [f64],
     path: &mut [f64],
 ) -> f64
-    requires k_value { (k ≡ station_count sub.now) × (length sub.now ≤ 4096) × (k ≤ 4096) × (length from.now ≤ 8192) × (length kv.now ≡ length sub.now) }
-    requires k_in_bounds { (2 * k ≤ length stations.old) × (3 * length sub.now ≤ length buses.old) × (4 * length from.now ≤ length ends.old) × (2 * k ≤ length places.old) × (3 * k ≤ length blocks.old) × (4 * k ≤ length frames.old) × (2 * k ≤ length path.old) }
-    requires from_in_bounds { (length sub.now + 2 * length from.now ≤ length sorted.old) × (length sub.now + 2 * length from.now ≤ length spare.old) × (length sub.now + 2 * length from.now ≤ length keys.old) × (k ≤ length sub.now) }
-    ensures { Interiors o sub.now kv.now from.now to.now service.now xy.now k result stations.new buses.new ends.new places.new blocks.new }
+    requires k_value { (k ≡ station_count net.now.lists.sub.now) × (k ≤ 4096) × (length net.now.lists.kv.now ≡ length net.now.lists.sub.now) }
+    requires k_in_bounds { (2 * k ≤ length stations.old) × (3 * length net.now.lists.sub.now ≤ length buses.old) × (4 * length net.now.lists.from.now ≤ length ends.old) × (2 * k ≤ length places.old) × (3 * k ≤ length blocks.old) × (4 * k ≤ length frames.old) × (2 * k ≤ length path.old) }
+    requires from_in_bounds { (length net.now.lists.sub.now + 2 * length net.now.lists.from.now ≤ length sorted.old) × (length net.now.lists.sub.now + 2 * length net.now.lists.from.now ≤ length spare.old) × (length net.now.lists.sub.now + 2 * length net.now.lists.from.now ≤ length keys.old) × (k ≤ length net.now.lists.sub.now) }
+    ensures { Interiors o net.now.lists.sub.now net.now.lists.kv.now net.now.lists.from.now net.now.lists.to.now net.now.lists.service.now net.now.lists.xy.now k result stations.new buses.new ends.new places.new blocks.new }
 {
-    bus_counts(sub, k, stations);
-    seeds(sub, xy, k, stations, places);
-    columns(sub, kv, k, stations, buses, keys, sorted, spare);
-    rows(
-        sub, from, to, service, places, k, stations, ends, keys, sorted, spare,
+    bus_counts(net.lists.sub, k, stations);
+    seeds(
+        net.lists.sub,
+        net.lists.xy,
+        &Stations {
+            k,
+            counts: stations,
+        },
+        places,
     );
+    columns(
+        net.lists.sub,
+        net.lists.kv,
+        k,
+        stations,
+        buses,
+        keys,
+        sorted,
+        spare,
+    );
+    rows(&net.lists, places, k, stations, ends, keys, sorted, spare);
     units(
-        o, k, stations, places, blocks, frames, path, keys, sorted, spare,
+        o,
+        &Stations {
+            k,
+            counts: stations,
+        },
+        places,
+        blocks,
+        frames,
+        path,
+        keys,
+        sorted,
+        spare,
     )
 }
 
 // The places of k stations, from their seeds, and their boxes.
+// Lists that are written are no struct: behind `&mut` others could stand in it, so each contract would have to say that it keeps them and their lengths.
 pub fn settle(
     sub: &[u32],
     kv: &[u64],

@@ -30,6 +30,7 @@ fn clear_counters(stations: &mut [u32], k: usize)
 }
 
 // A walk over the first c of a sorted list counts the numbers of each station that it has passed: that is the place of the next one.
+// c is below 2^32 so that its numbers fit a u32.
 fn walk(of: &[u32], c: usize, k: usize, sorted: &[u32], stations: &mut [u32], places: &mut [u32])
     requires c_bound { (c < 2 ^ 32) × (c ≤ length of.now) × (c ≤ length sorted.now) × (c ≤ length places.old) × (2 * k ≤ length stations.old) }
     requires by_index { ((p : ℕ) → p < c → get_or sorted.now p 0 < c) × ((s : ℕ) → s < k → get_or stations.old (2 * s + 1) 0 ≡ 0) }
@@ -51,6 +52,7 @@ fn walk(of: &[u32], c: usize, k: usize, sorted: &[u32], stations: &mut [u32], pl
 }
 
 // The place of each of 0, .., c - 1 in its station, which `of` gives, by rising key and then number, in `places`; how many each station has is left in its counter.
+// Lists that are written are no struct: behind `&mut` others could stand in it, so each contract would have to say that it keeps them and their lengths.
 pub fn rank_in_stations(
     of: &[u32],
     c: usize,

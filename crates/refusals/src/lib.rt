@@ -69,6 +69,7 @@ fn stray_voltage(kv: &[u64]) -> bool
 }
 
 // 1 to 4, then 15.
+// Both calls are judged by these four lists: layout has them in a `Network`, the audit in a `Drawn`.
 #[tactic(auto, unfolding(crate::specs::Refusal::shape_refusal))]
 pub fn check_shape(sub: &[u32], kv: &[u64], from: &[i64], to: &[i64]) -> Result<(), Refusal>
     ensures { result_err result ≡ shape_refusal sub.now kv.now from.now to.now }
@@ -108,6 +109,7 @@ fn far_out(x: f64, y: f64) -> bool
 }
 
 // 6: whether one of n buses with two finite coordinates has one above 10^12 in size.
+// n is no length of xy, which may have fewer numbers or more: a point past its end is absent.
 pub fn too_far(n: usize, xy: &[f64]) -> bool
     requires { n < 0x1_0000_0000 }
     ensures { result ≡ too_far n xy.now }

@@ -35,6 +35,7 @@ fn lists_same(
 }
 
 // Audits in the lengths of words 9 to 12; whether all is as stored, the lists in the words that are left.
+// The lists stand as the public call takes them.
 fn audit_agrees(
     w: &[u64; 1024],
     left: Words,

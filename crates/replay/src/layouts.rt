@@ -58,11 +58,12 @@ fn lists_same(
         && floats_same(bars, 4 * n, &mut left)
         && floats_same(boxes, 4 * k, &mut left)
         && floats_same(scales, k, &mut left)
-        && roles_same(roles, m, &mut left)
-        && pieces_same(pieces, branches, length_at(w, 30, 256), &mut left)
+        && roles_same(&roles[..m], &mut left)
+        && pieces_same(pieces, &branches[..length_at(w, 30, 256)], &mut left)
 }
 
 // Draws the network of these lists in the lengths of words 16 to 24; whether all is as stored, the lists in the words that are left.
+// The lists stand as the public call takes them.
 fn drawn_agrees(
     w: &[u64; 1024],
     left: Words,

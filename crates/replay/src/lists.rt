@@ -71,24 +71,18 @@ pub(crate) fn fill_pieces(w: &mut Words, rows: usize, pieces: &mut [f64], branch
 }
 
 // Whether a list has n floats or more, and the first n are the next words'.
+// A list that is shorter is a difference: with slices each of the seven calls would have to ask for one and refuse.
 pub(crate) fn floats_same(list: &[f64], n: usize, w: &mut Words) -> bool {
     n <= list.len() && list[..n].iter().all(|x| same(*x, w.word()))
 }
 
-// Whether a list has n roles or more, and the first n are the next words.
-pub(crate) fn roles_same(roles: &[u8], n: usize, w: &mut Words) -> bool {
-    n <= roles.len() && roles[..n].iter().all(|r| u64::from(*r) == w.word())
+// Whether roles are the next words.
+pub(crate) fn roles_same(roles: &[u8], w: &mut Words) -> bool {
+    roles.iter().all(|r| u64::from(*r) == w.word())
 }
 
-// Whether the first n pieces are those of the next words, five each.
-pub(crate) fn pieces_same(
-    pieces: &[f64; 1024],
-    branches: &[u32; 256],
-    n: usize,
-    w: &mut Words,
-) -> bool
-    requires { n ≤ 256 }
-{
-    pieces.chunks_exact(4).zip(&branches[..n]).all(|(piece, b)| floats_same(piece, 4, w)
+// Whether pieces of so many branches are those of the next words, five each.
+pub(crate) fn pieces_same(pieces: &[f64], branches: &[u32], w: &mut Words) -> bool {
+    pieces.chunks_exact(4).zip(branches).all(|(piece, b)| floats_same(piece, 4, w)
         && u64::from(*b) == w.word())
 }

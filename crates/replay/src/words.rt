@@ -67,6 +67,7 @@ impl Words<'_> {
 }
 
 // Whether x is the number with the pattern `bits`: +0 equals -0, a NaN only a NaN.
+// The library has no such equality: `==` takes no NaN for another, and `total_cmp` tells +0 from -0.
 pub(crate) fn same(x: f64, bits: u64) -> bool {
     let y = of_bits(bits);
     x == y || x.is_nan() && y.is_nan()

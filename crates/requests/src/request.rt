@@ -4,9 +4,10 @@ ghost use Rattle.network.specs.Words.{kind_of};
 ghost use Rattle.requests.specs.Stages.Requests.{nothing_at, line_request, request_of, lists, FilledTo};
 
 use geometry::Point;
-use measures::Measures;
+use network::lists::Network;
 use network::words::{Kind, kind_of, station_of};
 use order::at;
+use runs::laid::Laid;
 use runs::run::{first_exit, second_exit, slot_of};
 
 // What a line asks for: its branch, its two stations, and its slot and exit at each end. The two stations are one where the branch is no line.
@@ -42,10 +43,7 @@ fn nothing_at(e: usize) -> LineRequest
 #[tactic(auto, unfolding(crate::specs::Stages::Requests::line_request))]
 fn line_request(
     sub: &[u32],
-    measures: Measures,
-    buses: &[u32],
-    blocks: &[f64],
-    places: &[f64],
+    laid: &Laid<'_>,
     frames: &[f64],
     e: usize,
     a: usize,
@@ -54,14 +52,14 @@ fn line_request(
     rb: u32,
 ) -> LineRequest
     requires { (e < 2 ^ 32) × (length sub.now ≤ 2 ^ 32) × (a < 2 ^ 32) × (b < 2 ^ 32) }
-    ensures { result ≡ line_request sub.now measures buses.now blocks.now places.now frames.now e a b ra rb }
+    ensures { result ≡ line_request sub.now laid.now.measures laid.now.buses.now laid.now.blocks.now laid.now.places.now frames.now e a b ra rb }
 {
     let sa = station_of(sub, a);
     let sb = station_of(sub, b);
-    let p = slot_of(measures, buses, blocks, frames, sa, a, ra);
-    let q = slot_of(measures, buses, blocks, frames, sb, b, rb);
-    let x = first_exit(sub.len(), places, e);
-    let y = second_exit(sub.len(), places, e);
+    let p = slot_of(laid, frames, sa, a, ra);
+    let q = slot_of(laid, frames, sb, b, rb);
+    let x = first_exit(sub.len(), laid.places, e);
+    let y = second_exit(sub.len(), laid.places, e);
     LineRequest {
         e,
         sa,
@@ -74,66 +72,34 @@ fn line_request(
 }
 
 // The request of branch e.
+// e is counted over usize: as a `u32` it would be converted at each index.
 #[tactic(auto, unfolding(crate::specs::Stages::Requests::request_of, network::specs::Words::Safe))]
-fn request_of(
-    sub: &[u32],
-    from: &[i64],
-    to: &[i64],
-    service: &[u8],
-    measures: Measures,
-    buses: &[u32],
-    ends: &[u32],
-    blocks: &[f64],
-    places: &[f64],
-    frames: &[f64],
-    e: usize,
-) -> LineRequest
-    requires { (e < 2 ^ 32) × (length sub.now ≤ 2 ^ 32) }
-    ensures { result ≡ request_of (lists sub.now measures buses.now ends.now blocks.now places.now frames.now) e (kind_of sub.now from.now to.now service.now e) }
+fn request_of(net: &Network<'_>, laid: &Laid<'_>, frames: &[f64], e: usize) -> LineRequest
+    requires { (e < 2 ^ 32) × (length net.now.sub.now ≤ 2 ^ 32) }
+    ensures { result ≡ request_of (lists net.now.sub.now laid.now.measures laid.now.buses.now laid.now.ends.now laid.now.blocks.now laid.now.places.now frames.now) e (kind_of net.now.sub.now net.now.from.now net.now.to.now net.now.service.now e) }
 {
-    let ra = at(ends, 4 * e);
-    let rb = at(ends, 4 * e + 1);
-    match kind_of(sub, from, to, service, e) {
+    let ra = at(laid.ends, 4 * e);
+    let rb = at(laid.ends, 4 * e + 1);
+    match kind_of(net, e) {
         Kind::Undrawn | Kind::Open(_, _) | Kind::Internal(_, _) => nothing_at(e),
-        Kind::Line(a, b) => line_request(
-            sub, measures, buses, blocks, places, frames, e, a, b, ra, rb,
-        ),
+        Kind::Line(a, b) => line_request(net.sub, laid, frames, e, a, b, ra, rb),
     }
 }
 
 // The requests of the branches from `start` on, a block of them.
 pub fn requests_from(
-    sub: &[u32],
-    from: &[i64],
-    to: &[i64],
-    service: &[u8],
-    measures: Measures,
-    buses: &[u32],
-    ends: &[u32],
-    blocks: &[f64],
-    places: &[f64],
+    net: &Network<'_>,
+    laid: &Laid<'_>,
     frames: &[f64],
     start: usize,
 ) -> [LineRequest; 16]
-    requires { (start < 2 ^ 31) × (length sub.now ≤ 2 ^ 32) }
-    ensures filled_to { FilledTo (lists sub.now measures buses.now ends.now blocks.now places.now frames.now) from.now to.now service.now start 16 result }
+    requires { (start < 2 ^ 31) × (length net.now.sub.now ≤ 2 ^ 32) }
+    ensures filled_to { FilledTo (lists net.now.sub.now laid.now.measures laid.now.buses.now laid.now.ends.now laid.now.blocks.now laid.now.places.now frames.now) net.now.from.now net.now.to.now net.now.service.now start 16 result }
     ensures result_len { length result ≡ 16 }
 {
     let mut list = [nothing_at(0); 16];
     for i in 0..16 {
-        list[i] = request_of(
-            sub,
-            from,
-            to,
-            service,
-            measures,
-            buses,
-            ends,
-            blocks,
-            places,
-            frames,
-            start + i,
-        );
+        list[i] = request_of(net, laid, frames, start + i);
     }
     list
 }

@@ -6,6 +6,7 @@ ghost use Rattle.results.specs.Bounds.{around, around_all, nowhere, bounds_of};
 
 use float::small::{is_finite, max, min};
 use geometry::{Box, box_at};
+use network::lists::Placed;
 
 // The least box around b and another.
 #[tactic(auto, unfolding(crate::specs::Bounds::around))]
@@ -21,9 +22,8 @@ fn around(b: Box, c: Box) -> Box
 }
 
 // The least box around the occupied stations' boxes.
-fn around_all(k: usize, stations: &[u32], frames: &[f64]) -> Box
-    requires { (2 * k ≤ length stations.now) × (4 * k ≤ length frames.now) }
-    ensures { result ≡ around_all (boxes_in k frames.now) nowhere (occupied (counts_in k stations.now)) }
+fn around_all(placed: &Placed<'_>) -> Box
+    ensures { result ≡ around_all (boxes_in placed.now.k placed.now.frames.now) nowhere (occupied (counts_in placed.now.k placed.now.stations.now)) }
 {
     let mut b = Box {
         left: f64::INFINITY,
@@ -31,9 +31,9 @@ fn around_all(k: usize, stations: &[u32], frames: &[f64]) -> Box
         right: f64::NEG_INFINITY,
         bottom: f64::NEG_INFINITY,
     };
-    for s in 0..k {
-        if 0 < stations[2 * s] {
-            b = around(b, box_at(frames, s));
+    for s in 0..placed.k {
+        if 0 < placed.stations[2 * s] {
+            b = around(b, box_at(placed.frames, s));
         }
     }
     b
@@ -41,11 +41,10 @@ fn around_all(k: usize, stations: &[u32], frames: &[f64]) -> Box
 
 // The bounds, 0, 0, 1, 1 where no station is occupied.
 #[tactic(auto, unfolding(crate::specs::Bounds::bounds_of))]
-pub fn bounds_of(k: usize, stations: &[u32], frames: &[f64]) -> Box
-    requires { (2 * k ≤ length stations.now) × (4 * k ≤ length frames.now) }
-    ensures { result ≡ bounds_of (boxes_in k frames.now) (occupied (counts_in k stations.now)) }
+pub fn bounds_of(placed: &Placed<'_>) -> Box
+    ensures { result ≡ bounds_of (boxes_in placed.now.k placed.now.frames.now) (occupied (counts_in placed.now.k placed.now.stations.now)) }
 {
-    let b = around_all(k, stations, frames);
+    let b = around_all(placed);
     if is_finite(b.left) {
         b
     } else {

@@ -13,6 +13,7 @@ use runs::run::bar_of;
 use seeds::put_point;
 
 // The buses' positions and bars.
+// `Bounded` would ask for few branches too.
 pub fn write_buses(
     sub: &[u32],
     measures: Measures,

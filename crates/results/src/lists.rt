@@ -9,6 +9,7 @@ ghost use Rattle.order.specs.Over.{over};
 ghost use Rattle.runs.specs.Lists.{flat, box_numbers};
 
 use geometry::box_at;
+use network::lists::Network;
 use network::words::{Kind, kind_of};
 
 // Stores four numbers side by side, the i-th four of a list.
@@ -23,6 +24,7 @@ pub(crate) fn put_numbers(list: &mut [f64], i: usize, a: f64, b: f64, c: f64, d:
 }
 
 // The stations' boxes and scales.
+// Lists that are written are no struct: behind `&mut` others could stand in it, so each contract would have to say that it keeps them and their lengths.
 pub fn write_stations(
     k: usize,
     frames: &[f64],
@@ -54,12 +56,12 @@ fn role_of(kind: Kind) -> u8
     }
 }
 
-// The branches' roles.
-pub fn write_roles(sub: &[u32], from: &[i64], to: &[i64], service: &[u8], roles: &mut [u8])
-    requires { (length from.now ≤ 8192) × (length from.now ≤ length roles.old) }
-    ensures { roles.new ≡ over (map role (kinds sub.now from.now to.now service.now)) roles.old }
+// The branches' roles. A `Bounded` network would ask for few buses too, where this asks for few branches.
+pub fn write_roles(net: &Network<'_>, roles: &mut [u8])
+    requires { (length net.now.from.now ≤ 8192) × (length net.now.from.now ≤ length roles.old) }
+    ensures { roles.new ≡ over (map role (kinds net.now.sub.now net.now.from.now net.now.to.now net.now.service.now)) roles.old }
 {
-    for e in 0..from.len() {
-        roles[e] = role_of(kind_of(sub, from, to, service, e));
+    for e in 0..net.from.len() {
+        roles[e] = role_of(kind_of(net, e));
     }
 }

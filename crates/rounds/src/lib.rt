@@ -10,27 +10,24 @@ ghost use Rattle.crossings.specs.Route.{point_of, rounds_to, routing};
 ghost use Rattle.crossings.specs.Stages.Views.{grid, scene_in};
 ghost use Rattle.wishes.specs.Stages.RoundLists.{Entered};
 
-use crate::space::{put_points, rounds, write_ranges};
+use crate::space::{Stretches, put_points, rounds, write_ranges};
 use grouping::group::group;
 use measures::Measures;
+use network::lists::Network;
+use wishes::wish::{Crossed, Fixed};
 
 // Spaces all crossings of the routing that the lists hold, so many rounds, and puts their points into `ways`. The channels' ranges are written behind the mesh's points; `sorted`, `spare` and `keys` are work lists.
-pub fn space_all_rounds(
-    sub: &[u32],
-    from: &[i64],
-    to: &[i64],
-    service: &[u8],
+pub fn space_all_rounds<'a>(
+    net: &Network<'a>,
     measures: Measures,
     ends: &mut [u32],
     blocks: &[f64],
-    places: &[f64],
+    places: &'a [f64],
     frames: &[f64],
     k: usize,
     c: usize,
     stations: &[u32],
     centres: &mut [f64],
-    corners: &[u32],
-    twins: &[u32],
     channels: usize,
     crossings: usize,
     iterations: u32,
@@ -41,13 +38,21 @@ pub fn space_all_rounds(
     spare: &mut [u32],
     keys: &mut [u64],
 )
-    requires from_len_bound { (length from.now ≤ 2 ^ 32) × (channels < 2 ^ 32) × (4 * (length from.now + channels) + 4 ≤ length ends.old) × (crossings < 2 ^ 32) × (3 * crossings ≤ length numbers.old) × (2 * crossings ≤ length ways.old) × (crossings ≤ length sorted.old) × (crossings ≤ length spare.old) × (crossings ≤ length keys.old) × (length sub.now ≤ 2 ^ 32) × (c ≤ 2 ^ 32) × (2 * c + 3 * channels ≤ length centres.old) }
-    requires entered { Entered (grid sub.now from.now to.now service.now measures ends.old blocks.now places.now frames.now) k c stations.now centres.old corners.now twins.now numbers.old along.old channels crossings }
-    ensures ways_after { points_in crossings ways.new ≡ table (point_of (scene_in (grid sub.now from.now to.now service.now measures ends.old blocks.now places.now frames.now) k c stations.now centres.old corners.now twins.now) (routing (scene_in (grid sub.now from.now to.now service.now measures ends.old blocks.now places.now frames.now) k c stations.now centres.old corners.now twins.now)) (rounds_to (scene_in (grid sub.now from.now to.now service.now measures ends.old blocks.now places.now frames.now) k c stations.now centres.old corners.now twins.now) (routing (scene_in (grid sub.now from.now to.now service.now measures ends.old blocks.now places.now frames.now) k c stations.now centres.old corners.now twins.now)) iterations)) crossings }
-    ensures ends_unchanged { (from_rows_in (length from.now) ends.new ≡ from_rows_in (length from.now) ends.old) × (to_rows_in (length from.now) ends.new ≡ to_rows_in (length from.now) ends.old) × (strided 4 2 0 (length from.now) ends.new ≡ strided 4 2 0 (length from.now) ends.old) × (strided 4 3 0 (length from.now) ends.new ≡ strided 4 3 0 (length from.now) ends.old) }
+    requires from_len_bound { (length net.now.from.now ≤ 2 ^ 32) × (channels < 2 ^ 32) × (4 * (length net.now.from.now + channels) + 4 ≤ length ends.old) × (crossings < 2 ^ 32) × (3 * crossings ≤ length numbers.old) × (2 * crossings ≤ length ways.old) × (crossings ≤ length sorted.old) × (crossings ≤ length spare.old) × (crossings ≤ length keys.old) × (length net.now.sub.now ≤ 2 ^ 32) × (c ≤ 2 ^ 32) × (2 * c + 3 * channels ≤ length centres.old) }
+    requires entered { Entered (grid net.now.sub.now net.now.from.now net.now.to.now net.now.service.now measures ends.old blocks.now places.now frames.now) k c stations.now centres.old net.now.mesh.corners.now net.now.mesh.twins.now numbers.old along.old channels crossings }
+    ensures ways_after { points_in crossings ways.new ≡ table (point_of (scene_in (grid net.now.sub.now net.now.from.now net.now.to.now net.now.service.now measures ends.old blocks.now places.now frames.now) k c stations.now centres.old net.now.mesh.corners.now net.now.mesh.twins.now) (routing (scene_in (grid net.now.sub.now net.now.from.now net.now.to.now net.now.service.now measures ends.old blocks.now places.now frames.now) k c stations.now centres.old net.now.mesh.corners.now net.now.mesh.twins.now)) (rounds_to (scene_in (grid net.now.sub.now net.now.from.now net.now.to.now net.now.service.now measures ends.old blocks.now places.now frames.now) k c stations.now centres.old net.now.mesh.corners.now net.now.mesh.twins.now) (routing (scene_in (grid net.now.sub.now net.now.from.now net.now.to.now net.now.service.now measures ends.old blocks.now places.now frames.now) k c stations.now centres.old net.now.mesh.corners.now net.now.mesh.twins.now)) iterations)) crossings }
+    ensures ends_unchanged { (from_rows_in (length net.now.from.now) ends.new ≡ from_rows_in (length net.now.from.now) ends.old) × (to_rows_in (length net.now.from.now) ends.new ≡ to_rows_in (length net.now.from.now) ends.old) × (strided 4 2 0 (length net.now.from.now) ends.new ≡ strided 4 2 0 (length net.now.from.now) ends.old) × (strided 4 3 0 (length net.now.from.now) ends.new ≡ strided 4 3 0 (length net.now.from.now) ends.old) }
 {
-    let m = from.len();
-    group(m, channels, crossings, ends, numbers, sorted, spare, keys);
+    let m = net.from.len();
+    group(
+        m,
+        channels,
+        ends,
+        numbers,
+        sorted,
+        spare,
+        &mut keys[..crossings],
+    );
     write_ranges(
         m,
         measures.unit,
@@ -55,28 +60,29 @@ pub fn space_all_rounds(
         blocks,
         frames,
         stations,
-        corners,
+        net.mesh.corners,
         c,
         channels,
         centres,
     );
-    rounds(
+    let crossed = Crossed {
         m,
-        sub.len(),
-        c,
         ends,
-        places,
         centres,
-        corners,
+        corners: net.mesh.corners,
         numbers,
+    };
+    let fixed = Fixed {
+        crossed,
+        base: net.sub.len(),
+        places,
+    };
+    let stretches = Stretches {
+        fixed,
+        occupied: c,
         channels,
-        crossings,
-        iterations,
-        along,
-        ways,
-        sorted,
-        spare,
-        keys,
-    );
-    put_points(m, ends, centres, corners, numbers, along, crossings, ways);
+        most: crossings,
+    };
+    rounds(&stretches, iterations, along, ways, sorted, spare, keys);
+    put_points(&crossed, along, crossings, ways);
 }

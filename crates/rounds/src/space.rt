@@ -1,5 +1,5 @@
 // Crossings spaced on their channels, round after round.
-ghost use Rattle.std.specs.Prelude.{◌≡◌, ◌++◌, map, ℕ, ◌+◌, ◌-◌, ◌*◌, ◌^◌, ◌≤◌, ◌<◌, length, take, drop};
+ghost use Rattle.std.specs.Prelude.{◌≡◌, map, ℕ, ◌+◌, ◌-◌, ◌*◌, ◌^◌, ◌≤◌, ◌<◌, length};
 ghost use Rattle.order.specs.Table.{table};
 ghost use Rattle.spacing.specs.Space.{put_all};
 ghost use Rattle.network.specs.Views.{points_in};
@@ -14,33 +14,46 @@ use geometry::{number_at, point_at};
 use order::at;
 use runs::run::put_point;
 use spacing::space_sorted;
-use wishes::wish::{edge_of, point_of, wish_of};
+use wishes::wish::{Crossed, Fixed, edge_of, point_of, wish_of};
+
+// What rounds read: what stands still, with the ranges of so many channels behind `occupied` points of `centres`; each channel's crossings stand in a stretch of the first `most`.
+#[derive(Clone, Copy)]
+pub(crate) struct Stretches<'a> {
+    pub(crate) fixed: Fixed<'a>,
+    pub(crate) occupied: usize,
+    pub(crate) channels: usize,
+    pub(crate) most: usize,
+    pub(crate) ghost occupied_fits: { occupied ≤ 2 ^ 32 },
+    pub(crate) ghost channels_fit: { channels < 2 ^ 32 },
+    pub(crate) ghost few: { most ≤ 2 ^ 32 },
+    pub(crate) ghost ready: { Ready (held fixed.crossed.m fixed.base fixed.crossed.ends.now fixed.places.now fixed.crossed.centres.now fixed.crossed.corners.now fixed.crossed.numbers.now) channels most },
+}
 
 // Where channel c's crossings begin among those grouped by channel.
-fn start_of(m: usize, ends: &[u32], c: usize) -> usize
+// c and m are counted over usize: as `u32` they would be converted at each index.
+#[tactic(auto, unfolding(grouping::specs::Stages::Grouped::start_in))]
+fn start_of(m: usize, ends: &[u32], c: usize) -> u32
     requires { (m ≤ 2 ^ 32) × (c ≤ 2 ^ 32) }
-    ensures value { result ≡ start_in m ends.now c }
-    ensures upper_bound { result < 2 ^ 32 }
+    ensures { result ≡ start_in m ends.now c }
 {
-    at(ends, 4 * (m + c) + 3) as usize
+    at(ends, 4 * (m + c) + 3)
 }
 
 // The crossing number j of those grouped by channel.
-fn member_of(numbers: &[u32], j: usize) -> usize
+#[tactic(auto, unfolding(grouping::specs::Stages::Grouped::member_in))]
+fn member_of(numbers: &[u32], j: usize) -> u32
     requires { j < 2 ^ 33 }
-    ensures value { result ≡ member_in numbers.now j }
-    ensures upper_bound { result < 2 ^ 32 }
+    ensures { result ≡ member_in numbers.now j }
 {
-    at(numbers, 3 * j + 2) as usize
+    at(numbers, 3 * j + 2)
 }
 
 // The station of corner v.
-fn station_at(stations: &[u32], v: usize) -> usize
-    requires { v < 2 ^ 32 }
-    ensures value { result ≡ station_in stations.now v }
-    ensures upper_bound { result < 2 ^ 32 }
+#[tactic(auto, unfolding(wishes::specs::Stages::RoundLists::station_in))]
+fn station_at(stations: &[u32], v: u32) -> u32
+    ensures { result ≡ station_in stations.now v }
 {
-    at(stations, 2 * v + 1) as usize
+    at(stations, 2 * v as usize + 1)
 }
 
 // The stretch where lines may cross the channel of half-edge h.
@@ -51,19 +64,18 @@ fn range_of(
     stations: &[u32],
     centres: &[f64],
     corners: &[u32],
-    h: usize,
+    h: u32,
 ) -> Channel
-    requires h_bound { h < 2 ^ 32 }
-    requires boxed { Boxed frames.now stations.now corners.now h }
+    requires { Boxed frames.now stations.now corners.now h }
     ensures { result ≡ range_in unit blocks.now frames.now stations.now centres.now corners.now h }
 {
     let a = low_at(corners, h);
     let b = high_at(corners, h);
-    let s = station_at(stations, a);
-    let t = station_at(stations, b);
+    let s = station_at(stations, a) as usize;
+    let t = station_at(stations, b) as usize;
     channel(
-        point_at(centres, a),
-        point_at(centres, b),
+        point_at(centres, a as usize),
+        point_at(centres, b as usize),
         &frames[4 * s..4 * s + 4],
         &frames[4 * t..4 * t + 4],
         number_at(blocks, 3 * s + 2),
@@ -120,61 +132,33 @@ fn range_at(list: &[f64], c: usize, d: usize) -> Channel
     }
 }
 
-// The wishes of n crossings, those from `start` on among the crossings grouped by channel.
-fn take_wishes(
-    m: usize,
-    base: usize,
-    ends: &[u32],
-    places: &[f64],
-    centres: &[f64],
-    corners: &[u32],
-    numbers: &[u32],
-    along: &[f64],
-    start: usize,
-    n: usize,
-    ways: &mut [f64],
-)
-    requires { (m ≤ 2 ^ 32) × (base ≤ 2 ^ 32) × (start < 2 ^ 32) × (n ≤ 2 ^ 32) × (n ≤ length ways.old) }
-    ensures { ways.new ≡ table (λ i. wish_in (held m base ends.now places.now centres.now corners.now numbers.now) along.now (member_in numbers.now (start + i))) n ++ drop n ways.old }
+// The wishes of crossings, those from `start` on among the crossings grouped by channel.
+fn take_wishes(fixed: &Fixed<'_>, along: &[f64], start: u32, ways: &mut [f64])
+    requires { length ways.old ≤ 2 ^ 32 }
+    ensures { ways.new ≡ table (λ i. wish_in (held fixed.now.crossed.m fixed.now.base fixed.now.crossed.ends.now fixed.now.places.now fixed.now.crossed.centres.now fixed.now.crossed.corners.now fixed.now.crossed.numbers.now) along.now (member_in fixed.now.crossed.numbers.now (start + i))) (length ways.old) }
 {
-    for i in 0..n {
-        let x = member_of(numbers, start + i);
-        ways[i] = wish_of(m, base, ends, places, centres, corners, numbers, along, x);
+    for i in 0..ways.len() {
+        let x = member_of(fixed.crossed.numbers, start as usize + i);
+        ways[i] = wish_of(fixed, along, x);
     }
 }
 
-// Puts each of the first n places at its crossing, by the order of the wishes.
-fn put_places(
-    numbers: &[u32],
-    start: usize,
-    n: usize,
-    order: &[u32],
-    ways: &[f64],
-    along: &mut [f64],
-)
-    requires { (start < 2 ^ 32) × (n ≤ length order.now) × (n ≤ length ways.now) }
-    ensures { along.new ≡ put_all (map (λ j. member_in numbers.now (start + j)) (take n order.now)) (take n ways.now) along.old }
+// Puts each place at its crossing, by the order of the wishes.
+fn put_places(numbers: &[u32], start: u32, order: &[u32], places: &[f64], along: &mut [f64])
+    requires { length order.now ≤ length places.now }
+    ensures { along.new ≡ put_all (map (λ j. member_in numbers.now (start + j)) order.now) places.now along.old }
 {
-    for i in 0..n {
-        let x = member_of(numbers, start + order[i] as usize);
+    for i in 0..order.len() {
+        let x = member_of(numbers, start as usize + order[i] as usize) as usize;
         if x < along.len() {
-            along[x] = ways[i];
+            along[x] = places[i];
         }
     }
 }
 
-// Spaces channel c's crossings: all its wishes are taken before any place changes.
+// Spaces channel c's crossings: all its wishes are taken before any place changes. The room in the four lists that are lent for the work is asked here and in the two functions below: a struct that held lists to be written would have to keep its facts true at each write.
 fn space_one(
-    m: usize,
-    base: usize,
-    occupied: usize,
-    ends: &[u32],
-    places: &[f64],
-    centres: &[f64],
-    corners: &[u32],
-    numbers: &[u32],
-    channels: usize,
-    most: usize,
+    stretches: &Stretches<'_>,
     c: usize,
     along: &mut [f64],
     ways: &mut [f64],
@@ -182,62 +166,39 @@ fn space_one(
     spare: &mut [u32],
     keys: &mut [u64],
 )
-    requires m_bound { (m ≤ 2 ^ 32) × (base ≤ 2 ^ 32) × (occupied ≤ 2 ^ 32) × (c < channels) × (channels < 2 ^ 32) × (most ≤ 2 ^ 32) × (most ≤ length ways.old) × (most ≤ length sorted.old) × (most ≤ length spare.old) × (most ≤ length keys.old) }
-    requires ready { Ready (held m base ends.now places.now centres.now corners.now numbers.now) channels most }
-    ensures { along.new ≡ space_in occupied (held m base ends.now places.now centres.now corners.now numbers.now) c along.old }
+    requires { (c < stretches.now.channels) × (stretches.now.most ≤ length ways.old) × (stretches.now.most ≤ length sorted.old) × (stretches.now.most ≤ length spare.old) × (stretches.now.most ≤ length keys.old) }
+    ensures { along.new ≡ space_in stretches.now.occupied (held stretches.now.fixed.crossed.m stretches.now.fixed.base stretches.now.fixed.crossed.ends.now stretches.now.fixed.places.now stretches.now.fixed.crossed.centres.now stretches.now.fixed.crossed.corners.now stretches.now.fixed.crossed.numbers.now) c along.old }
 {
-    let start = start_of(m, ends, c);
-    let n = start_of(m, ends, c + 1) - start;
-    take_wishes(
-        m, base, ends, places, centres, corners, numbers, along, start, n, ways,
-    );
-    let range = range_at(centres, occupied, c);
+    let crossed = &stretches.fixed.crossed;
+    let start = start_of(crossed.m, crossed.ends, c);
+    let n = (start_of(crossed.m, crossed.ends, c + 1) - start) as usize;
+    take_wishes(&stretches.fixed, along, start, &mut ways[..n]);
+    let range = range_at(crossed.centres, stretches.occupied, c);
     space_sorted(range, n, ways, keys, sorted, spare);
-    put_places(numbers, start, n, sorted, ways, along);
+    put_places(crossed.numbers, start, &sorted[..n], &ways[..n], along);
 }
 
-// One round: the first channels' crossings spaced, one channel after another.
+// One round: the channels' crossings spaced, one channel after another.
 fn round(
-    m: usize,
-    base: usize,
-    occupied: usize,
-    ends: &[u32],
-    places: &[f64],
-    centres: &[f64],
-    corners: &[u32],
-    numbers: &[u32],
-    channels: usize,
-    most: usize,
+    stretches: &Stretches<'_>,
     along: &mut [f64],
     ways: &mut [f64],
     sorted: &mut [u32],
     spare: &mut [u32],
     keys: &mut [u64],
 )
-    requires m_bound { (m ≤ 2 ^ 32) × (base ≤ 2 ^ 32) × (occupied ≤ 2 ^ 32) × (channels < 2 ^ 32) × (most ≤ 2 ^ 32) × (most ≤ length ways.old) × (most ≤ length sorted.old) × (most ≤ length spare.old) × (most ≤ length keys.old) }
-    requires ready { Ready (held m base ends.now places.now centres.now corners.now numbers.now) channels most }
-    ensures { along.new ≡ spaced_in occupied (held m base ends.now places.now centres.now corners.now numbers.now) channels along.old }
+    requires { (stretches.now.most ≤ length ways.old) × (stretches.now.most ≤ length sorted.old) × (stretches.now.most ≤ length spare.old) × (stretches.now.most ≤ length keys.old) }
+    ensures { along.new ≡ spaced_in stretches.now.occupied (held stretches.now.fixed.crossed.m stretches.now.fixed.base stretches.now.fixed.crossed.ends.now stretches.now.fixed.places.now stretches.now.fixed.crossed.centres.now stretches.now.fixed.crossed.corners.now stretches.now.fixed.crossed.numbers.now) stretches.now.channels along.old }
 {
-    for c in 0..channels {
-        space_one(
-            m, base, occupied, ends, places, centres, corners, numbers, channels, most, c, along,
-            ways, sorted, spare, keys,
-        );
+    for c in 0..stretches.channels {
+        space_one(stretches, c, along, ways, sorted, spare, keys);
     }
 }
 
-// So many rounds. The exits stand behind `base` points of `places`, the channels' ranges behind `occupied` points of `centres`.
+// So many rounds.
+// Lists that are written are no struct: behind `&mut` others could stand in it, so each contract would have to say that it keeps them and their lengths.
 pub(crate) fn rounds(
-    m: usize,
-    base: usize,
-    occupied: usize,
-    ends: &[u32],
-    places: &[f64],
-    centres: &[f64],
-    corners: &[u32],
-    numbers: &[u32],
-    channels: usize,
-    most: usize,
+    stretches: &Stretches<'_>,
     iterations: u32,
     along: &mut [f64],
     ways: &mut [f64],
@@ -245,37 +206,20 @@ pub(crate) fn rounds(
     spare: &mut [u32],
     keys: &mut [u64],
 )
-    requires m_bound { (m ≤ 2 ^ 32) × (base ≤ 2 ^ 32) × (occupied ≤ 2 ^ 32) × (channels < 2 ^ 32) × (most ≤ 2 ^ 32) × (most ≤ length ways.old) × (most ≤ length sorted.old) × (most ≤ length spare.old) × (most ≤ length keys.old) }
-    requires ready { Ready (held m base ends.now places.now centres.now corners.now numbers.now) channels most }
-    ensures { along.new ≡ rounds_in occupied (held m base ends.now places.now centres.now corners.now numbers.now) channels iterations along.old }
+    requires { (stretches.now.most ≤ length ways.old) × (stretches.now.most ≤ length sorted.old) × (stretches.now.most ≤ length spare.old) × (stretches.now.most ≤ length keys.old) }
+    ensures { along.new ≡ rounds_in stretches.now.occupied (held stretches.now.fixed.crossed.m stretches.now.fixed.base stretches.now.fixed.crossed.ends.now stretches.now.fixed.places.now stretches.now.fixed.crossed.centres.now stretches.now.fixed.crossed.corners.now stretches.now.fixed.crossed.numbers.now) stretches.now.channels iterations along.old }
 {
     for i in 0..iterations {
-        round(
-            m, base, occupied, ends, places, centres, corners, numbers, channels, most, along,
-            ways, sorted, spare, keys,
-        );
+        round(stretches, along, ways, sorted, spare, keys);
     }
 }
 
-// The points of the first n crossings.
-pub(crate) fn put_points(
-    m: usize,
-    ends: &[u32],
-    centres: &[f64],
-    corners: &[u32],
-    numbers: &[u32],
-    along: &[f64],
-    n: usize,
-    ways: &mut [f64],
-)
-    requires { (m ≤ 2 ^ 32) × (n ≤ 2 ^ 32) × (2 * n ≤ length ways.old) }
-    ensures { points_in n ways.new ≡ table (point_in m ends.now centres.now corners.now numbers.now along.now) n }
+// The points of the first n crossings, two numbers each: a slice of the list would say n by half its length.
+pub(crate) fn put_points(crossed: &Crossed<'_>, along: &[f64], n: usize, ways: &mut [f64])
+    requires { (n ≤ 2 ^ 32) × (2 * n ≤ length ways.old) }
+    ensures { points_in n ways.new ≡ table (point_in crossed.now.m crossed.now.ends.now crossed.now.centres.now crossed.now.corners.now crossed.now.numbers.now along.now) n }
 {
     for x in 0..n {
-        put_point(
-            ways,
-            x,
-            point_of(m, ends, centres, corners, numbers, along, x),
-        );
+        put_point(ways, x, point_of(crossed, along, x));
     }
 }

@@ -18,7 +18,8 @@ use Rattle.geometry.specs.declared.Point.{Point}
 use Rattle.geometry.specs.Plane.{point, point_at}
 use Rattle.mesh.specs.Mesh.{mesh_ok}
 use Rattle.mesh.proofs.Meshes.{mesh_sound}
-use Rattle.std.specs.Prelude.{Option, Some, None}
+use Rattle.std.specs.Prelude.{Option, Some, None, Result, Ok, Err}
+use Rattle.std.specs.Result.{is_err}
 use Rattle.refusals.specs.declared.Refusal.{Refusal}
 use Rattle.refusals.specs.declared.Refusal.TheVariants as Refusals
 use Rattle.refusals.specs.Refusal.{refuse}
@@ -30,8 +31,8 @@ use Rattle.crossings.specs.Route as Route
 use Rattle.crossings.specs.Route.{Scene, Path, no_path, path_at, point_of, routing, rounds_to, waypoints}
 use Rattle.crossings.specs.Stages.Views.{Grid, grid, line_in, lines_in, scene_in}
 use Rattle.crossings.specs.Stages.Store.{SameRows}
-use Rattle.routing.specs.Stages.Traced.{Traced, Pathless, lined}
-use Rattle.routing.specs.declared.routes.Routed.{Routed}
+use Rattle.routing.specs.Stages.Traced.{crossings_in, Traced, Pathless, lined}
+use Rattle.routing.specs.declared.lines.Counts.{Counts}
 use Rattle.routing.proofs.Rows.{path_row}
 use Rattle.routing.proofs.Known.{routing_few}
 use Rattle.wishes.specs.Stages.RoundLists.{station_in, Entered}
@@ -159,11 +160,15 @@ scene_corners G k c stations centres corners twins = refl
 
 -- ---- traced, and then spaced
 
+none_stored : (r : Result Counts ℕ) → ((t : Counts) → r ≡ Ok t → ⊥) → is_err r ≡ true
+none_stored (Ok t) h = absurd (h t refl)
+none_stored (Err x) h = refl
+
 pub mesh_room : (corners twins : List ℕ) (n : ℕ) → mesh_ok corners twins n ≡ true → (length corners ≤ 24576) × (min (length corners) 24576 ≡ length corners)
 mesh_room corners twins n ok = let h = (mesh_sound corners twins n ok).most in (h, min-eq_left h)
 
 module _ (sub : List ℕ) (from to : List ℤ) (service : List ℕ) (measures : Measures) (blocks places frames : List Float) (k c : ℕ) (stations : List ℕ) (centres : List Float) (corners twins : List ℕ)
-    (room : ℕ) (before ends numbers : List ℕ) (along : List Float) (r : Routed)
+    (room : ℕ) (before ends numbers : List ℕ) (along : List Float) (r : Result Counts ℕ)
     (ok : mesh_ok corners twins c ≡ true)
     (traced : Traced (λ k G. scene_in (lined sub from to service G) k c stations centres corners twins) (length from) corners room before r ends numbers along) where
   abbrev grid_of : List ℕ → Grid
@@ -172,43 +177,50 @@ module _ (sub : List ℕ) (from to : List ℤ) (service : List ℕ) (measures : 
   abbrev scene_of : List ℕ → Scene
   scene_of l = scene_in (grid_of l) k c stations centres corners twins
 
-  pub led_full : (iterations : ℕ) (ways : List Float) → r.full ≡ true → Led (scene_of before) (length from) corners before (mesh_ok corners twins c) iterations room (Some Refusals.Crossings) ends ways
+  pub led_full : (iterations : ℕ) (ways : List Float) → ((t : Counts) → r ≡ Ok t → ⊥) → Led (scene_of before) (length from) corners before (mesh_ok corners twins c) iterations room (Some Refusals.Crossings) ends ways
   led_full iterations ways h =
-      led_ten (scene_of before) (length from) corners before ends iterations room ways traced.rows (mesh_ok corners twins c) r.full r.crossings ok (traced.crossings k (grid_of before)) traced.full h
+      led_ten (scene_of before) (length from) corners before ends iterations room ways traced.rows (mesh_ok corners twins c) (is_err r) (crossings_in r) ok (traced.crossings k (grid_of before)) traced.full (none_stored r h)
 
-  module _ (left : r.full ≡ false) (boxes : 4 * k ≤ length frames) (occupied : (v : ℕ) → v < c → station_in stations v < k) where
-    pub entered : Exited (grid_of before) → Entered (grid_of ends) k c stations centres corners twins numbers along r.channels r.crossings
+  module _ (t : Counts) (left : r ≡ Ok t) (boxes : 4 * k ≤ length frames) (occupied : (v : ℕ) → v < c → station_in stations v < k) where
+    counted : t.crossings ≡ crossings_in r
+    unfolding crossings_in
+    counted = sym (ap crossings_in left)
+
+    made : t.crossings ≡ length (routing (scene_of ends)).crossings
+    made = counted ∙ traced.crossings k (grid_of ends)
+
+    pub entered : Exited (grid_of before) → Entered (grid_of ends) k c stations centres corners twins numbers along t.channels t.crossings
     entered E =
         record {
           mesh = ok;
           exits = exited_rows sub from to service measures blocks places frames before ends traced.rows.from traced.rows.to E;
           boxes = boxes;
           occupied = occupied;
-          channels_are = traced.channels left k (grid_of ends);
-          crossings_are = traced.crossings k (grid_of ends);
-          stored = traced.stored left k (grid_of ends);
+          channels_are = traced.channels t left k (grid_of ends);
+          crossings_are = made;
+          stored = traced.stored t left k (grid_of ends);
         }
 
-    channels_few : r.channels ≤ length corners
+    channels_few : t.channels ≤ length corners
     unfolding scene_in
-    channels_few = omega (arith, traced.channels left k (grid_of ends), routing_few (scene_of ends) c ok)
+    channels_few = omega (arith, traced.channels t left k (grid_of ends), routing_few (scene_of ends) c ok)
 
-    crossings_fit : r.crossings ≤ room
-    crossings_fit = ltb-false room r.crossings (sym traced.full ∙ left)
+    crossings_fit : t.crossings ≤ room
+    crossings_fit = ltb-false room t.crossings (ap (ltb room) counted ∙ sym traced.full ∙ ap is_err left)
 
-    crossings_few : length from ≤ 8192 → r.crossings ≤ 8192 * 24576
+    crossings_few : length from ≤ 8192 → t.crossings ≤ 8192 * 24576
     crossings_few h =
         let f = (routing_short (scene_of ends)).many in
         let a : length (scene_of ends).lines ≤ 8192 = omega (arith, scene_lines (grid_of ends) k c stations centres corners twins) in
         let b : length (scene_of ends).corners ≤ 24576 = omega (arith, ap length (scene_corners (grid_of ends) k c stations centres corners twins), (mesh_room corners twins c ok).0) in
         let p : length (scene_of ends).lines * length (scene_of ends).corners ≤ 8192 * 24576 = mul-le-mul a b in
-        omega (arith, traced.crossings k (grid_of ends))
+        omega (arith, made)
 
-    pub room_enough : length from ≤ 8192 → (r.channels ≤ length corners) × (length corners ≤ 24576) × (r.crossings ≤ room) × (r.crossings ≤ 8192 * 24576)
+    pub room_enough : length from ≤ 8192 → (t.channels ≤ length corners) × (length corners ≤ 24576) × (t.crossings ≤ room) × (t.crossings ≤ 8192 * 24576)
     room_enough h = (channels_few, (mesh_room corners twins c ok).0, crossings_fit, crossings_few h)
 
     module _ (h : length from ≤ 8192) (iterations : ℕ) (behind : List ℕ) (ways : List Float)
-        (points : points_in r.crossings ways ≡ table (point_of (scene_of ends) (routing (scene_of ends)) (rounds_to (scene_of ends) (routing (scene_of ends)) iterations)) r.crossings)
+        (points : points_in t.crossings ways ≡ table (point_of (scene_of ends) (routing (scene_of ends)) (rounds_to (scene_of ends) (routing (scene_of ends)) iterations)) t.crossings)
         (kept : (from_rows_in (length from) behind ≡ from_rows_in (length from) ends) × (to_rows_in (length from) behind ≡ to_rows_in (length from) ends) × (strided 4 2 0 (length from) behind ≡ strided 4 2 0 (length from) ends) × (strided 4 3 0 (length from) behind ≡ strided 4 3 0 (length from) ends)) where
       abbrev S : Scene
       S = scene_of ends
@@ -217,19 +229,19 @@ module _ (sub : List ℕ) (from to : List ℤ) (service : List ℕ) (measures : 
       number = scene_lines (grid_of ends) k c stations centres corners twins
 
       first_is : (e : ℕ) → e < length from → way_of behind e ≡ (path_at S (routing S) e).first
-      first_is e l = read_path (λ (p : Path). p.first) 2 (length from) behind (routing S).paths e l refl (kept.2 ∙ (traced.stored left k (grid_of ends)).firsts)
+      first_is e l = read_path (λ (p : Path). p.first) 2 (length from) behind (routing S).paths e l refl (kept.2 ∙ (traced.stored t left k (grid_of ends)).firsts)
 
       count_is : (e : ℕ) → e < length from → way_count behind e ≡ (path_at S (routing S) e).count
-      count_is e l = read_path (λ (p : Path). p.count) 3 (length from) behind (routing S).paths e l refl (kept.3 ∙ (traced.stored left k (grid_of ends)).counts)
+      count_is e l = read_path (λ (p : Path). p.count) 3 (length from) behind (routing S).paths e l refl (kept.3 ∙ (traced.stored t left k (grid_of ends)).counts)
 
-      inside : (e : ℕ) → e < length from → way_of behind e + way_count behind e ≤ r.crossings
-      inside e l = omega (arith, first_is e l, count_is e l, (path_row S e (omega (arith, number))).within, traced.crossings k (grid_of ends))
+      inside : (e : ℕ) → e < length from → way_of behind e + way_count behind e ≤ t.crossings
+      inside e l = omega (arith, first_is e l, count_is e l, (path_row S e (omega (arith, number))).within, made)
 
       along_is : (e : ℕ) → e < length from → path_in (way_of behind e) (way_count behind e) ways ≡ waypoints S (routing S) (crossings_of S iterations) e
       unfolding waypoints crossings_of
       along_is e l =
           let f : ℕ → Point = point_of S (routing S) (rounds_to S (routing S) iterations) in
-          along_from f ways (way_of behind e) (way_count behind e) r.crossings (inside e l) points
+          along_from f ways (way_of behind e) (way_count behind e) t.crossings (inside e l) points
           ∙ ap (λ (i : ℕ). map f (up_from i (way_count behind e))) (first_is e l)
           ∙ ap (λ (n : ℕ). map f (up_from (path_at S (routing S) e).first n)) (count_is e l)
 
@@ -239,7 +251,7 @@ module _ (sub : List ℕ) (from to : List ℤ) (service : List ℕ) (measures : 
       led_own : Led S (length from) corners before true iterations room None behind ways
       led_own =
           record {
-            late_is = room_left room (length (crossings_of S iterations)) (omega (arith, crossings_many S iterations, traced.crossings k (grid_of ends), crossings_fit));
+            late_is = room_left room (length (crossings_of S iterations)) (omega (arith, crossings_many S iterations, made, crossings_fit));
             from_rows = kept.0 ∙ traced.rows.from;
             to_rows = kept.1 ∙ traced.rows.to;
             along = λ z e l. along_is e l;

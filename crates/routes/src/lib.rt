@@ -4,8 +4,6 @@
 ghost use Rattle.std.specs.Prelude.{◌≡◌, ℕ, ◌+◌, ◌*◌, ◌≤◌, ◌<◌, min, length};
 ghost use Rattle.std.specs.Result.{result_err};
 ghost use Rattle.mesh.specs.Mesh.{mesh_ok};
-ghost use Rattle.network.specs.Views.{order_in};
-ghost use Rattle.crossings.specs.Stages.Store.{Rising};
 ghost use Rattle.crossings.specs.Stages.Views.{grid, scene_in};
 ghost use Rattle.wishes.specs.Stages.RoundLists.{station_in};
 ghost use Rattle.exits.specs.Stages.Exits.{Exited};
@@ -13,37 +11,30 @@ ghost use Rattle.routes.specs.Routes.{mesh_used};
 ghost use Rattle.routes.specs.Stages.Routed.{Routes};
 ghost use Rattle.routes.specs.Stages.Led.{Led};
 
-use crossings::corners::occupied_corners;
+use crossings::corners::{Vertices, occupied_corners};
 use measures::Measures;
 use mesh::mesh_ok;
+use network::lists::Bounded;
 use refusals::Refusal;
 use rounds::space_all_rounds;
 use routing::routes::{clear_paths, trace_all};
 
 // Whether the mesh is looked at.
+#[tactic(auto, unfolding(crate::specs::Routes::mesh_used))]
 fn mesh_used(stations: usize, iterations: u32) -> bool
     ensures { result ≡ mesh_used stations iterations }
 {
-    if stations < 3 {
-        return false;
-    }
-    0 < iterations
+    3 <= stations && 0 < iterations
 }
 
-// Routes the lines through the mesh over the c occupied stations, whose places are at the front of path; the channels' ranges are written behind them.
+// Routes the lines through the mesh over the occupied stations, whose places are at the front of path; the channels' ranges are written behind them. The room in the lists is asked in each function that lends them on to be written: a struct that held them would have to keep the facts true at each write.
 fn route_used(
     iterations: u32,
     room: usize,
-    sub: &[u32],
-    from: &[i64],
-    to: &[i64],
-    service: &[u8],
-    corners: &[u32],
-    twins: &[u32],
+    net: &Bounded<'_>,
     measures: Measures,
     k: usize,
-    c: usize,
-    stations: &[u32],
+    vertices: &Vertices<'_>,
     ends: &mut [u32],
     sorted: &mut [u32],
     spare: &mut [u32],
@@ -56,39 +47,32 @@ fn route_used(
     along: &mut [f64],
     ways: &mut [f64],
 ) -> Result<(), Refusal>
-    requires from_len_bound { (length from.now ≤ 8192) × (c ≤ 4096) × (4 * k ≤ length frames.now) × (2 * c + 3 * min (length corners.now) 24576 ≤ length path.old) × (length sub.now ≤ 4096) × Exited (grid sub.now from.now to.now service.now measures ends.old blocks.now places.now frames.now) }
+    requires from_len_bound { (4 * k ≤ length frames.now) × (2 * vertices.now.c + 3 * min (length net.now.lists.mesh.corners.now) 24576 ≤ length path.old) × Exited (grid net.now.lists.sub.now net.now.lists.from.now net.now.lists.to.now net.now.lists.service.now measures ends.old blocks.now places.now frames.now) }
     requires room_in_bounds { (3 * room ≤ length numbers.old) × (room ≤ length along.old) × (2 * room ≤ length ways.old) × (room ≤ length sorted.old) × (room ≤ length spare.old) × (room ≤ length keys.old) }
-    requires corners_in_bounds { (4 * length from.now + 4 * min (length corners.now) 24576 + 4 ≤ length ends.old) × (min (length corners.now) 24576 ≤ length sorted.old) × (min (length corners.now) 24576 ≤ length spare.old) × (min (length corners.now) 24576 ≤ length keys.old) }
-    requires rising { Rising (order_in c stations.now) }
-    requires by_index { (v : ℕ) → v < c → station_in stations.now v < k }
-    ensures { Led (scene_in (grid sub.now from.now to.now service.now measures ends.old blocks.now places.now frames.now) k c stations.now path.old corners.now twins.now) (length from.now) corners.now ends.old (mesh_ok corners.now twins.now c) iterations room (result_err result) ends.new ways.new }
+    requires corners_in_bounds { (4 * length net.now.lists.from.now + 4 * min (length net.now.lists.mesh.corners.now) 24576 + 4 ≤ length ends.old) × (min (length net.now.lists.mesh.corners.now) 24576 ≤ length sorted.old) × (min (length net.now.lists.mesh.corners.now) 24576 ≤ length spare.old) × (min (length net.now.lists.mesh.corners.now) 24576 ≤ length keys.old) }
+    requires by_index { (v : ℕ) → v < vertices.now.c → station_in vertices.now.stations.now v < k }
+    ensures { Led (scene_in (grid net.now.lists.sub.now net.now.lists.from.now net.now.lists.to.now net.now.lists.service.now measures ends.old blocks.now places.now frames.now) k vertices.now.c vertices.now.stations.now path.old net.now.lists.mesh.corners.now net.now.lists.mesh.twins.now) (length net.now.lists.from.now) net.now.lists.mesh.corners.now ends.old (mesh_ok net.now.lists.mesh.corners.now net.now.lists.mesh.twins.now vertices.now.c) iterations room (result_err result) ends.new ways.new }
 {
-    if !mesh_ok(corners, twins, c) {
+    if !mesh_ok(&net.lists.mesh, vertices.c) {
         return Err(Refusal::Mesh);
     }
-    let t = trace_all(
-        sub, from, to, service, corners, twins, c, stations, path, room, keys, sorted, spare, ends,
-        numbers, along,
+    let traced = trace_all(
+        &net.lists, vertices, path, room, keys, sorted, spare, ends, numbers, along,
     );
-    if t.full {
+    let Ok(t) = traced else {
         return Err(Refusal::Crossings);
-    }
+    };
     space_all_rounds(
-        sub,
-        from,
-        to,
-        service,
+        &net.lists,
         measures,
         ends,
         blocks,
         places,
         frames,
         k,
-        c,
-        stations,
+        vertices.c,
+        vertices.stations,
         path,
-        corners,
-        twins,
         t.channels,
         t.crossings,
         iterations,
@@ -103,15 +87,11 @@ fn route_used(
 }
 
 // Routes the lines of the network, whose exits stand in `places`, through the mesh, where the crossing list holds `room` crossings.
+// Lists that are written are no struct: behind `&mut` others could stand in it, so each contract would have to say that it keeps them and their lengths.
 pub fn route_lines(
     iterations: u32,
     room: usize,
-    sub: &[u32],
-    from: &[i64],
-    to: &[i64],
-    service: &[u8],
-    corners: &[u32],
-    twins: &[u32],
+    net: &Bounded<'_>,
     measures: Measures,
     k: usize,
     stations: &mut [u32],
@@ -127,18 +107,19 @@ pub fn route_lines(
     along: &mut [f64],
     ways: &mut [f64],
 ) -> Result<(), Refusal>
-    requires from_len_bound { (length from.now ≤ 8192) × (k ≤ 4096) × (2 * k ≤ length stations.old) × (2 * k ≤ length places.now) × (4 * k ≤ length frames.now) × (2 * k + 3 * min (length corners.now) 24576 ≤ length path.old) × (length sub.now ≤ 4096) × Exited (grid sub.now from.now to.now service.now measures ends.old blocks.now places.now frames.now) }
+    requires from_len_bound { (k ≤ 4096) × (2 * k ≤ length stations.old) × (2 * k ≤ length places.now) × (4 * k ≤ length frames.now) × (2 * k + 3 * min (length net.now.lists.mesh.corners.now) 24576 ≤ length path.old) × Exited (grid net.now.lists.sub.now net.now.lists.from.now net.now.lists.to.now net.now.lists.service.now measures ends.old blocks.now places.now frames.now) }
     requires room_in_bounds { (3 * room ≤ length numbers.old) × (room ≤ length along.old) × (2 * room ≤ length ways.old) × (room ≤ length sorted.old) × (room ≤ length spare.old) × (room ≤ length keys.old) }
-    requires corners_in_bounds { (4 * length from.now + 4 * min (length corners.now) 24576 + 4 ≤ length ends.old) × (min (length corners.now) 24576 ≤ length sorted.old) × (min (length corners.now) 24576 ≤ length spare.old) × (min (length corners.now) 24576 ≤ length keys.old) }
-    ensures { Routes (grid sub.now from.now to.now service.now measures ends.old blocks.now places.now frames.now) k stations.old corners.now twins.now iterations room (result_err result) stations.new ends.new ways.new }
+    requires corners_in_bounds { (4 * length net.now.lists.from.now + 4 * min (length net.now.lists.mesh.corners.now) 24576 + 4 ≤ length ends.old) × (min (length net.now.lists.mesh.corners.now) 24576 ≤ length sorted.old) × (min (length net.now.lists.mesh.corners.now) 24576 ≤ length spare.old) × (min (length net.now.lists.mesh.corners.now) 24576 ≤ length keys.old) }
+    ensures { Routes (grid net.now.lists.sub.now net.now.lists.from.now net.now.lists.to.now net.now.lists.service.now measures ends.old blocks.now places.now frames.now) k stations.old net.now.lists.mesh.corners.now net.now.lists.mesh.twins.now iterations room (result_err result) stations.new ends.new ways.new }
 {
     let c = occupied_corners(k, stations, places, path);
     if !mesh_used(c, iterations) {
-        clear_paths(from.len(), ends);
+        clear_paths(net.lists.from.len(), ends);
         return Ok(());
     }
+    let vertices = Vertices { c, stations };
     route_used(
-        iterations, room, sub, from, to, service, corners, twins, measures, k, c, stations, ends,
-        sorted, spare, keys, blocks, places, frames, path, numbers, along, ways,
+        iterations, room, net, measures, k, &vertices, ends, sorted, spare, keys, blocks, places,
+        frames, path, numbers, along, ways,
     )
 }

@@ -5,8 +5,8 @@ use mathlib.Core.List.{List}
 use Prim.Native.Nat.{ℕ, zero, suc, ◌+◌, ◌*◌, ◌-◌, ◌≤◌, ◌<◌, zero-le}
 use native.Mathlib.Omega.{arith}
 use native.Mathlib.Numerals.{add-one}
-use lib.ListN.{length, get_or, set, take, drop}
-use lib.Seq.{take_at, take-set-lt}
+use lib.ListN.{length, get_or, set, take, drop, length-append}
+use lib.Seq.{take_at, take-set-lt, get_or-take, length-take-le}
 use lib.Ieee.{Float}
 use Rattle.order.specs.Order.{pick}
 use Rattle.geometry.specs.Plane.{point_at}
@@ -173,9 +173,16 @@ way_counted corners twins points ends e a va vb n kept trail trail' p g q r t =
 pub mesh_most : (corners twins : List ℕ) → (n : ℕ) × (mesh_ok corners twins n ≡ true) → length corners ≤ 24576
 mesh_most corners twins h = (mesh_sound corners twins h.0 h.1).most
 
+-- the list has room for what is written
+pub trail_long : (corners twins : List ℕ) (points : List Float) (va vb n : ℕ) (kept : Bool) (trail trail' : List ℕ) → Trailed (traced corners twins (point_at points) va vb) trail trail' n kept → n ≤ length trail'
+trail_long corners twins points va vb n kept trail trail' t = omega (arith, t.counted, simp length-append at (ap length t.written))
+
 pub trail_inside : (corners twins : List ℕ) (points : List Float) (va vb n : ℕ) (kept : Bool) (trail trail' : List ℕ) → (k : ℕ) × (mesh_ok corners twins k ≡ true)
-    → Trailed (traced corners twins (point_at points) va vb) trail trail' n kept → (i : ℕ) → i < n → get_or trail' i 0 < length corners
-trail_inside corners twins points va vb n kept trail trail' h t i l = trail_in corners twins (point_at points) va vb trail trail' n kept t h.0 (mesh_sound corners twins h.0 h.1) i l
+    → Trailed (traced corners twins (point_at points) va vb) trail trail' n kept → (i : ℕ) → i < length (take n trail') → get_or (take n trail') i 0 < length corners
+trail_inside corners twins points va vb n kept trail trail' h t i l =
+    let z = length-take-le n trail' (trail_long corners twins points va vb n kept trail trail' t) in
+    let m : i < n = omega (arith, z) in
+    omega (arith, get_or-take n trail' i 0 m, trail_in corners twins (point_at points) va vb trail trail' n kept t h.0 (mesh_sound corners twins h.0 h.1) i m)
 
 -- one branch more counted, by what the code read of its way
 pub crossings_step : (corners twins : List ℕ) (points : List Float) (ways : List ℕ) (e x a b n : ℕ) → x ≡ crossings_to corners twins points ways e → a ≡ get_or ways (4 * e + 2) 0 → b ≡ get_or ways (4 * e + 3) 0

@@ -213,18 +213,3 @@ module _ (m : ℕ) (before : List ℕ) where
     pub long : length now ≡ length before
     pub front : take (4 * m) now ≡ take (4 * m) before
     pub each : (h : ℕ) → h < n → get_or now (4 * (m + h) + 1) 0 ≡ 0
-
-  pub clear_start : Cleared 0 before
-  clear_start = record { long = refl; front = refl; each = λ h l. absurd (omega arith) }
-
-  pub clear_more : (n : ℕ) (now : List ℕ) → 4 * (m + n) + 1 < length now → Cleared n now → Cleared (n + 1) (set now (4 * (m + n) + 1) 0)
-  clear_more n now l v =
-      record {
-        long = length-set now (4 * (m + n) + 1) 0 ∙ v.long;
-        front = take-set-le (4 * m) now (4 * (m + n) + 1) 0 (omega arith) ∙ v.front;
-        each = λ h k.
-            ⊎_elim
-            (λ (g : n ≤ h). let z : h ≡ n = omega arith in rw z (get_or-set_same now (4 * (m + n) + 1) 0 0 l))
-            (λ (g : h < n). get_or-set_other now (4 * (m + n) + 1) (4 * (m + h) + 1) 0 0 (λ z. omega arith) ∙ v.each h g)
-            (le_or_lt n h);
-      }

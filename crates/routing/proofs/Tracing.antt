@@ -1,6 +1,5 @@
 -- Every line traced: how many crossings there are, the lines of a scene by their ways, and the routing in the lists. Assumes nothing.
 use mathlib.Core.Path.{◌≡◌, refl, sym, ap, ◌∙◌, subst}
-use mathlib.Core.Bool.{true, false, true≢false}
 use mathlib.Core.List.{List, [], ◌∷◌, ◌++◌, map}
 use mathlib.Core.Option.{Option, none}
 use Prim.Native.Nat.{ℕ, zero, suc, ◌+◌, ◌*◌, ◌≤◌, ◌<◌, zero-le}
@@ -27,8 +26,10 @@ use Rattle.crossings.specs.declared.ways.Way.{Way}
 use Rattle.crossings.specs.Route.{Scene, Routing, Crossing, centre_at, cross, cross_all, add_walk, add_branch, traced_to, routing}
 use Rattle.crossings.specs.Stages.Views.{Grid, scene_in, lines_in, line_in, line_for, line_between, Stored}
 use Rattle.crossings.specs.Stages.Store.{stock, meshed, walk_of, crossings_to, add_way, way_for, way_of, SameRows, Fits, Filled, Wayed}
-use Rattle.routing.specs.Stages.Traced.{Settled, lined, Traced, Pathless}
-use Rattle.routing.specs.declared.routes.Routed.{Routed}
+use Rattle.routing.specs.Stages.Traced.{crossings_in, Settled, lined, Traced, Pathless}
+use Rattle.routing.specs.declared.lines.Counts.{Counts}
+use Rattle.std.specs.Prelude.{Result, Ok, Err}
+use Rattle.std.specs.Result.{is_err}
 use Rattle.crossings.proofs.Written.{put_pair, pair_other, pair_rows, pair_first, pair_second, length_pair, rows_then, rows_same}
 use Rattle.routing.proofs.Filling.{front_read, front_rows}
 
@@ -124,7 +125,7 @@ module _ (sub : List ℕ) (from to : List ℤ) (service : List ℕ) (c : ℕ) (s
         ends = λ j h. front_read (length from) ways now q (4 * j + 3) (omega arith) ∙ w.ends j h;
       }
 
-  pub trace_made : (room : ℕ) (before ways : List ℕ) (r : Routed) (ends numbers : List ℕ) (places : List Float)
+  pub trace_made : (room : ℕ) (before ways : List ℕ) (r : Result Counts ℕ) (ends numbers : List ℕ) (places : List Float)
       → Wayed (way_of sub from to service (order_in c stations)) (length from) (length from) before ways → Settled (length from) corners twins (take (2 * c) path) room ways r ends numbers places
       → Traced scene_of (length from) corners room before r ends numbers places
   unfolding scene_in
@@ -133,13 +134,13 @@ module _ (sub : List ℕ) (from to : List ℤ) (service : List ℕ) (c : ℕ) (s
         crossings = λ k G. s.crossings ∙ sym (crossings_traced corners twins points (length from) ways (scene_of k G) (scene_fits before ways w k G) (length from) (omega arith)) ∙ ap (λ (z : Routing). length z.crossings) (sym (scene_routing before ways w k G));
         full = s.full;
         rows = rows_then (length from) before ways ends w.rows s.rows;
-        stored = λ h k G. subst (λ (z : Routing). Stored (length from) corners z ends numbers places) (sym (scene_routing before ways w k G)) (holds h k G);
-        channels = λ h k G. ((s.filled h).held (scene_of k G) (scene_fits before ways w k G)).known ∙ ap (λ (z : Routing). length z.channels) (sym (scene_routing before ways w k G));
+        stored = λ c h k G. subst (λ (z : Routing). Stored (length from) corners z ends numbers places) (sym (scene_routing before ways w k G)) (holds c h k G);
+        channels = λ c h k G. ((s.filled c h).held (scene_of k G) (scene_fits before ways w k G)).known ∙ ap (λ (z : Routing). length z.channels) (sym (scene_routing before ways w k G));
       }
     where
-      holds : (h : r.full ≡ false) (k : ℕ) (G : Grid) → Stored (length from) corners (traced_to (scene_of k G) (length from)) ends numbers places
-      holds h k G =
-          let f = s.filled h in
+      holds : (c : Counts) (h : r ≡ Ok c) (k : ℕ) (G : Grid) → Stored (length from) corners (traced_to (scene_of k G) (length from)) ends numbers places
+      holds t h k G =
+          let f = s.filled t h in
           let g = scene_fits before ways w k G in
           let v = f.held (scene_of k G) g in
           record {
@@ -154,21 +155,22 @@ module _ (sub : List ℕ) (from to : List ℤ) (service : List ℕ) (c : ℕ) (s
 -- ---- counted, and then stored or not
 
 module _ (m : ℕ) (corners twins : List ℕ) (points : List Float) (room : ℕ) (ways : List ℕ) (x : ℕ) (q : x ≡ crossings_to corners twins points ways m) where
-  pub settle_full : (numbers : List ℕ) (places : List Float) → room < x → Settled m corners twins points room ways (record { crossings = x; channels = 0; full = true }) ways numbers places
-  settle_full numbers places h = record { crossings = q; full = sym (lt-ltb room x h); rows = rows_same m ways; filled = λ e. absurd (no e) }
+  pub settle_full : (numbers : List ℕ) (places : List Float) → room < x → Settled m corners twins points room ways (Err x) ways numbers places
+  unfolding crossings_in
+  settle_full numbers places h = record { crossings = q; full = sym (lt-ltb room x h); rows = rows_same m ways; filled = λ c e. absurd (two (Err x) c refl e) }
     where
-      no : true ≡ false → ⊥
-      no e = true≢false e
+      two : (a : Result Counts ℕ) (c : Counts) → a ≡ Err x → a ≡ Ok c → ⊥
+      two a c e f = cc
 
-  pub settle_stored : (k y : ℕ) (ends numbers : List ℕ) (places : List Float) → x ≤ room → Filled m corners twins points ways m (stock k y ends numbers places)
-      → Settled m corners twins points room ways (record { crossings = x; channels = k; full = false }) ends numbers places
-  settle_stored k y ends numbers places h f =
-      let e : y ≡ x = f.made ∙ sym q in
+  pub settle_stored : (k : Counts) (ends numbers : List ℕ) (places : List Float) → x ≤ room → Filled m corners twins points ways m (stock k.channels k.crossings ends numbers places)
+      → Settled m corners twins points room ways (Ok k) ends numbers places
+  unfolding crossings_in
+  settle_stored k ends numbers places h f =
       record {
-        crossings = q;
-        full = sym (le-ltb room x h);
+        crossings = f.made;
+        full = sym (le-ltb room k.crossings (omega (arith, f.made)));
         rows = f.rows;
-        filled = λ z. subst (λ (n : ℕ). Filled m corners twins points ways m (stock k n ends numbers places)) e f;
+        filled = λ c e. let z : k ≡ c = cc in subst (λ (t : Counts). Filled m corners twins points ways m (stock t.channels t.crossings ends numbers places)) z f;
       }
 
 -- ---- no paths

@@ -3,12 +3,12 @@ ghost use Rattle.std.specs.Prelude.{◌≡◌, true, ℕ, ◌+◌, ◌*◌, ◌�
 ghost use Rattle.order.specs.Order.{pick};
 ghost use Rattle.geometry.specs.Plane.{point_at};
 ghost use Rattle.mesh.specs.Mesh.{mesh_ok};
-ghost use Rattle.half_edges.specs.Round.{round_of};
 ghost use Rattle.crossings.specs.Stages.Store.{walk_of, walk_at, crossings_to, stock, Branched, Filled, Unmarked};
 
 use crossings::crossings::store_trail;
+use half_edges::Turned;
 use order::at;
-use walk::trace::trace;
+use walk::trace::{Line, trace};
 
 // How many crossings and how many channels there are.
 #[derive(Clone, Copy)]
@@ -17,50 +17,42 @@ pub struct Counts {
     pub channels: usize,
 }
 
-// The crossings of a branch with this way.
-fn count_line(
-    corners: &[u32],
-    twins: &[u32],
-    points: &[f64],
-    around: &[u32],
-    a: u32,
-    b: u32,
-    trail: &mut [u32],
-) -> usize
-    requires corners_len_bound { (length corners.now ≤ 24576) × (length corners.now ≤ length trail.old) }
-    requires around_value { take (length corners.now) around.now ≡ round_of corners.now }
-    ensures value { result ≡ length (walk_of corners.now twins.now (point_at points.now) a b).edges }
+// The crossings of a branch with this way. The room in `trail` is asked in each function that lends it on: it is written, and a struct that held it would have to keep the fact true at each write.
+fn count_line(turned: &Turned<'_>, points: &[f64], a: u32, b: u32, trail: &mut [u32]) -> usize
+    requires { length turned.now.mesh.corners.now ≤ length trail.old }
+    ensures value { result ≡ length (walk_of turned.now.mesh.corners.now turned.now.mesh.twins.now (point_at points.now) a b).edges }
     ensures upper_bound { result ≤ 24576 }
 {
     if a == 0 {
         return 0;
     }
-    let va = a as usize - 1;
-    let vb = b as usize;
-    let t = trace(corners, twins, points, around, va, vb, trail);
+    let line = Line {
+        turned: *turned,
+        points,
+        start: a - 1,
+        end: b,
+    };
+    let t = trace(&line, trail);
     t.count
 }
 
 // The crossings of m branches, whose ways are the last two of four numbers each.
 pub(crate) fn count_all(
-    corners: &[u32],
-    twins: &[u32],
+    turned: &Turned<'_>,
     points: &[f64],
-    around: &[u32],
-    m: usize,
+    m: u32,
     ends: &[u32],
     trail: &mut [u32],
 ) -> usize
-    requires m_bound { (m ≤ 8192) × (length corners.now ≤ 24576) × (length corners.now ≤ length trail.old) }
-    requires around_value { take (length corners.now) around.now ≡ round_of corners.now }
-    ensures value { result ≡ crossings_to corners.now twins.now points.now ends.now m }
+    requires { length turned.now.mesh.corners.now ≤ length trail.old }
+    ensures value { result ≡ crossings_to turned.now.mesh.corners.now turned.now.mesh.twins.now points.now ends.now m }
     ensures upper_bound { result ≤ 24576 * m }
 {
     let mut total = 0;
     for e in 0..m {
-        let a = at(ends, 4 * e + 2);
-        let b = at(ends, 4 * e + 3);
-        total += count_line(corners, twins, points, around, a, b, trail);
+        let a = at(ends, 4 * e as usize + 2);
+        let b = at(ends, 4 * e as usize + 3);
+        total += count_line(turned, points, a, b, trail);
     }
     total
 }
@@ -82,14 +74,12 @@ fn kept_count(kept: bool, n: usize) -> usize
     if kept { n } else { 0 }
 }
 
-// Stores the crossings and the path of branch e, from number x on; how many crossings and channels there are then, k channels before.
+// Stores the crossings and the path of branch e, from number x on; how many crossings and channels there are then, k channels before. The room in `ends` and the mesh test are asked here, in `store_all` and in `store_routes`: `ends` is written as `trail` is, and `Turned` asks no test, since `trace` needs none.
 fn store_branch(
-    corners: &[u32],
-    twins: &[u32],
+    turned: &Turned<'_>,
     points: &[f64],
-    around: &[u32],
-    m: usize,
-    e: usize,
+    m: u32,
+    e: u32,
     x: usize,
     k: usize,
     trail: &mut [u32],
@@ -97,29 +87,31 @@ fn store_branch(
     numbers: &mut [u32],
     places: &mut [f64],
 ) -> Counts
-    requires m_bound { (m ≤ 8192) × (e < m) × (k ≤ x) × (length corners.now ≤ length trail.old) × (4 * (m + length corners.now) + 4 ≤ length ends.old) }
-    requires e_bound { (x + length (walk_at corners.now twins.now points.now ends.old e).edges < 0xffff_ffff) × (3 * (x + length (walk_at corners.now twins.now points.now ends.old e).edges) ≤ length numbers.old) × (x + length (walk_at corners.now twins.now points.now ends.old e).edges ≤ length places.old) }
-    requires around_value { take (length corners.now) around.now ≡ round_of corners.now }
-    requires by_index { (n : ℕ) × (mesh_ok corners.now twins.now n ≡ true) }
-    ensures { Branched m corners.now twins.now points.now e (get_or ends.old (4 * e + 2) 0) (get_or ends.old (4 * e + 3) 0) (stock k x ends.old numbers.old places.old) (stock result.channels result.crossings ends.new numbers.new places.new) }
+    requires e_bound { (e < m) × (k ≤ x) × (length turned.now.mesh.corners.now ≤ length trail.old) × (4 * (m + length turned.now.mesh.corners.now) + 4 ≤ length ends.old) }
+    requires x_bound { (x + length (walk_at turned.now.mesh.corners.now turned.now.mesh.twins.now points.now ends.old e).edges < 0xffff_ffff) × (3 * (x + length (walk_at turned.now.mesh.corners.now turned.now.mesh.twins.now points.now ends.old e).edges) ≤ length numbers.old) × (x + length (walk_at turned.now.mesh.corners.now turned.now.mesh.twins.now points.now ends.old e).edges ≤ length places.old) }
+    requires by_index { (n : ℕ) × (mesh_ok turned.now.mesh.corners.now turned.now.mesh.twins.now n ≡ true) }
+    ensures { Branched m turned.now.mesh.corners.now turned.now.mesh.twins.now points.now e (get_or ends.old (4 * e + 2) 0) (get_or ends.old (4 * e + 3) 0) (stock k x ends.old numbers.old places.old) (stock result.channels result.crossings ends.new numbers.new places.new) }
 {
-    let a = at(ends, 4 * e + 2) as usize;
+    let a = at(ends, 4 * e as usize + 2);
     if a == 0 {
-        put_path(e, 0, 0, ends);
+        put_path(e as usize, 0, 0, ends);
         return Counts {
             crossings: x,
             channels: k,
         };
     }
-    let va = a - 1;
-    let vb = at(ends, 4 * e + 3) as usize;
-    let t = trace(corners, twins, points, around, va, vb, trail);
+    let b = at(ends, 4 * e as usize + 3);
+    let line = Line {
+        turned: *turned,
+        points,
+        start: a - 1,
+        end: b,
+    };
+    let t = trace(&line, trail);
     let n = t.count;
     let used = kept_count(t.kept, n);
-    let known = store_trail(
-        corners, points, around, m, va, vb, e, trail, n, x, k, ends, numbers, places,
-    );
-    put_path(e, x as u32, used as u32, ends);
+    let known = store_trail(&line, m, e, &trail[..n], x, k, ends, numbers, places);
+    put_path(e as usize, x as u32, used as u32, ends);
     Counts {
         crossings: x + n,
         channels: known,
@@ -128,28 +120,23 @@ fn store_branch(
 
 // Stores the crossings and paths of m branches, whose ways are the last two of four numbers each, and then their paths.
 pub(crate) fn store_all(
-    corners: &[u32],
-    twins: &[u32],
+    turned: &Turned<'_>,
     points: &[f64],
-    around: &[u32],
-    m: usize,
+    m: u32,
     trail: &mut [u32],
     ends: &mut [u32],
     numbers: &mut [u32],
     places: &mut [f64],
 ) -> Counts
-    requires m_bound { (m ≤ 8192) × (length corners.now ≤ length trail.old) × (4 * (m + length corners.now) + 4 ≤ length ends.old) × (3 * crossings_to corners.now twins.now points.now ends.old m ≤ length numbers.old) × (crossings_to corners.now twins.now points.now ends.old m ≤ length places.old) }
-    requires around_value { take (length corners.now) around.now ≡ round_of corners.now }
-    requires by_index { (n : ℕ) × (mesh_ok corners.now twins.now n ≡ true) }
-    requires unmarked { Unmarked m corners.now ends.old }
-    ensures { Filled m corners.now twins.now points.now ends.old m (stock result.channels result.crossings ends.new numbers.new places.new) }
+    requires m_bound { (m ≤ 8192) × (length turned.now.mesh.corners.now ≤ length trail.old) × (4 * (m + length turned.now.mesh.corners.now) + 4 ≤ length ends.old) × (3 * crossings_to turned.now.mesh.corners.now turned.now.mesh.twins.now points.now ends.old m ≤ length numbers.old) × (crossings_to turned.now.mesh.corners.now turned.now.mesh.twins.now points.now ends.old m ≤ length places.old) }
+    requires by_index { (n : ℕ) × (mesh_ok turned.now.mesh.corners.now turned.now.mesh.twins.now n ≡ true) }
+    requires unmarked { Unmarked m turned.now.mesh.corners.now ends.old }
+    ensures { Filled m turned.now.mesh.corners.now turned.now.mesh.twins.now points.now ends.old m (stock result.channels result.crossings ends.new numbers.new places.new) }
 {
     let mut x = 0;
     let mut k = 0;
     for e in 0..m {
-        let c = store_branch(
-            corners, twins, points, around, m, e, x, k, trail, ends, numbers, places,
-        );
+        let c = store_branch(turned, points, m, e, x, k, trail, ends, numbers, places);
         x = c.crossings;
         k = c.channels;
     }
@@ -159,13 +146,13 @@ pub(crate) fn store_all(
     }
 }
 
-// Unmarks n half-edges behind m branches.
-pub(crate) fn clear_marks(m: usize, n: usize, ends: &mut [u32])
-    requires { (m ≤ 8192) × (n ≤ 24576) × (4 * (m + n) + 4 ≤ length ends.old) }
+// Unmarks n half-edges behind m branches, n numbers among others in a longer list.
+pub(crate) fn clear_marks(m: u32, n: usize, ends: &mut [u32])
+    requires { 4 * (m + n) + 4 ≤ length ends.old }
     ensures ends_unchanged { take (4 * m) ends.new ≡ take (4 * m) ends.old }
     ensures by_index { (h : ℕ) → h < n → get_or ends.new (4 * (m + h) + 1) 0 ≡ 0 }
 {
     for h in 0..n {
-        ends[4 * (m + h) + 1] = 0;
+        ends[4 * (m as usize + h) + 1] = 0;
     }
 }

@@ -12,6 +12,7 @@ ghost use Rattle.rows.specs.Row.{rows_in, from_rows, to_rows};
 ghost use Rattle.rows.specs.Stages.Entry.{from_end, end_station, end_key, to_entry, entry_station, entry_key};
 
 use float::key::order_key;
+use network::lists::Network;
 use network::words::{Kind, kind_of, station_of};
 use order::at;
 use ranking::rank_in_stations;
@@ -35,11 +36,11 @@ fn seed_key(places: &[f64], s: usize) -> u64
     order_key_total(places[2 * s + 1]) + 1
 }
 
-fn entry_key(sub: &[u32], from: &[i64], to: &[i64], service: &[u8], places: &[f64], x: usize) -> u64
-    requires { 2 * station_count sub.now ≤ length places.now }
-    ensures { result ≡ end_key sub.now (points_in (station_count sub.now) places.now) (from_end x) (kind_of sub.now from.now to.now service.now (x / 2)) }
+fn entry_key(net: &Network<'_>, places: &[f64], x: usize) -> u64
+    requires { 2 * station_count net.now.sub.now ≤ length places.now }
+    ensures { result ≡ end_key net.now.sub.now (points_in (station_count net.now.sub.now) places.now) (from_end x) (kind_of net.now.sub.now net.now.from.now net.now.to.now net.now.service.now (x / 2)) }
 {
-    match kind_of(sub, from, to, service, x / 2) {
+    match kind_of(net, x / 2) {
         Kind::Undrawn => {
             return 0;
         },
@@ -51,18 +52,18 @@ fn entry_key(sub: &[u32], from: &[i64], to: &[i64], service: &[u8], places: &[f6
         },
         Kind::Line(a, b) => {
             if x % 2 == 0 {
-                return seed_key(places, station_of(sub, b));
+                return seed_key(places, station_of(net.sub, b));
             }
-            return seed_key(places, station_of(sub, a));
+            return seed_key(places, station_of(net.sub, a));
         },
     }
 }
 
 // The station in which entry x has a row, or a number past every station's.
-fn entry_station(sub: &[u32], from: &[i64], to: &[i64], service: &[u8], x: usize) -> u32
-    ensures { result ≡ end_station sub.now (from_end x) (kind_of sub.now from.now to.now service.now (x / 2)) }
+fn entry_station(net: &Network<'_>, x: usize) -> u32
+    ensures { result ≡ end_station net.now.sub.now (from_end x) (kind_of net.now.sub.now net.now.from.now net.now.to.now net.now.service.now (x / 2)) }
 {
-    match kind_of(sub, from, to, service, x / 2) {
+    match kind_of(net, x / 2) {
         Kind::Undrawn => {
             return 0xffff_ffff;
         },
@@ -71,25 +72,25 @@ fn entry_station(sub: &[u32], from: &[i64], to: &[i64], service: &[u8], x: usize
         },
         Kind::Internal(a, _) => {
             if x % 2 == 0 {
-                return station_of(sub, a) as u32;
+                return station_of(net.sub, a) as u32;
             }
             return 0xffff_ffff;
         },
         Kind::Line(a, b) => {
             if x % 2 == 0 {
-                return station_of(sub, a) as u32;
+                return station_of(net.sub, a) as u32;
             }
-            return station_of(sub, b) as u32;
+            return station_of(net.sub, b) as u32;
         },
     }
 }
 
 // The entry that holds the row of branch e's to end: an internal branch has one row for both.
-fn to_entry(sub: &[u32], from: &[i64], to: &[i64], service: &[u8], e: usize) -> usize
+fn to_entry(net: &Network<'_>, e: usize) -> usize
     requires { e ≤ 8192 }
-    ensures { result ≡ to_entry (kind_of sub.now from.now to.now service.now e) e }
+    ensures { result ≡ to_entry (kind_of net.now.sub.now net.now.from.now net.now.to.now net.now.service.now e) e }
 {
-    match kind_of(sub, from, to, service, e) {
+    match kind_of(net, e) {
         Kind::Undrawn => {
             return 2 * e + 1;
         },
@@ -106,45 +107,35 @@ fn to_entry(sub: &[u32], from: &[i64], to: &[i64], service: &[u8], e: usize) -> 
 }
 
 // The key and the station of every entry, from the front of each list.
-fn fill_entries(
-    sub: &[u32],
-    from: &[i64],
-    to: &[i64],
-    service: &[u8],
-    places: &[f64],
-    keys: &mut [u64],
-    own: &mut [u32],
-)
-    requires { (length from.now ≤ 8192) × (2 * station_count sub.now ≤ length places.now) × (2 * length from.now ≤ length keys.old) × (2 * length from.now ≤ length own.old) }
-    ensures keys_after { take (2 * length from.now) keys.new ≡ table (entry_key sub.now (points_in (station_count sub.now) places.now) (kinds sub.now from.now to.now service.now)) (2 * length from.now) }
-    ensures own_after { take (2 * length from.now) own.new ≡ table (entry_station sub.now (kinds sub.now from.now to.now service.now)) (2 * length from.now) }
+fn fill_entries(net: &Network<'_>, places: &[f64], keys: &mut [u64], own: &mut [u32])
+    requires { (length net.now.from.now ≤ 8192) × (2 * station_count net.now.sub.now ≤ length places.now) × (2 * length net.now.from.now ≤ length keys.old) × (2 * length net.now.from.now ≤ length own.old) }
+    ensures keys_after { take (2 * length net.now.from.now) keys.new ≡ table (entry_key net.now.sub.now (points_in (station_count net.now.sub.now) places.now) (kinds net.now.sub.now net.now.from.now net.now.to.now net.now.service.now)) (2 * length net.now.from.now) }
+    ensures own_after { take (2 * length net.now.from.now) own.new ≡ table (entry_station net.now.sub.now (kinds net.now.sub.now net.now.from.now net.now.to.now net.now.service.now)) (2 * length net.now.from.now) }
 {
-    let c = 2 * from.len();
+    let c = 2 * net.from.len();
     for x in 0..c {
-        keys[x] = entry_key(sub, from, to, service, places, x);
-        own[x] = entry_station(sub, from, to, service, x);
+        keys[x] = entry_key(net, places, x);
+        own[x] = entry_station(net, x);
     }
 }
 
 // Each branch's rows by those of its entries.
-fn put_rows(sub: &[u32], from: &[i64], to: &[i64], service: &[u8], rows: &[u32], ends: &mut [u32])
-    requires { (length from.now ≤ 8192) × (2 * length from.now ≤ length rows.now) × (4 * length from.now ≤ length ends.old) }
-    ensures ends_after { from_rows_in (length from.now) ends.new ≡ table (λ e. get_or rows.now (2 * e) 0) (length from.now) }
-    ensures ends_after_2 { to_rows_in (length from.now) ends.new ≡ table (λ e. get_or rows.now (to_entry (kind_of sub.now from.now to.now service.now e) e) 0) (length from.now) }
+fn put_rows(net: &Network<'_>, rows: &[u32], ends: &mut [u32])
+    requires { (length net.now.from.now ≤ 8192) × (2 * length net.now.from.now ≤ length rows.now) × (4 * length net.now.from.now ≤ length ends.old) }
+    ensures ends_after { from_rows_in (length net.now.from.now) ends.new ≡ table (λ e. get_or rows.now (2 * e) 0) (length net.now.from.now) }
+    ensures ends_after_2 { to_rows_in (length net.now.from.now) ends.new ≡ table (λ e. get_or rows.now (to_entry (kind_of net.now.sub.now net.now.from.now net.now.to.now net.now.service.now e) e) 0) (length net.now.from.now) }
 {
-    let m = from.len();
+    let m = net.from.len();
     for e in 0..m {
         ends[4 * e] = at(rows, 2 * e);
-        ends[4 * e + 1] = at(rows, to_entry(sub, from, to, service, e));
+        ends[4 * e + 1] = at(rows, to_entry(net, e));
     }
 }
 
 // The row of each branch's two ends, beside its branch, 0 where it has none; how many rows each of the k stations has is left in its counter, the bus counts stay. The other lists are lent for the work.
+// Lists that are written are no struct: behind `&mut` others could stand in it, so each contract would have to say that it keeps them and their lengths.
 pub fn rows(
-    sub: &[u32],
-    from: &[i64],
-    to: &[i64],
-    service: &[u8],
+    net: &Network<'_>,
     places: &[f64],
     k: usize,
     stations: &mut [u32],
@@ -153,14 +144,14 @@ pub fn rows(
     sorted: &mut [u32],
     spare: &mut [u32],
 )
-    requires k_value { (k ≡ station_count sub.now) × (k ≤ 4096) × (length from.now ≤ 8192) }
-    requires k_in_bounds { (2 * k ≤ length places.now) × (2 * k ≤ length stations.old) × (4 * length from.now ≤ length ends.old) × (2 * length from.now ≤ length keys.old) × (2 * length from.now ≤ length sorted.old) × (2 * length from.now ≤ length spare.old) }
-    ensures ends_after { from_rows_in (length from.now) ends.new ≡ from_rows sub.now (points_in k places.now) (kinds sub.now from.now to.now service.now) }
-    ensures ends_after_2 { to_rows_in (length from.now) ends.new ≡ to_rows sub.now (points_in k places.now) (kinds sub.now from.now to.now service.now) }
-    ensures stations_after { strided 2 1 0 k stations.new ≡ table (rows_in sub.now (kinds sub.now from.now to.now service.now)) k }
+    requires k_value { (k ≡ station_count net.now.sub.now) × (k ≤ 4096) × (length net.now.from.now ≤ 8192) }
+    requires k_in_bounds { (2 * k ≤ length places.now) × (2 * k ≤ length stations.old) × (4 * length net.now.from.now ≤ length ends.old) × (2 * length net.now.from.now ≤ length keys.old) × (2 * length net.now.from.now ≤ length sorted.old) × (2 * length net.now.from.now ≤ length spare.old) }
+    ensures ends_after { from_rows_in (length net.now.from.now) ends.new ≡ from_rows net.now.sub.now (points_in k places.now) (kinds net.now.sub.now net.now.from.now net.now.to.now net.now.service.now) }
+    ensures ends_after_2 { to_rows_in (length net.now.from.now) ends.new ≡ to_rows net.now.sub.now (points_in k places.now) (kinds net.now.sub.now net.now.from.now net.now.to.now net.now.service.now) }
+    ensures stations_after { strided 2 1 0 k stations.new ≡ table (rows_in net.now.sub.now (kinds net.now.sub.now net.now.from.now net.now.to.now net.now.service.now)) k }
     ensures stations_unchanged { counts_in k stations.new ≡ counts_in k stations.old }
 {
-    fill_entries(sub, from, to, service, places, keys, ends);
-    rank_in_stations(ends, 2 * from.len(), k, keys, stations, sorted, spare);
-    put_rows(sub, from, to, service, spare, ends);
+    fill_entries(net, places, keys, ends);
+    rank_in_stations(ends, 2 * net.from.len(), k, keys, stations, sorted, spare);
+    put_rows(net, spare, ends);
 }

@@ -2,7 +2,7 @@
 -- Assumes nothing.
 use mathlib.Core.Path.{◌≡◌, refl, sym, ap, ◌∙◌, subst}
 use mathlib.Core.Logic.{◌≢◌}
-use mathlib.Core.Bool.{Bool, true, false, cond}
+use mathlib.Core.Bool.{Bool, true, false}
 use mathlib.Core.List.{List, [], ◌∷◌, ◌++◌}
 use Prim.Native.Nat.{ℕ, zero, suc, ◌+◌, ◌*◌, ◌^◌, ◌≤◌, ◌<◌}
 use native.Mathlib.Omega.{arith}
@@ -129,16 +129,14 @@ ends_put r p q l l1 l2 h e f = record { count = count; holds = holds }
         let s : r + 2 ≡ suc (r + 1) = omega arith in
         path_cons 0 (r + 2) (r + 1) l2 s ∙ ap (λ (t : Point). t ∷ path_in 1 (r + 1) l2) first ∙ ap (λ (t : List Point). p ∷ t) rest
 
--- a path led round boxes where there are iterations
-module _ (led : Bool) (gap : Float) (k : ℕ) (stations : List ℕ) (frames : List Float) (s t : ℕ) where
-  pub led_yes : (r count : ℕ) (was now : List Float) → led ≡ true
-      → Led 1 r (detour (boxes_in k frames) (occupied (counts_in k stations)) gap s t (path_in 1 count was)) was now
-      → (path_in 1 r now ≡ led_in led gap k stations frames s t (path_in 1 count was)) × (r ≤ count + 4)
-  unfolding led_in
-  led_yes r count was now h L = (
-    L.path ∙ ap (λ (b : Bool). cond b (detour (boxes_in k frames) (occupied (counts_in k stations)) gap s t (path_in 1 count was)) (path_in 1 count was)) (sym h),
-    led_short (boxes_in k frames) (occupied (counts_in k stations)) gap s t 1 r count was now L,
-  )
+-- a path led round boxes, and how many points it has then
+module _ (gap : Float) (k : ℕ) (stations : List ℕ) (frames : List Float) (s t r count : ℕ) (was now : List Float)
+    (L : Led 1 r (detour (boxes_in k frames) (occupied (counts_in k stations)) gap s t (path_in 1 count was)) was now) where
+  pub led_round : path_in 1 r now ≡ detour (boxes_in k frames) (occupied (counts_in k stations)) gap s t (path_in 1 count was)
+  led_round = L.path
+
+  pub led_more : r ≤ count + 4
+  led_more = led_short (boxes_in k frames) (occupied (counts_in k stations)) gap s t 1 r count was now L
 
 -- the runs of all branches that are no lines
 pub other_is : (H : RunLists) (e : ℕ) (K : Kind) → other_run H.sub H.measures H.buses H.ends H.blocks H.frames e K ≡ pick (is_line K) [] (run_in H e K)

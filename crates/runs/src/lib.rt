@@ -1,4 +1,5 @@
 // Runs of points and their pieces.
 #![tactic(auto)]
 
+pub mod laid;
 pub mod run;

@@ -4,12 +4,14 @@ ghost use Rattle.geometry.specs.Plane.{box_at};
 ghost use Rattle.network.specs.Words.{kind_of};
 ghost use Rattle.network.proofs.Views.{put_point};
 ghost use Rattle.detour.specs.Stages.Paths.{path_in, Led};
-ghost use Rattle.runs.specs.Stages.Views.{lead, block_of, bar_of, slot_of, exit_of, first_exit, second_exit, open_from, internal_from, led_in, led_run, other_run, HasRoom, Stands, Ran};
+ghost use Rattle.runs.specs.Stages.Views.{lead, block_of, bar_of, slot_of, exit_of, first_exit, second_exit, open_from, internal_from, led_in, led_run, other_run, HasRoom, Ran};
 
+use crate::laid::{Guide, Laid};
 use bars::{Bar, bar_for, exit_x, position, row_y};
 use detour::path::detour;
 use geometry::{Box, Point, number_at, point_at};
 use measures::Measures;
+use network::lists::Network;
 use network::words::{Kind, kind_of, station_of};
 use order::at;
 
@@ -27,6 +29,7 @@ pub fn box_at(list: &[f64], s: usize) -> Box
 }
 
 // The block of station s, unit × scale.
+// s, i and e of this file are counted over usize, and asked to be below 2^32 so that four of each can't overflow: a `u32` would be converted at each index.
 #[tactic(auto, unfolding(crate::specs::Stages::Views::block_of))]
 fn block_of(unit: f64, blocks: &[f64], s: usize) -> f64
     requires { s < 2 ^ 32 }
@@ -60,25 +63,17 @@ pub fn bar_of(
 
 // The row end of bus i of station s.
 #[tactic(auto, unfolding(crate::specs::Stages::Views::slot_of))]
-pub fn slot_of(
-    measures: Measures,
-    buses: &[u32],
-    blocks: &[f64],
-    frames: &[f64],
-    s: usize,
-    i: usize,
-    row: u32,
-) -> Point
+pub fn slot_of(laid: &Laid<'_>, frames: &[f64], s: usize, i: usize, row: u32) -> Point
     requires { (s < 2 ^ 32) × (i < 2 ^ 32) }
-    ensures { result ≡ slot_of measures buses.now blocks.now frames.now s i row }
+    ensures { result ≡ slot_of laid.now.measures laid.now.buses.now laid.now.blocks.now frames.now s i row }
 {
-    let bar = bar_of(measures, buses, blocks, frames, s, i);
+    let bar = bar_of(laid.measures, laid.buses, laid.blocks, frames, s, i);
     Point {
         x: bar.x,
         y: row_y(
-            measures.gaps,
+            laid.measures.gaps,
             box_at(frames, s),
-            block_of(measures.unit, blocks, s),
+            block_of(laid.measures.unit, laid.blocks, s),
             row,
         ),
     }
@@ -97,6 +92,7 @@ pub fn exit_of(places: &[f64], frames: &[f64], s: usize, t: usize, y: f64) -> Po
 }
 
 // The first exit of branch e: two points for each branch, behind n points of a list.
+// n isn't how long the list is: it counts the points before the exits.
 pub fn first_exit(n: usize, places: &[f64], e: usize) -> Point
     requires { (n ≤ 2 ^ 32) × (e < 2 ^ 32) }
     ensures { result ≡ first_exit n places.now e }
@@ -108,7 +104,7 @@ pub fn first_exit(n: usize, places: &[f64], e: usize) -> Point
     }
 }
 
-// The second exit of branch e.
+// The second exit of branch e, behind n points as above.
 pub fn second_exit(n: usize, places: &[f64], e: usize) -> Point
     requires { (n ≤ 2 ^ 32) × (e < 2 ^ 32) }
     ensures { result ≡ second_exit n places.now e }
@@ -143,19 +139,31 @@ fn put_two(path: &mut [f64], p: Point, q: Point) -> usize
 #[tactic(auto, unfolding(crate::specs::Stages::Views::open_from))]
 fn run_open(
     sub: &[u32],
-    measures: Measures,
-    buses: &[u32],
-    blocks: &[f64],
+    laid: &Laid<'_>,
     frames: &[f64],
     a: usize,
     b: usize,
     path: &mut [f64],
 ) -> usize
     requires { (a < 2 ^ 32) × (b < 2 ^ 32) × (8 ≤ length path.old) }
-    ensures { Ran result path.new (open_from sub.now measures buses.now blocks.now frames.now a b) }
+    ensures { Ran result path.new (open_from sub.now laid.now.measures laid.now.buses.now laid.now.blocks.now frames.now a b) }
 {
-    let p = bar_of(measures, buses, blocks, frames, station_of(sub, a), a);
-    let q = bar_of(measures, buses, blocks, frames, station_of(sub, b), b);
+    let p = bar_of(
+        laid.measures,
+        laid.buses,
+        laid.blocks,
+        frames,
+        station_of(sub, a),
+        a,
+    );
+    let q = bar_of(
+        laid.measures,
+        laid.buses,
+        laid.blocks,
+        frames,
+        station_of(sub, b),
+        b,
+    );
     put_two(path, position(p), position(q))
 }
 
@@ -163,9 +171,7 @@ fn run_open(
 #[tactic(auto, unfolding(crate::specs::Stages::Views::internal_from))]
 fn run_internal(
     sub: &[u32],
-    measures: Measures,
-    buses: &[u32],
-    blocks: &[f64],
+    laid: &Laid<'_>,
     frames: &[f64],
     a: usize,
     b: usize,
@@ -174,14 +180,15 @@ fn run_internal(
     path: &mut [f64],
 ) -> usize
     requires { (a < 2 ^ 32) × (b < 2 ^ 32) × (8 ≤ length path.old) }
-    ensures { Ran result path.new (internal_from sub.now measures buses.now blocks.now frames.now a b ra rb) }
+    ensures { Ran result path.new (internal_from sub.now laid.now.measures laid.now.buses.now laid.now.blocks.now frames.now a b ra rb) }
 {
-    let p = slot_of(measures, buses, blocks, frames, station_of(sub, a), a, ra);
-    let q = slot_of(measures, buses, blocks, frames, station_of(sub, b), b, rb);
+    let p = slot_of(laid, frames, station_of(sub, a), a, ra);
+    let q = slot_of(laid, frames, station_of(sub, b), b, rb);
     put_two(path, p, q)
 }
 
 // Copies n points of a list, from point w on, to another, from point i on.
+// `ways` may hold fewer: points past its end are read as NaN, so there is no slice of n points to hand on.
 fn copy_points(ways: &[f64], w: usize, n: usize, path: &mut [f64], i: usize)
     requires { (2 * (i + n) ≤ length path.old) × (i + n < 2 ^ 32) × (w + n < 2 ^ 32) }
     ensures { Led i n (path_in w n ways.now) path.old path.new }
@@ -192,6 +199,7 @@ fn copy_points(ways: &[f64], w: usize, n: usize, path: &mut [f64], i: usize)
 }
 
 // Puts a path behind the first point of a list: a, the n points of `ways` from point w on, b.
+// n stays a number for the reason above.
 fn put_middle(path: &mut [f64], a: Point, ways: &[f64], w: usize, n: usize, b: Point)
     requires { (HasRoom n path.old) × (w + n < 2 ^ 31) }
     ensures { path_in 1 (n + 2) path.new ≡ a ∷ (path_in w n ways.now ++ (b ∷ [])) }
@@ -202,31 +210,21 @@ fn put_middle(path: &mut [f64], a: Point, ways: &[f64], w: usize, n: usize, b: P
 }
 
 // Leads the path of `count` points behind the first point of a list round boxes, where there are iterations, and answers how many points it has then.
-#[tactic(auto, unfolding(crate::specs::Stages::Views::led_in))]
-fn lead(
-    led: bool,
-    gap: f64,
-    k: usize,
-    stations: &[u32],
-    frames: &[f64],
-    index: &[u32],
-    s: usize,
-    t: usize,
-    path: &mut [f64],
-    count: usize,
-) -> usize
-    requires stands { Stands k stations.now frames.now index.now }
+// The path grows in its list, so a slice of its `count` points would leave no room for more.
+#[tactic(auto, unfolding(crate::specs::Stages::Views::led_in), using(crate::proofs::Paths::led_round, crate::proofs::Paths::led_more))]
+fn lead(guide: &Guide<'_>, s: usize, t: usize, path: &mut [f64], count: usize) -> usize
     requires count_in_bounds { 2 * (count + 5) ≤ length path.old }
-    ensures path_after { path_in 1 result path.new ≡ led_in led gap k stations.now frames.now s t (path_in 1 count path.old) }
+    ensures path_after { path_in 1 result path.new ≡ led_in guide.now.led guide.now.gap guide.now.index.placed.k guide.now.index.placed.stations.now guide.now.index.placed.frames.now s t (path_in 1 count path.old) }
     ensures upper_bound { result ≤ count + 4 }
 {
-    if led {
-        return detour(gap, k, stations, frames, index, s, t, path, 1, count);
+    if guide.led {
+        return detour(guide.gap, &guide.index, s, t, path, 1, count);
     }
     count
 }
 
 // Puts p before and q behind the path of r points behind the first point of a list, and answers how many points that makes.
+// The path grows in its list here too.
 fn put_ends(path: &mut [f64], p: Point, q: Point, r: usize) -> usize
     requires { (2 * (r + 2) ≤ length path.old) × (r + 2 < 2 ^ 32) }
     ensures { Ran result path.new (p ∷ (path_in 1 r path.old ++ (q ∷ []))) }
@@ -236,16 +234,11 @@ fn put_ends(path: &mut [f64], p: Point, q: Point, r: usize) -> usize
     r + 2
 }
 
-// The run of a line from station s to station t between the slots p and q, whose exits are x and y, by n waypoints, the first of them w. `index` enters boxes, or none.
+// The run of a line from station s to station t between the slots p and q, whose exits are x and y, by n waypoints, the first of them w.
+// n stays a number as in `copy_points`.
 #[tactic(auto, unfolding(crate::specs::Stages::Views::led_run))]
 pub fn run_line(
-    led: bool,
-    gap: f64,
-    k: usize,
-    stations: &[u32],
-    frames: &[f64],
-    index: &[u32],
-    ways: &[f64],
+    guide: &Guide<'_>,
     s: usize,
     t: usize,
     p: Point,
@@ -257,39 +250,25 @@ pub fn run_line(
     path: &mut [f64],
 ) -> usize
     requires has_room { (HasRoom n path.old) × (w + n < 2 ^ 31) }
-    requires stands { Stands k stations.now frames.now index.now }
-    ensures { Ran result path.new (led_run (lead led gap k stations.now ways.now) frames.now s t p q x y w n) }
+    ensures { Ran result path.new (led_run (lead guide.now.led guide.now.gap guide.now.index.placed.k guide.now.index.placed.stations.now guide.now.ways.now) guide.now.index.placed.frames.now s t p q x y w n) }
 {
-    put_middle(path, x, ways, w, n, y);
-    let r = lead(led, gap, k, stations, frames, index, s, t, path, n + 2);
+    put_middle(path, x, guide.ways, w, n, y);
+    let r = lead(guide, s, t, path, n + 2);
     put_ends(path, p, q, r)
 }
 
 // Puts the run of branch e at the front of path, and answers how many points it has: none where the branch is a line.
+// Lists that are written are no struct: behind `&mut` others could stand in it, so each contract would have to say that it keeps them and their lengths.
 #[tactic(auto, unfolding(crate::specs::Stages::Views::other_run, network::specs::Words::Safe, network::specs::Views::points_in, order::specs::Table::table_from))]
-pub fn run(
-    sub: &[u32],
-    from: &[i64],
-    to: &[i64],
-    service: &[u8],
-    measures: Measures,
-    buses: &[u32],
-    ends: &[u32],
-    blocks: &[f64],
-    frames: &[f64],
-    e: usize,
-    path: &mut [f64],
-) -> usize
-    requires { (e < 2 ^ 32) × (length sub.now ≤ 2 ^ 32) × (8 ≤ length path.old) }
-    ensures { Ran result path.new (other_run sub.now measures buses.now ends.now blocks.now frames.now e (kind_of sub.now from.now to.now service.now e)) }
+pub fn run(net: &Network<'_>, laid: &Laid<'_>, frames: &[f64], e: usize, path: &mut [f64]) -> usize
+    requires { (e < 2 ^ 32) × (length net.now.sub.now ≤ 2 ^ 32) × (8 ≤ length path.old) }
+    ensures { Ran result path.new (other_run net.now.sub.now laid.now.measures laid.now.buses.now laid.now.ends.now laid.now.blocks.now frames.now e (kind_of net.now.sub.now net.now.from.now net.now.to.now net.now.service.now e)) }
 {
-    let ra = at(ends, 4 * e);
-    let rb = at(ends, 4 * e + 1);
-    match kind_of(sub, from, to, service, e) {
+    let ra = at(laid.ends, 4 * e);
+    let rb = at(laid.ends, 4 * e + 1);
+    match kind_of(net, e) {
         Kind::Undrawn | Kind::Line(_, _) => 0,
-        Kind::Open(a, b) => run_open(sub, measures, buses, blocks, frames, a, b, path),
-        Kind::Internal(a, b) => run_internal(
-            sub, measures, buses, blocks, frames, a, b, ra, rb, path,
-        ),
+        Kind::Open(a, b) => run_open(net.sub, laid, frames, a, b, path),
+        Kind::Internal(a, b) => run_internal(net.sub, laid, frames, a, b, ra, rb, path),
     }
 }

@@ -7,6 +7,9 @@ ghost use Rattle.network.specs.Views.{counts_in};
 ghost use Rattle.scales.specs.Scale.{tier, scales_of};
 ghost use Rattle.sizes.specs.Stages.Views.{sizes_in, scales_in};
 
+use neighbours::neighbour_counts;
+use neighbours::points::Points;
+use network::lists::Stations;
 use options::Options;
 
 // The scale of a station with so many neighbours. The second tier is tested first.
@@ -22,27 +25,26 @@ fn tier(o: Options, count: usize) -> f64
     1.0
 }
 
-// The scales of the first k stations by the spacing; path has the points of the n that are occupied. The other lists are work lists.
+// The scales of the stations by the spacing and the points of the occupied ones. The other lists are work lists.
+// Lists that are written are no struct: behind `&mut` others could stand in it, so each contract would have to say that it keeps them and their lengths.
 pub fn scales(
     o: Options,
-    k: usize,
-    n: usize,
+    stations: &Stations<'_>,
+    points: &Points<'_>,
     spacing: f64,
-    stations: &[u32],
-    path: &[f64],
     blocks: &mut [f64],
     keys: &mut [u64],
     sorted: &mut [u32],
     spare: &mut [u32],
 )
-    requires { (n ≡ length (occupied (counts_in k stations.now))) × (2 * k ≤ length stations.now) × (2 * n ≤ length path.now) × (3 * k ≤ length blocks.old) × (n < 2 ^ 32) × (n ≤ length keys.old) × (n ≤ length sorted.old) × (n ≤ length spare.old) }
-    ensures blocks_after { scales_in k blocks.new ≡ scales_of o path.now n spacing (counts_in k stations.now) }
-    ensures blocks_unchanged { sizes_in k blocks.new ≡ sizes_in k blocks.old }
+    requires { (points.now.n ≡ length (occupied (counts_in stations.now.k stations.now.counts.now))) × (3 * stations.now.k ≤ length blocks.old) × (points.now.n < 2 ^ 32) × (points.now.n ≤ length keys.old) × (points.now.n ≤ length sorted.old) × (points.now.n ≤ length spare.old) }
+    ensures blocks_after { scales_in stations.now.k blocks.new ≡ scales_of o points.now.xy.now points.now.n spacing (counts_in stations.now.k stations.now.counts.now) }
+    ensures blocks_unchanged { sizes_in stations.now.k blocks.new ≡ sizes_in stations.now.k blocks.old }
 {
-    neighbours::neighbour_counts(path, n, o.tier_radius * spacing, spare, keys, sorted);
+    neighbour_counts(points, o.tier_radius * spacing, spare, keys, sorted);
     let mut j = 0;
-    for s in 0..k {
-        if stations[2 * s] > 0 {
+    for s in 0..stations.k {
+        if stations.counts[2 * s] > 0 {
             blocks[3 * s + 2] = tier(o, spare[j] as usize);
             j += 1;
         } else {

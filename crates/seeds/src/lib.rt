@@ -10,6 +10,7 @@ ghost use Rattle.seeds.specs.Seed.{bus_point, sum_to, mean, seeds};
 
 use float::small::is_finite;
 use geometry::{Point, point_at};
+use network::lists::Stations;
 use network::words::station_of;
 
 // The point of bus i: (0, 0) where a coordinate is absent or not finite.
@@ -45,6 +46,7 @@ fn clear_points(k: usize, places: &mut [f64])
 }
 
 // Adds each bus point to its station's.
+// Lists that are written are no struct: behind `&mut` others could stand in it, so each contract would have to say that it keeps them and their lengths.
 fn add_points(sub: &[u32], xy: &[f64], k: usize, places: &mut [f64])
     requires { (k ≡ station_count sub.now) × (length sub.now ≤ 4096) × (k ≤ 4096) × (2 * k ≤ length places.old) × (points_in k places.old ≡ table (λ s. origin) k) }
     ensures { points_in k places.new ≡ table (λ s. sum_to sub.now xy.now s (length sub.now)) k }
@@ -78,22 +80,23 @@ fn mean_of(c: u32, p: Point) -> Point
 }
 
 // Divides each station's sum by its count.
-fn take_means(k: usize, stations: &[u32], places: &mut [f64])
-    requires { (k ≤ 4096) × (2 * k ≤ length stations.now) × (2 * k ≤ length places.old) }
-    ensures { points_in k places.new ≡ table (λ s. mean (get_or stations.now (2 * s) 0) (point_at places.old s)) k }
+fn take_means(stations: &Stations<'_>, places: &mut [f64])
+    requires { (stations.now.k ≤ 4096) × (2 * stations.now.k ≤ length places.old) }
+    ensures { points_in stations.now.k places.new ≡ table (λ s. mean (get_or stations.now.counts.now (2 * s) 0) (point_at places.old s)) stations.now.k }
 {
-    for s in 0..k {
-        let p = mean_of(stations[2 * s], point_at(places, s));
+    for s in 0..stations.k {
+        let p = mean_of(stations.counts[2 * s], point_at(places, s));
         put_point(places, s, p);
     }
 }
 
 // The seeds of all stations.
-pub fn seeds(sub: &[u32], xy: &[f64], k: usize, stations: &[u32], places: &mut [f64])
-    requires { (k ≡ station_count sub.now) × (length sub.now ≤ 4096) × (k ≤ 4096) × (2 * k ≤ length stations.now) × (2 * k ≤ length places.old) × (counts_in k stations.now ≡ bus_counts sub.now) }
-    ensures { points_in k places.new ≡ seeds sub.now xy.now }
+// `Bounded` would ask for few branches too, and for the other lists, which an audit doesn't have.
+pub fn seeds(sub: &[u32], xy: &[f64], stations: &Stations<'_>, places: &mut [f64])
+    requires { (stations.now.k ≡ station_count sub.now) × (length sub.now ≤ 4096) × (stations.now.k ≤ 4096) × (2 * stations.now.k ≤ length places.old) × (counts_in stations.now.k stations.now.counts.now ≡ bus_counts sub.now) }
+    ensures { points_in stations.now.k places.new ≡ seeds sub.now xy.now }
 {
-    clear_points(k, places);
-    add_points(sub, xy, k, places);
-    take_means(k, stations, places);
+    clear_points(stations.k, places);
+    add_points(sub, xy, stations.k, places);
+    take_means(stations, places);
 }

@@ -9,6 +9,7 @@ ghost use Rattle.sized.specs.Sized.{larger_side, largest, sized, sized_box, all_
 
 use float::small::{abs, max};
 use geometry::{Box, box_at};
+use network::lists::Placed;
 
 // The largest of l and a box's two sides.
 fn larger_side(l: f64, b: Box) -> f64
@@ -18,14 +19,13 @@ fn larger_side(l: f64, b: Box) -> f64
 }
 
 // The largest side of the occupied stations' boxes.
-pub fn largest(k: usize, stations: &[u32], frames: &[f64]) -> f64
-    requires { (2 * k ≤ length stations.now) × (4 * k ≤ length frames.now) }
-    ensures { result ≡ largest (boxes_in k frames.now) f0 (occupied (counts_in k stations.now)) }
+pub fn largest(placed: &Placed<'_>) -> f64
+    ensures { result ≡ largest (boxes_in placed.now.k placed.now.frames.now) f0 (occupied (counts_in placed.now.k placed.now.stations.now)) }
 {
     let mut l = 0.0;
-    for s in 0..k {
-        if 0 < stations[2 * s] {
-            l = larger_side(l, box_at(frames, s));
+    for s in 0..placed.k {
+        if 0 < placed.stations[2 * s] {
+            l = larger_side(l, box_at(placed.frames, s));
         }
     }
     l
@@ -38,27 +38,21 @@ pub fn sized(l: f64, c: f64) -> bool
     abs(c / l) <= 1099511627776.0
 }
 
+// Whether a box's corners are.
+#[tactic(auto, unfolding(crate::specs::Sized::sized_box))]
 fn sized_box(l: f64, b: Box) -> bool
     ensures { result ≡ sized_box l b }
 {
-    if sized(l, b.left) {
-        if sized(l, b.top) {
-            if sized(l, b.right) {
-                return sized(l, b.bottom);
-            }
-        }
-    }
-    false
+    sized(l, b.left) && sized(l, b.top) && sized(l, b.right) && sized(l, b.bottom)
 }
 
 // Whether all occupied stations' corners are.
-fn all_sized(k: usize, l: f64, stations: &[u32], frames: &[f64]) -> bool
-    requires { (2 * k ≤ length stations.now) × (4 * k ≤ length frames.now) }
-    ensures { result ≡ all_sized (boxes_in k frames.now) l (occupied (counts_in k stations.now)) }
+fn all_sized(placed: &Placed<'_>, l: f64) -> bool
+    ensures { result ≡ all_sized (boxes_in placed.now.k placed.now.frames.now) l (occupied (counts_in placed.now.k placed.now.stations.now)) }
 {
-    for s in 0..k {
-        if 0 < stations[2 * s] {
-            if !sized_box(l, box_at(frames, s)) {
+    for s in 0..placed.k {
+        if 0 < placed.stations[2 * s] {
+            if !sized_box(l, box_at(placed.frames, s)) {
                 return false;
             }
         }
@@ -80,16 +74,15 @@ pub fn any_occupied(k: usize, stations: &[u32]) -> bool
 }
 
 // Refusal 8, by the stations' bus counts and boxes.
-pub fn ill_sized(k: usize, stations: &[u32], frames: &[f64]) -> bool
-    requires { (2 * k ≤ length stations.now) × (4 * k ≤ length frames.now) }
-    ensures { result ≡ ill_sized (boxes_in k frames.now) (occupied (counts_in k stations.now)) }
+pub fn ill_sized(placed: &Placed<'_>) -> bool
+    ensures { result ≡ ill_sized (boxes_in placed.now.k placed.now.frames.now) (occupied (counts_in placed.now.k placed.now.stations.now)) }
 {
-    if any_occupied(k, stations) {
-        let l = largest(k, stations, frames);
+    if any_occupied(placed.k, placed.stations) {
+        let l = largest(placed);
         if l == 0.0 {
             return true;
         }
-        return !all_sized(k, l, stations, frames);
+        return !all_sized(placed, l);
     }
     false
 }

@@ -9,6 +9,7 @@ use options::Options;
 use refusals::Refusal;
 
 // Draws a network of at most 64 buses and 64 branches, with so many numbers for stations and so many crossings.
+// The lists stand as the public call takes them.
 pub fn draw_small(
     positions: &mut [f64],
     bars: &mut [f64],

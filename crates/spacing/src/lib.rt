@@ -54,8 +54,7 @@ fn gather(keys: &[u64], order: &[u32], wish: &mut [f64])
 
 // Whether wishes numbered 0 to `last` do not fit.
 #[tactic(auto, unfolding(crate::specs::Space::crowded))]
-fn crowded(c: Channel, last: usize) -> bool
-    requires { last ≤ 2 ^ 32 }
+fn crowded(c: Channel, last: u32) -> bool
     ensures { result ≡ crowded c last }
 {
     (last as f64) * c.gap > c.hi - c.lo
@@ -63,8 +62,7 @@ fn crowded(c: Channel, last: usize) -> bool
 
 // Spread evenly: the place of number i of those to `last`.
 #[tactic(auto, unfolding(crate::specs::Space::even_at))]
-fn even_at(c: Channel, last: usize, i: usize) -> f64
-    requires { (last ≤ 2 ^ 32) × (i ≤ 2 ^ 32) }
+fn even_at(c: Channel, last: u32, i: u32) -> f64
     ensures { result ≡ even_at c last i }
 {
     if last == 0 {
@@ -73,12 +71,12 @@ fn even_at(c: Channel, last: usize, i: usize) -> f64
     c.lo + (c.hi - c.lo) * (i as f64) / (last as f64)
 }
 
-fn spread(c: Channel, last: usize, list: &mut [f64])
-    requires { (length list.old ≡ last + 1) × (last ≤ 2 ^ 32) }
+fn spread(c: Channel, last: u32, list: &mut [f64])
+    requires { length list.old ≡ last + 1 }
     ensures { list.new ≡ map (even_at c last) (up_from 0 (last + 1)) }
 {
     for (i, place) in list.iter_mut().enumerate() {
-        *place = even_at(c, last, i);
+        *place = even_at(c, last, i as u32);
     }
 }
 
@@ -124,8 +122,9 @@ fn place(c: Channel, list: &mut [f64])
     if n == 0 {
         return;
     }
-    if crowded(c, n - 1) {
-        spread(c, n - 1, list);
+    let last = (n - 1) as u32;
+    if crowded(c, last) {
+        spread(c, last, list);
     } else {
         forward_pass(c, list);
         backward_pass(c, list);
@@ -147,7 +146,7 @@ fn space_all(c: Channel, wish: &mut [f64], keys: &mut [u64], order: &mut [u32], 
     place(c, wish);
 }
 
-// The first n wishes become their places on the channel, in the order of the wishes; `order` begins with the wishes' numbers in that order. The other lists are lent for the work, and what each holds past n stays.
+// The first n wishes become their places on the channel, in the order of the wishes; `order` begins with the wishes' numbers in that order. The other lists are lent for the work, and what each holds past n stays. n stands beside four lists: as slices of n, each caller would cut four lists and say itself what stays past n.
 pub fn space_sorted(
     c: Channel,
     n: usize,

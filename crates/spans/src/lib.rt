@@ -8,6 +8,7 @@ ghost use Rattle.network.specs.Views.{columns_in, from_rows_in, to_rows_in};
 ghost use Rattle.bars.specs.Bar.{bare, include_end, include_branch, spans};
 ghost use Rattle.spans.specs.Stages.Span.{spans_in, first_with, Included};
 
+use network::lists::{Bounded, Network};
 use network::words::{Kind, kind_of};
 use order::at;
 
@@ -51,21 +52,14 @@ fn include_ends(buses: &mut [u32], a: usize, b: usize, ra: u32, rb: u32)
 }
 
 // The rows of all buses with those of branch e.
-fn include_branch(
-    sub: &[u32],
-    from: &[i64],
-    to: &[i64],
-    service: &[u8],
-    ends: &[u32],
-    e: usize,
-    buses: &mut [u32],
-)
-    requires { (e < 2 ^ 32) × (3 * length sub.now ≤ length buses.old) × (get_or ends.now (4 * e) 0 < 2 ^ 32 - 1) × (get_or ends.now (4 * e + 1) 0 < 2 ^ 32 - 1) }
-    ensures { Included (λ i. include_branch i (get_or ends.now (4 * e) 0) (get_or ends.now (4 * e + 1) 0) (kind_of sub.now from.now to.now service.now e)) buses.old buses.new }
+// That the rows of a branch's ends are below 2^32 - 1 is a fact of `ends` that `rows` ensures: the three functions here hand it down, from all branches to one.
+fn include_branch(net: &Network<'_>, ends: &[u32], e: usize, buses: &mut [u32])
+    requires { (e < 2 ^ 32) × (3 * length net.now.sub.now ≤ length buses.old) × (get_or ends.now (4 * e) 0 < 2 ^ 32 - 1) × (get_or ends.now (4 * e + 1) 0 < 2 ^ 32 - 1) }
+    ensures { Included (λ i. include_branch i (get_or ends.now (4 * e) 0) (get_or ends.now (4 * e + 1) 0) (kind_of net.now.sub.now net.now.from.now net.now.to.now net.now.service.now e)) buses.old buses.new }
 {
     let ra = at(ends, 4 * e);
     let rb = at(ends, 4 * e + 1);
-    match kind_of(sub, from, to, service, e) {
+    match kind_of(net, e) {
         Kind::Undrawn => {},
         Kind::Open(_, _) => {},
         Kind::Internal(a, b) => include_ends(buses, a, b, ra, rb),
@@ -74,6 +68,7 @@ fn include_branch(
 }
 
 // No rows for n buses.
+// n isn't how long the list is: each bus has three numbers in it, and it may hold more.
 fn clear_rows(n: usize, buses: &mut [u32])
     requires { 3 * n ≤ length buses.old }
     ensures buses_after { spans_in n buses.new ≡ table (λ i. bare) n }
@@ -85,29 +80,23 @@ fn clear_rows(n: usize, buses: &mut [u32])
 }
 
 // The rows of all buses, which had none, with those of every branch.
-fn include_all(
-    sub: &[u32],
-    from: &[i64],
-    to: &[i64],
-    service: &[u8],
-    ends: &[u32],
-    buses: &mut [u32],
-)
-    requires { (length from.now ≤ 8192) × (3 * length sub.now ≤ length buses.old) × ((e : ℕ) → e < length from.now → (get_or ends.now (4 * e) 0 < 2 ^ 32 - 1) × (get_or ends.now (4 * e + 1) 0 < 2 ^ 32 - 1)) × (spans_in (length sub.now) buses.old ≡ table (λ i. bare) (length sub.now)) }
-    ensures buses_after { spans_in (length sub.now) buses.new ≡ spans sub.now (kinds sub.now from.now to.now service.now) (from_rows_in (length from.now) ends.now) (to_rows_in (length from.now) ends.now) }
-    ensures buses_unchanged { columns_in (length sub.now) buses.new ≡ columns_in (length sub.now) buses.old }
+fn include_all(net: &Network<'_>, ends: &[u32], buses: &mut [u32])
+    requires { (length net.now.from.now ≤ 8192) × (3 * length net.now.sub.now ≤ length buses.old) × ((e : ℕ) → e < length net.now.from.now → (get_or ends.now (4 * e) 0 < 2 ^ 32 - 1) × (get_or ends.now (4 * e + 1) 0 < 2 ^ 32 - 1)) × (spans_in (length net.now.sub.now) buses.old ≡ table (λ i. bare) (length net.now.sub.now)) }
+    ensures buses_after { spans_in (length net.now.sub.now) buses.new ≡ spans net.now.sub.now (kinds net.now.sub.now net.now.from.now net.now.to.now net.now.service.now) (from_rows_in (length net.now.from.now) ends.now) (to_rows_in (length net.now.from.now) ends.now) }
+    ensures buses_unchanged { columns_in (length net.now.sub.now) buses.new ≡ columns_in (length net.now.sub.now) buses.old }
 {
-    for e in 0..from.len() {
-        include_branch(sub, from, to, service, ends, e, buses);
+    for e in 0..net.from.len() {
+        include_branch(net, ends, e, buses);
     }
 }
 
 // The first row of each bus, and one more than its last, 0 where it has none.
-pub fn spans(sub: &[u32], from: &[i64], to: &[i64], service: &[u8], ends: &[u32], buses: &mut [u32])
-    requires { (length sub.now ≤ 4096) × (length from.now ≤ 8192) × (3 * length sub.now ≤ length buses.old) × ((e : ℕ) → e < length from.now → (get_or ends.now (4 * e) 0 < 2 ^ 32 - 1) × (get_or ends.now (4 * e + 1) 0 < 2 ^ 32 - 1)) }
-    ensures buses_after { spans_in (length sub.now) buses.new ≡ spans sub.now (kinds sub.now from.now to.now service.now) (from_rows_in (length from.now) ends.now) (to_rows_in (length from.now) ends.now) }
-    ensures buses_unchanged { columns_in (length sub.now) buses.new ≡ columns_in (length sub.now) buses.old }
+// Lists that are written are no struct: behind `&mut` others could stand in it, so each contract would have to say that it keeps them and their lengths.
+pub fn spans(net: &Bounded<'_>, ends: &[u32], buses: &mut [u32])
+    requires { (3 * length net.now.lists.sub.now ≤ length buses.old) × ((e : ℕ) → e < length net.now.lists.from.now → (get_or ends.now (4 * e) 0 < 2 ^ 32 - 1) × (get_or ends.now (4 * e + 1) 0 < 2 ^ 32 - 1)) }
+    ensures buses_after { spans_in (length net.now.lists.sub.now) buses.new ≡ spans net.now.lists.sub.now (kinds net.now.lists.sub.now net.now.lists.from.now net.now.lists.to.now net.now.lists.service.now) (from_rows_in (length net.now.lists.from.now) ends.now) (to_rows_in (length net.now.lists.from.now) ends.now) }
+    ensures buses_unchanged { columns_in (length net.now.lists.sub.now) buses.new ≡ columns_in (length net.now.lists.sub.now) buses.old }
 {
-    clear_rows(sub.len(), buses);
-    include_all(sub, from, to, service, ends, buses);
+    clear_rows(net.lists.sub.len(), buses);
+    include_all(&net.lists, ends, buses);
 }

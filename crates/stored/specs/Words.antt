@@ -1,5 +1,5 @@
 -- The words of a stored line: numbers in hexadecimal digits, with one space between them. Definitions only.
-use Rattle.std.specs.Prelude.{ℕ, ◌-◌, ◌%◌, ◌^◌, ◌==◌, nat_lt, List, map, if◌then◌else◌}
+use Rattle.std.specs.Prelude.{ℕ, ◌-◌, ◌%◌, ◌^◌, ◌==◌, nat_lt, List, ◌++◌, length, map, replicate, take, if◌then◌else◌}
 use Rattle.std.specs.List.{slice_split}
 use Rattle.std.specs.Int.Digits.{number_from_digits}
 
@@ -10,6 +10,10 @@ digit b = if nat_lt b 48 then 0 else (if nat_lt b 58 then b - 48 else (if nat_lt
 -- the number that digits stand for, of more than sixteen the last sixteen
 unfoldable pub number : List ℕ → ℕ
 number ds = number_from_digits 16 (map digit ds) % 2 ^ 64
+
+-- the number of the first sixteen digits, with a `0` behind them for each that is missing
+unfoldable pub padded : List ℕ → ℕ
+padded ds = number (take 16 ds ++ replicate (16 - length ds) 48)
 
 -- the numbers between a text's spaces
 unfoldable pub words : List ℕ → List ℕ

@@ -3,7 +3,7 @@
 
 ghost use Rattle.std.specs.Prelude.{◌≡◌, ◌++◌, min, length, take, drop, get_or, from_bits};
 ghost use Rattle.std.specs.Float.{binary64};
-ghost use Rattle.stored.specs.Words.{digit as digit_of, number as number_of, words as words_of};
+ghost use Rattle.stored.specs.Words.{digit as digit_of, number as number_of, padded as padded_of, words as words_of};
 
 // What a digit stands for, 0 for any other byte.
 fn digit(b: u8) -> u64
@@ -23,6 +23,16 @@ fn number(digits: &[u8]) -> u64
     digits
         .iter()
         .fold(0u64, |v, b| v.wrapping_mul(16).wrapping_add(digit(*b)))
+}
+
+// The number of the first sixteen digits, with a 0 behind them for each that is missing.
+pub fn padded(digits: &[u8]) -> u64
+    ensures { result ≡ padded_of digits.now }
+{
+    let mut all = [b'0'; 16];
+    let n = digits.len().min(16);
+    all[..n].copy_from_slice(&digits[..n]);
+    number(&all)
 }
 
 // Writes a text's words over the front of a list, as many as it holds; how many.

@@ -5,42 +5,16 @@ use mathlib.Core.List.{List, [], ◌∷◌, ◌++◌, append-nil}
 use Prim.Native.Nat.{ℕ, suc, ◌+◌, ◌≤◌, ◌<◌}
 use native.Mathlib.Omega.{arith}
 use native.Mathlib.Numerals.{add-one}
-use lib.ListN.{length, get_or, set, drop, drop_of_length-le}
+use lib.ListN.{length, get_or, drop, drop_of_length-le}
 use lib.Seq.{sets, drop-cons}
-use lib.Ieee.{Float, lt}
-use Rattle.float.specs.Ops.{f0, f1, ◌⊘◌}
-use Rattle.proximity.specs.Near.{distance}
+use lib.Ieee.{Float}
 use borrow.Author.Tests.{eq-eqb, ne_eqb}
 use Rattle.order.specs.Order.{pick}
 use Rattle.stretches.specs.declared.relative.Stretch.{Stretch}
 use Rattle.fit.specs.Fit.{is_line}
 use Rattle.stretches.specs.Relative.{longer, begun, ratio, ended, relative_on, relatives}
 use Rattle.order.specs.Over.{over}
-use Rattle.figures.proofs.Front.{Front, front_start, front_more, front_end, front_size}
-
-pub ratio_long : (t : Stretch) (d : Float) → d ≡ distance t.start t.end → lt f0 d ≡ true → t.drawn ⊘ d ≡ ratio t
-unfolding ratio
-ratio_long t d e h = ap (λ (x : Bool). pick x (t.drawn ⊘ d) f1) (sym h) ∙ ap (λ (x : Float). pick (lt f0 x) (t.drawn ⊘ x) f1) e
-
-pub ratio_none : (t : Stretch) (d : Float) → d ≡ distance t.start t.end → lt f0 d ≡ false → f1 ≡ ratio t
-unfolding ratio
-ratio_none t d e h = ap (λ (x : Bool). pick x (t.drawn ⊘ d) f1) (sym h) ∙ ap (λ (x : Float). pick (lt f0 x) (t.drawn ⊘ x) f1) e
-
-module _ (roles : List ℕ) (t : Stretch) (b : Bool) (e : b ≡ is_line roles t.branch) where
-  pub ended_line : (v : Float) → v ≡ ratio t → b ≡ true → ended roles t ≡ v ∷ []
-  unfolding ended
-  ended_line v q h = ap (λ (x : Bool). pick x (ratio t ∷ []) []) (sym e ∙ h) ∙ ap (λ (x : Float). x ∷ []) (sym q)
-
-  pub ended_other : b ≡ false → ended roles t ≡ []
-  unfolding ended
-  ended_other h = ap (λ (x : Bool). pick x (ratio t ∷ []) []) (sym e ∙ h)
-
-  -- what is stored of it behind the first c
-  pub put_line : (l : List Float) (c : ℕ) (v : Float) → v ≡ ratio t → b ≡ true → (set l c v ≡ sets l c (ended roles t)) × (c + 1 ≡ c + length (ended roles t))
-  put_line l c v q h = (ap (sets l c) (sym (ended_line v q h)), ap (λ (x : List Float). c + length x) (sym (ended_line v q h)))
-
-  pub put_other : (l : List Float) (c : ℕ) → b ≡ false → (l ≡ sets l c (ended roles t)) × (c ≡ c + length (ended roles t))
-  put_other l c h = (ap (sets l c) (sym (ended_other h)), omega (arith, ap length (ended_other h)))
+use Rattle.figures.proofs.Front.{Front, front_more, front_end, front_size}
 
 pub ended_short : (roles : List ℕ) (t : Stretch) → length (ended roles t) ≤ 1
 unfolding ended
@@ -81,22 +55,6 @@ module _ (roles : List ℕ) (pieces : List Float) (branches : List ℕ) where
   unfolding relative_on
   left_end t j h = ap (relative_on roles pieces t j) (drop_of_length-le branches h) ∙ sym (append-nil (ended roles t))
 
-  pub left_start : (t : Stretch) (f : ℕ) → (length branches ≡ 0 → ⊥) → f ≡ get_or branches 0 0 → t ≡ begun pieces f 0 → left t 1 ≡ relatives roles pieces branches
-  unfolding relatives
-  left_start t f h e d = start branches h e d
-    where
-      start : (l : List ℕ) → (length l ≡ 0 → ⊥) → f ≡ get_or l 0 0 → t ≡ begun pieces f 0 → relative_on roles pieces t 1 (drop 1 l) ≡ relatives roles pieces l
-      start [] h e d = absurd (h refl)
-      start (x ∷ l) h e d = ap (λ (y : Stretch). relative_on roles pieces y 1 l) (d ∙ ap (λ (y : ℕ). begun pieces y 0) e)
-
-  relatives_none : length branches ≡ 0 → relatives roles pieces branches ≡ []
-  unfolding relatives
-  relatives_none h = none branches h
-    where
-      none : (l : List ℕ) → length l ≡ 0 → relatives roles pieces l ≡ []
-      none [] h = refl
-      none (x ∷ l) h = absurd (omega (arith, h))
-
   -- a stretch ends and the next begins
   pub left_next : (old l m : List Float) (t u : Stretch) (j f c d : ℕ) → j < length branches → c < length old → f ≡ get_or branches j 0 → (f ≡ t.branch → ⊥) → u ≡ begun pieces f j
       → m ≡ sets l c (ended roles t) → d ≡ c + length (ended roles t)
@@ -105,12 +63,6 @@ module _ (roles : List ℕ) (pieces : List Float) (branches : List ℕ) where
       front_more (relatives roles pieces branches) (left t j) (left u (j + 1)) old l m (ended roles t) c d (left_begun t u j f h e n b) (omega (arith, ended_short roles t)) q r w
 
   -- a drawing without pieces
-  pub left_none : (old : List Float) → length branches ≡ 0 → (old ≡ over (relatives roles pieces branches) old) × (0 ≡ length (relatives roles pieces branches))
-  left_none old h =
-      let all = relatives roles pieces branches in
-      let f : Front all all old old 0 = front_start all all old refl in
-      (front_end all all old old 0 (relatives_none h) f, front_size all all old old 0 (relatives_none h) f)
-
   -- the last stretch
   pub left_last : (old l m : List Float) (t : Stretch) (j c d : ℕ) → length branches ≤ j → c < length old → m ≡ sets l c (ended roles t) → d ≡ c + length (ended roles t)
       → Front (relatives roles pieces branches) (left t j) old l c → (m ≡ over (relatives roles pieces branches) old) × (d ≡ length (relatives roles pieces branches))

@@ -18,6 +18,8 @@ pub struct Stretch {
 }
 
 // Where piece j starts.
+// That piece j is in the list is asked by the four readers of one piece: a struct of the list and j would be made for each read.
+#[tactic(auto, unfolding(crate::specs::Relative::piece_start))]
 pub fn piece_start(pieces: &[f64], j: usize) -> Point
     requires { 4 * j + 3 < length pieces.now }
     ensures { result ≡ piece_start pieces.now j }
@@ -29,6 +31,7 @@ pub fn piece_start(pieces: &[f64], j: usize) -> Point
 }
 
 // Where it ends.
+#[tactic(auto, unfolding(crate::specs::Relative::piece_end))]
 pub fn piece_end(pieces: &[f64], j: usize) -> Point
     requires { 4 * j + 3 < length pieces.now }
     ensures { result ≡ piece_end pieces.now j }
@@ -40,6 +43,7 @@ pub fn piece_end(pieces: &[f64], j: usize) -> Point
 }
 
 // A stretch with piece j more.
+#[tactic(auto, unfolding(crate::specs::Relative::longer))]
 fn longer(pieces: &[f64], t: Stretch, j: usize) -> Stretch
     requires { 4 * j + 3 < length pieces.now }
     ensures { result ≡ longer pieces.now t j }
@@ -56,6 +60,7 @@ fn longer(pieces: &[f64], t: Stretch, j: usize) -> Stretch
 }
 
 // The stretch of branch e that piece j begins.
+#[tactic(auto, unfolding(crate::specs::Relative::begun))]
 fn begun(pieces: &[f64], e: usize, j: usize) -> Stretch
     requires { 4 * j + 3 < length pieces.now }
     ensures { result ≡ begun pieces.now e j }
@@ -74,6 +79,7 @@ fn begun(pieces: &[f64], e: usize, j: usize) -> Stretch
 }
 
 // Its length by the distance of its ends, 1 where they are one point.
+#[tactic(auto, unfolding(crate::specs::Relative::ratio))]
 fn ratio(t: Stretch) -> f64
     ensures { result ≡ ratio t }
 {
@@ -81,12 +87,14 @@ fn ratio(t: Stretch) -> f64
     let q = t.end;
     let straight = distance(p, q);
     if 0.0 < straight {
-        return t.drawn / straight;
+        t.drawn / straight
+    } else {
+        1.0
     }
-    1.0
 }
 
 // Writes a line's relative length behind the first c, and gives how many there are then.
+#[tactic(auto, unfolding(crate::specs::Relative::ended))]
 fn put_ended(roles: &[u8], t: Stretch, c: usize, relative: &mut [f64]) -> usize
     requires { c < length relative.old }
     ensures relative_after { relative.new ≡ sets relative.old c (ended roles.now t) }
@@ -94,12 +102,14 @@ fn put_ended(roles: &[u8], t: Stretch, c: usize, relative: &mut [f64]) -> usize
 {
     if is_line(roles, t.branch) {
         relative[c] = ratio(t);
-        return c + 1;
+        c + 1
+    } else {
+        c
     }
-    c
 }
 
 // The relative lengths in list order, and how many they are.
+#[tactic(auto, unfolding(order::specs::Over::over, crate::specs::Relative::relatives))]
 pub fn relative_lengths(
     roles: &[u8],
     pieces: &[f64],
@@ -110,7 +120,7 @@ pub fn relative_lengths(
     ensures relative_after { relative.new ≡ over (relatives roles.now pieces.now branches.now) relative.old }
     ensures value { result ≡ length (relatives roles.now pieces.now branches.now) }
 {
-    if branches.len() == 0 {
+    if branches.is_empty() {
         return 0;
     }
     let mut t = begun(pieces, branch_of(branches, 0), 0);

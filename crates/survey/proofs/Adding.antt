@@ -75,11 +75,6 @@ module _ (w : Bool) (F : ℕ → List Piece) (m at : ℕ) (n : List Float) (b : 
           sized1 = k ∙ I.sized1;
         }
 
-    pub go_end : m ≤ j → Passed w at s (joined F m) n n' b b'
-    go_end h =
-        let e : j ≡ m = omega (arith, I.within) in
-        passed_of I.passed (ap (joined F) e)
-
 -- ---- a run at the front of a list, of a branch e
 module _ {c : ℕ} {path : List Float} {points : List Point} (R : Ran c path points) (w : Bool) (e : ℕ) where
   pub ran_room : (at : ℕ) (n : List Float) (b : List ℕ) → RoomFor w at (pieces e points) n b → RoomFor w at (pieces e (points_in c path)) n b

@@ -4,7 +4,7 @@ use mathlib.Core.Path.{◌≡◌, refl, sym, ap, ◌∙◌}
 use mathlib.Core.Logic.{◌≢◌}
 use mathlib.Core.Bool.{Bool}
 use mathlib.Core.List.{List, []}
-use Prim.Native.Nat.{ℕ, ◌+◌, ◌^◌, ◌≤◌, ◌<◌}
+use Prim.Native.Nat.{ℕ, ◌+◌, ◌^◌, ◌<◌}
 use native.Mathlib.Omega.{arith}
 use borrow.Author.Tests.{eq-eqb, ne_eqb}
 use lib.ListN.{length, get_or}
@@ -20,7 +20,7 @@ use Rattle.requests.specs.Stages.Requests.{nothing_at}
 use Rattle.pieces.specs.Stages.Passes.{RoomFor, Passed}
 use Rattle.survey.specs.Stages.Lines.{request_run, request_pieces, list_pieces, Asks, AskAll}
 use Rattle.pieces.proofs.Laws.{pieces_none}
-use Rattle.survey.proofs.Adding.{Going, go_none, go_room, go_more, go_end, passed_of, passed_none, ran_room, ran_passed}
+use Rattle.survey.proofs.Adding.{Going, go_none, go_room, go_more, passed_of, passed_none, ran_room, ran_passed}
 
 -- a request asks as much of any list that is as long
 pub asks_same : (ends : List ℕ) (path path' : List Float) (r : LineRequest) → length path' ≡ length path → Asks ends path r → Asks ends path' r
@@ -47,10 +47,6 @@ module _ (L : Lead) (frames : List Float) (ends : List ℕ) (list : List LineReq
         → Passed w s r (request_pieces L frames ends (get_or list i (nothing_at 0))) n' n'' b' b''
         → length path'' ≡ length path' → length n'' ≡ length n' → length b'' ≡ length b' → Along (i + 1) r path'' n'' b''
     along_more {r} {path''} {n''} {b''} l P d e f = record { going = go_more w _ (length list) at n b I.going l P e f; sized = d ∙ I.sized }
-
-    pub along_end : length list ≤ i → Passed w at s (list_pieces L frames ends list) n n' b b'
-    unfolding list_pieces
-    along_end l = go_end w _ (length list) at n b I.going l
 
 -- ---- what a request gets
 module _ (L : Lead) (frames : List Float) (ends : List ℕ) (r : LineRequest) where

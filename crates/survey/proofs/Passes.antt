@@ -33,7 +33,7 @@ use Rattle.pieces.specs.Stages.Passes.{RoomFor, Passed}
 use Rattle.survey.specs.Stages.Lines.{request_run, request_pieces, list_pieces, Asks, AskAll}
 use Rattle.pieces.proofs.Laws.{pieces_none, joined_length_suc, joined_mono}
 use Rattle.pieces.proofs.Puts.{put_of, length_flat}
-use Rattle.survey.proofs.Adding.{Going, go_none, go_room, go_more, go_end, passed_of, passed_none, passed_more, ran_room, ran_passed}
+use Rattle.survey.proofs.Adding.{Going, go_none, go_room, go_more, passed_of, passed_none, passed_more, ran_room, ran_passed}
 
 -- ---- joined lists: how long at most, one behind the other, and none past an end
 module _ {A : Type 0} (f : ℕ → List A) where
@@ -269,10 +269,6 @@ module _ (sub : List ℕ) (measures : Measures) (buses ends : List ℕ) (blocks 
       pub others_more : {r : ℕ} {n'' : List Float} {b'' : List ℕ} → Passed w s r (pieces e (points_in c path'')) n' n'' b' b''
           → length path'' ≡ length path' → length n'' ≡ length n' → length b'' ≡ length b' → Others (e + 1) r path'' n'' b''
       others_more P d f g = record { going = go_more w _ (length from) at n b I.going l (ran_passed R w e P) f g; sized = d ∙ I.sized }
-
-    pub others_end : length from ≤ e → Passed w at s (others_in sub measures buses ends blocks frames from to service) n n' b b'
-    unfolding others_in
-    others_end l = go_end w _ (length from) at n b I.going l
 
 -- ---- the loop over blocks of lines: after the branches below `start`
 module _ (H : RunLists) (from to : List ℤ) (service : List ℕ) (w : Bool) (at : ℕ) (path n : List Float) (b : List ℕ) where

@@ -1,2 +1,2 @@
--- Laws that the functions' proofs and the crates above use.
-pub mod Crossing
+-- Laws that the functions' proofs use.
+mod Counting

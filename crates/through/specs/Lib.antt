@@ -1,2 +1,1 @@
 pub mod Through
-pub mod Stages

@@ -3,17 +3,19 @@ ghost use Rattle.std.specs.Prelude.{◌≡◌, ◌+◌, ◌*◌, ◌≤◌, ◌<
 ghost use Rattle.network.specs.Words.{occupied};
 ghost use Rattle.network.specs.Views.{counts_in, boxes_in};
 ghost use Rattle.grid.specs.Stages.Cells.{Indexed};
-ghost use Rattle.through.specs.Through.{station_at, through};
-ghost use Rattle.through.specs.Stages.Pieces.{more, Pictured, Seen, Begins};
+ghost use Rattle.through.specs.Through.{station_at, crosses, runs_through, through};
 
 use box_cells::build::index_boxes;
-use detour::boxes::{BoxIndex, box_index, first_hit};
+use first_hit::search::first_hit;
+use fit::drawn::Drawn;
 use fit::fit::{branch_of, end_at, is_line};
-use geometry::Point;
+use grid::index::BoxIndex;
+use network::lists::Placed;
 use network::words::station_of;
 use stretches::relative::{piece_end, piece_start};
 
 // The station of a bus, and no station's number for an unknown one.
+#[tactic(auto, unfolding(crate::specs::Through::station_at))]
 fn station_at(sub: &[u32], x: Option<usize>) -> usize
     ensures { result ≡ station_at sub.now x }
 {
@@ -23,180 +25,57 @@ fn station_at(sub: &[u32], x: Option<usize>) -> usize
     }
 }
 
-// The piece of a line that is looked at next: its number, how many before it hit a box, its ends, its line's two stations, and whether there is such a piece.
-#[derive(Clone, Copy)]
-pub struct LinePiece {
-    pub j: usize,
-    pub count: usize,
-    pub on: bool,
-    pub p: Point,
-    pub q: Point,
-    pub a: usize,
-    pub b: usize,
+// Whether piece j, as one of branch e, hits a box of the index other than those of the branch's two stations.
+#[tactic(auto, unfolding(crate::specs::Through::crosses))]
+fn crosses(index: &BoxIndex<'_>, drawing: &Drawn<'_>, e: usize, j: usize) -> bool
+    requires { 4 * j + 3 < length drawing.now.pieces.now }
+    ensures { result ≡ crosses (boxes_in index.now.placed.k index.now.placed.frames.now) (occupied (counts_in index.now.placed.k index.now.placed.stations.now)) drawing.now.sub.now drawing.now.from.now drawing.now.to.now drawing.now.pieces.now e j }
+{
+    let p = piece_start(drawing.pieces, j);
+    let q = piece_end(drawing.pieces, j);
+    let a = station_at(drawing.sub, end_at(drawing.sub.len(), drawing.from, e));
+    let b = station_at(drawing.sub, end_at(drawing.sub.len(), drawing.to, e));
+    first_hit(index, p, q, a, b).is_some()
 }
 
-// Piece j of branch e, `count` before it.
-fn piece_of(
-    count: usize,
-    j: usize,
-    e: usize,
-    sub: &[u32],
-    from: &[i64],
-    to: &[i64],
-    pieces: &[f64],
-) -> LinePiece
-    requires { 4 * j + 3 < length pieces.now }
-    ensures { Pictured count j e sub.now from.now to.now pieces.now result }
+// Whether piece j is a line's and does.
+#[tactic(auto, unfolding(crate::specs::Through::runs_through))]
+fn runs_through(index: &BoxIndex<'_>, drawing: &Drawn<'_>, j: usize) -> bool
+    requires { 4 * j + 3 < length drawing.now.pieces.now }
+    ensures { result ≡ runs_through (boxes_in index.now.placed.k index.now.placed.frames.now) (occupied (counts_in index.now.placed.k index.now.placed.stations.now)) drawing.now.sub.now drawing.now.from.now drawing.now.to.now drawing.now.roles.now drawing.now.pieces.now drawing.now.branches.now j }
 {
-    let p = piece_start(pieces, j);
-    let q = piece_end(pieces, j);
-    let a = station_at(sub, end_at(sub.len(), from, e));
-    let b = station_at(sub, end_at(sub.len(), to, e));
-    LinePiece {
-        j,
-        count,
-        on: true,
-        p,
-        q,
-        a,
-        b,
-    }
+    let e = branch_of(drawing.branches, j);
+    is_line(drawing.roles, e) && crosses(index, drawing, e, j)
 }
 
-// The first piece of a line from j on, `count` before it.
-fn look_from(
-    count: usize,
-    j: usize,
-    sub: &[u32],
-    from: &[i64],
-    to: &[i64],
-    roles: &[u8],
-    pieces: &[f64],
-    branches: &[u32],
-) -> LinePiece
-    requires { (j ≤ length branches.now) × (count ≤ j) × (length pieces.now ≡ 4 * length branches.now) }
-    ensures { Seen sub.now from.now to.now roles.now pieces.now branches.now j count result }
+// How many pieces of lines hit a box of the index.
+// An audit's pieces are four numbers for each branch number once `fits` has passed: `Drawn` is lent to `fits` too.
+#[tactic(auto, unfolding(crate::specs::Through::through), using(order::proofs::Tables::how_many_zero, crate::proofs::Counting::counted_yes, crate::proofs::Counting::counted_no))]
+fn count_hits(index: &BoxIndex<'_>, drawing: &Drawn<'_>) -> usize
+    requires { length drawing.now.pieces.now ≡ 4 * length drawing.now.branches.now }
+    ensures { result ≡ through (boxes_in index.now.placed.k index.now.placed.frames.now) (occupied (counts_in index.now.placed.k index.now.placed.stations.now)) drawing.now.sub.now drawing.now.from.now drawing.now.to.now drawing.now.roles.now drawing.now.pieces.now drawing.now.branches.now }
 {
-    let mut i = j;
-    while i < branches.len() {
-        let e = branch_of(branches, i);
-        if is_line(roles, e) {
-            return piece_of(count, i, e, sub, from, to, pieces);
+    let mut count = 0;
+    for j in 0..drawing.branches.len() {
+        if runs_through(index, drawing, j) {
+            count += 1;
         }
-        i += 1;
     }
-    let z = Point { x: 0.0, y: 0.0 };
-    LinePiece {
-        j: i,
-        count,
-        on: false,
-        p: z,
-        q: z,
-        a: 0,
-        b: 0,
-    }
-}
-
-// The piece looked at after s, which hits h or nothing.
-fn next_piece(
-    s: LinePiece,
-    h: Option<usize>,
-    sub: &[u32],
-    from: &[i64],
-    to: &[i64],
-    roles: &[u8],
-    pieces: &[f64],
-    branches: &[u32],
-) -> LinePiece
-    requires { (s.j < length branches.now) × (s.count ≤ s.j) × (length pieces.now ≡ 4 * length branches.now) }
-    ensures { Seen sub.now from.now to.now roles.now pieces.now branches.now (s.j + 1) (more h s.count) result }
-{
-    if h.is_some() {
-        return look_from(s.count + 1, s.j + 1, sub, from, to, roles, pieces, branches);
-    }
-    look_from(s.count, s.j + 1, sub, from, to, roles, pieces, branches)
-}
-
-// How many pieces of lines from `start` on hit a box of an index, which is handed on to where a box is looked up.
-fn count_hits<'a>(
-    boxes: BoxIndex<'a>,
-    k: usize,
-    stations: &[u32],
-    index: &[u32],
-    start: LinePiece,
-    sub: &[u32],
-    from: &[i64],
-    to: &[i64],
-    roles: &[u8],
-    pieces: &[f64],
-    branches: &[u32],
-) -> usize
-    requires k_in_bounds { (2 * k ≤ length stations.now) × (4 * k ≤ length boxes.boxes.now) × (k ≤ 4096) }
-    requires indexed { Indexed (boxes_in k boxes.boxes.now) (occupied (counts_in k stations.now)) index.now }
-    requires begins { Begins sub.now from.now to.now roles.now pieces.now branches.now start }
-    ensures { result ≡ through (boxes_in k boxes.entry.boxes.now) (occupied (counts_in k stations.now)) sub.now from.now to.now roles.now pieces.now branches.now }
-{
-    let mut s = start;
-    while s.on {
-        let h = first_hit(boxes, k, stations, index, s.p, s.q, s.a, s.b);
-        s = next_piece(s, h, sub, from, to, roles, pieces, branches);
-    }
-    s.count
-}
-
-// The same, of boxes.
-fn count_among(
-    k: usize,
-    stations: &[u32],
-    boxes: &[f64],
-    index: &[u32],
-    start: LinePiece,
-    sub: &[u32],
-    from: &[i64],
-    to: &[i64],
-    roles: &[u8],
-    pieces: &[f64],
-    branches: &[u32],
-) -> usize
-    requires k_in_bounds { (2 * k ≤ length stations.now) × (4 * k ≤ length boxes.now) × (k ≤ 4096) }
-    requires indexed { Indexed (boxes_in k boxes.now) (occupied (counts_in k stations.now)) index.now }
-    requires begins { Begins sub.now from.now to.now roles.now pieces.now branches.now start }
-    ensures { result ≡ through (boxes_in k boxes.now) (occupied (counts_in k stations.now)) sub.now from.now to.now roles.now pieces.now branches.now }
-{
-    count_hits(
-        box_index(boxes),
-        k,
-        stations,
-        index,
-        start,
-        sub,
-        from,
-        to,
-        roles,
-        pieces,
-        branches,
-    )
+    count
 }
 
 // How many pieces of lines hit a box that isn't one of their own stations'.
-pub fn count_through(
-    k: usize,
-    stations: &[u32],
-    boxes: &[f64],
-    index: &mut [u32],
-    sub: &[u32],
-    from: &[i64],
-    to: &[i64],
-    roles: &[u8],
-    pieces: &[f64],
-    branches: &[u32],
-) -> usize
-    requires { (2 * k ≤ length stations.now) × (4 * k ≤ length boxes.now) × (k ≤ 4096) × (length pieces.now ≡ 4 * length branches.now) }
-    ensures { result ≡ through (boxes_in k boxes.now) (occupied (counts_in k stations.now)) sub.now from.now to.now roles.now pieces.now branches.now }
+pub fn count_through(placed: &Placed<'_>, index: &mut [u32], drawing: &Drawn<'_>) -> usize
+    requires { (placed.now.k ≤ 4096) × (length drawing.now.pieces.now ≡ 4 * length drawing.now.branches.now) }
+    ensures { result ≡ through (boxes_in placed.now.k placed.now.frames.now) (occupied (counts_in placed.now.k placed.now.stations.now)) drawing.now.sub.now drawing.now.from.now drawing.now.to.now drawing.now.roles.now drawing.now.pieces.now drawing.now.branches.now }
 {
-    index_boxes(true, k, stations, boxes, index);
-    let start = look_from(0, 0, sub, from, to, roles, pieces, branches);
-    count_among(
-        k, stations, boxes, index, start, sub, from, to, roles, pieces, branches,
+    index_boxes(true, placed, index);
+    let placed = *placed;
+    count_hits(
+        &BoxIndex {
+            placed,
+            cells: index,
+        },
+        drawing,
     )
 }

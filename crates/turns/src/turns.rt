@@ -7,6 +7,7 @@ ghost use Rattle.turns.specs.Turns.{top_to, placement_order};
 ghost use Rattle.turns.specs.Stages.Listed.{Listed, Turns};
 
 use float::key::key_of_bits;
+use network::lists::Stations;
 use order::sort_part;
 
 // A number that falls where v rises.
@@ -17,13 +18,13 @@ fn falling(v: u64) -> u64
 }
 
 // Lists the occupied stations by number at the front of sorted, and gives each station its bus count's key; how many are occupied.
-fn list_occupied(k: usize, stations: &[u32], keys: &mut [u64], sorted: &mut [u32]) -> usize
-    requires { (k ≤ 2 ^ 32) × (2 * k ≤ length stations.now) × (k ≤ length keys.old) × (k ≤ length sorted.old) }
-    ensures { Listed (counts_in k stations.now) k keys.new sorted.new result }
+fn list_occupied(stations: &Stations<'_>, keys: &mut [u64], sorted: &mut [u32]) -> usize
+    requires { (stations.now.k ≤ 2 ^ 32) × (stations.now.k ≤ length keys.old) × (stations.now.k ≤ length sorted.old) }
+    ensures { Listed (counts_in stations.now.k stations.now.counts.now) stations.now.k keys.new sorted.new result }
 {
     let mut r = 0;
-    for s in 0..k {
-        let count = stations[2 * s];
+    for s in 0..stations.k {
+        let count = stations.counts[2 * s];
         keys[s] = falling(count as u64);
         if 0 < count {
             sorted[r] = s as u32;
@@ -34,16 +35,16 @@ fn list_occupied(k: usize, stations: &[u32], keys: &mut [u64], sorted: &mut [u32
 }
 
 // Sets the first k keys to the highest.
+#[tactic(auto, unfolding(columns::specs::Column::falling))]
 fn fill_keys(k: usize, keys: &mut [u64])
     requires { k ≤ length keys.old }
     ensures { (s : ℕ) → s < k → get_or keys.new s 0 ≡ falling 0 }
 {
-    for s in 0..k {
-        keys[s] = 0xffff_ffff_ffff_ffff;
-    }
+    keys[..k].fill(0xffff_ffff_ffff_ffff);
 }
 
 // Lowers each station's key to that of its top voltage.
+// `sub` and `kv` are as long as each other; `Network` would ask for the other lists of a call.
 fn top_keys(sub: &[u32], kv: &[u64], k: usize, keys: &mut [u64])
     requires kv_len { (length kv.now ≡ length sub.now) × (k ≤ length keys.old) }
     requires by_index { (i : ℕ) → i < length sub.now → get_or sub.now i 0 < k }
@@ -59,18 +60,19 @@ fn top_keys(sub: &[u32], kv: &[u64], k: usize, keys: &mut [u64])
     }
 }
 
-// Copies the first r of sorted to their places beside the counts.
-fn put_order(r: usize, sorted: &[u32], stations: &mut [u32])
-    requires { (r ≤ length sorted.now) × (2 * r ≤ length stations.old) }
-    ensures stations_after { order_in r stations.new ≡ take r sorted.now }
+// Copies the sorted stations to their places beside the counts.
+fn put_order(sorted: &[u32], stations: &mut [u32])
+    requires { 2 * length sorted.now ≤ length stations.old }
+    ensures stations_after { order_in (length sorted.now) stations.new ≡ sorted.now }
     ensures by_index { (k : ℕ) → counts_in k stations.new ≡ counts_in k stations.old }
 {
-    for p in 0..r {
+    for p in 0..sorted.len() {
         stations[2 * p + 1] = sorted[p];
     }
 }
 
 // The order of placement, beside the stations' bus counts; how many stations are placed.
+// Lists that are written are no struct: behind `&mut` others could stand in it, so each contract would have to say that it keeps them and their lengths.
 pub fn placement_order(
     sub: &[u32],
     kv: &[u64],
@@ -87,11 +89,18 @@ pub fn placement_order(
     ensures turns { Turns k (order_in result stations.new) }
     ensures stations_after_2 { counts_in k stations.new ≡ bus_counts sub.now }
 {
-    let r = list_occupied(k, stations, keys, sorted);
+    let r = list_occupied(
+        &Stations {
+            k,
+            counts: stations,
+        },
+        keys,
+        sorted,
+    );
     sort_part(keys, sorted, spare, 0, r);
     fill_keys(k, keys);
     top_keys(sub, kv, k, keys);
     sort_part(keys, sorted, spare, 0, r);
-    put_order(r, sorted, stations);
+    put_order(&sorted[..r], stations);
     r
 }

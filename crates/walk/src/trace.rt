@@ -1,15 +1,23 @@
 // The walk of one line from corner to corner, by the half-edges that it crosses.
-ghost use Rattle.std.specs.Prelude.{◌≡◌, ◌+◌, ◌≤◌, ◌<◌, length, take};
+ghost use Rattle.std.specs.Prelude.{◌≡◌, ◌+◌, ◌≤◌, ◌<◌, length};
 ghost use Rattle.geometry.specs.Plane.{point_at};
-ghost use Rattle.half_edges.specs.Round.{round_of};
 ghost use Rattle.walk.specs.Trace.{crosses_edge, leave, started, out_by, pass_on, after, traced, home_of, Trailed};
 
 use crate::Step;
 use crossing::segments_cross;
 use geometry::point_at;
-use half_edges::first_at;
+use half_edges::{Turned, first_at};
 use mesh::{end_at, next};
 use order::at;
+
+// A line over a mesh: the places of the corners, and the two corners that it runs between.
+#[derive(Clone, Copy)]
+pub struct Line<'a> {
+    pub turned: Turned<'a>,
+    pub points: &'a [f64],
+    pub start: u32,
+    pub end: u32,
+}
 
 // A walk's crossings: how many, and whether the path keeps them. No Option: a cleared path's crossings stay in their channels, so their number is read either way.
 #[derive(Clone, Copy)]
@@ -18,51 +26,50 @@ pub struct Trail {
     pub kept: bool,
 }
 
-// Whether the piece from corner va to corner vb crosses half-edge h.
+// Whether the line crosses half-edge h. That h is below 2^32 - 1 is asked in four places: the half-edges after such a one fit 32 bits, and a type of its own would say no more.
 #[tactic(auto, unfolding(crate::specs::Trace::crosses_edge))]
-fn crosses_edge(corners: &[u32], points: &[f64], va: usize, vb: usize, h: usize) -> bool
-    requires { (va < 0x1_0000_0000) × (vb < 0x1_0000_0000) × (h < 0xffff_ffff) }
-    ensures { result ≡ crosses_edge corners.now (point_at points.now) va vb h }
+fn crosses_edge(line: &Line<'_>, h: usize) -> bool
+    requires { h < 0xffff_ffff }
+    ensures { result ≡ crosses_edge line.now.turned.mesh.corners.now (point_at line.now.points.now) line.now.start line.now.end h }
 {
-    let a = at(corners, h) as usize;
-    let b = end_at(corners, h) as usize;
+    let a = at(line.turned.mesh.corners, h) as usize;
+    let b = end_at(line.turned.mesh.corners, h) as usize;
     segments_cross(
-        point_at(points, va),
-        point_at(points, vb),
-        point_at(points, a),
-        point_at(points, b),
+        point_at(line.points, line.start as usize),
+        point_at(line.points, line.end as usize),
+        point_at(line.points, a),
+        point_at(line.points, b),
     )
 }
 
-// How the line leaves corner va in the triangle of half-edge h, which starts there.
+// How the line leaves its first corner in the triangle of half-edge h, which starts there.
 #[tactic(auto, using(crate::proofs::Steps::next_fits), unfolding(crate::specs::Trace::leave))]
-fn leave(corners: &[u32], points: &[f64], va: usize, vb: usize, h: usize) -> Step
-    requires { (va < 0x1_0000_0000) × (vb < 0x1_0000_0000) × (h < 0xffff_ffff) }
-    ensures { result ≡ leave corners.now (point_at points.now) va vb h }
+fn leave(line: &Line<'_>, h: usize) -> Step
+    requires { h < 0xffff_ffff }
+    ensures { result ≡ leave line.now.turned.mesh.corners.now (point_at line.now.points.now) line.now.start line.now.end h }
 {
     let e = next(h);
     let f = next(e);
-    if at(corners, e) as usize == vb || at(corners, f) as usize == vb {
+    if at(line.turned.mesh.corners, e) == line.end || at(line.turned.mesh.corners, f) == line.end {
         return Step::Home;
     }
-    if crosses_edge(corners, points, va, vb, e) {
+    if crosses_edge(line, e) {
         return Step::Out(e as u32);
     }
     Step::Lost
 }
 
-// How the line leaves corner va: the triangles around it are tried by number.
-fn start(corners: &[u32], points: &[f64], around: &[u32], va: usize, vb: usize) -> Step
-    requires va_bound { (va < 0x1_0000_0000) × (vb < 0x1_0000_0000) × (length corners.now ≤ 24576) }
-    requires around_value { take (length corners.now) around.now ≡ round_of corners.now }
-    ensures { result ≡ started corners.now (point_at points.now) va vb }
+// How the line leaves its first corner: the triangles around it are tried by number.
+fn start(line: &Line<'_>) -> Step
+    ensures { result ≡ started line.now.turned.mesh.corners.now (point_at line.now.points.now) line.now.start line.now.end }
 {
-    for p in first_at(corners, around, va)..corners.len() {
-        let h = at(around, p) as usize;
-        if at(corners, h) as usize != va {
+    let corners = line.turned.mesh.corners;
+    for p in first_at(corners, line.turned.around, line.start as usize)..corners.len() {
+        let h = at(line.turned.around, p) as usize;
+        if at(corners, h) != line.start {
             return Step::Lost;
         }
-        match leave(corners, points, va, vb, h) {
+        match leave(line, h) {
             Step::Lost => {},
             x => return x,
         }
@@ -72,14 +79,14 @@ fn start(corners: &[u32], points: &[f64], around: &[u32], va: usize, vb: usize) 
 
 // The first of two half-edges that the line crosses.
 #[tactic(auto, unfolding(crate::specs::Trace::out_by))]
-fn out_by(corners: &[u32], points: &[f64], va: usize, vb: usize, e: usize, f: usize) -> Step
-    requires { (va < 0x1_0000_0000) × (vb < 0x1_0000_0000) × (e < 0xffff_ffff) × (f < 0xffff_ffff) }
-    ensures { result ≡ out_by corners.now (point_at points.now) va vb e f }
+fn out_by(line: &Line<'_>, e: usize, f: usize) -> Step
+    requires { (e < 0xffff_ffff) × (f < 0xffff_ffff) }
+    ensures { result ≡ out_by line.now.turned.mesh.corners.now (point_at line.now.points.now) line.now.start line.now.end e f }
 {
-    if crosses_edge(corners, points, va, vb, e) {
+    if crosses_edge(line, e) {
         return Step::Out(e as u32);
     }
-    if crosses_edge(corners, points, va, vb, f) {
+    if crosses_edge(line, f) {
         return Step::Out(f as u32);
     }
     Step::Lost
@@ -87,29 +94,28 @@ fn out_by(corners: &[u32], points: &[f64], va: usize, vb: usize, e: usize, f: us
 
 // How the line goes on in the triangle of half-edge g, which it comes in through.
 #[tactic(auto, using(crate::proofs::Steps::next_fits), unfolding(crate::specs::Trace::pass_on))]
-fn pass_on(corners: &[u32], points: &[f64], va: usize, vb: usize, g: usize) -> Step
-    requires { (va < 0x1_0000_0000) × (vb < 0x1_0000_0000) × (g < 0xffff_ffff) }
-    ensures { result ≡ pass_on corners.now (point_at points.now) va vb g }
+fn pass_on(line: &Line<'_>, g: usize) -> Step
+    requires { g < 0xffff_ffff }
+    ensures { result ≡ pass_on line.now.turned.mesh.corners.now (point_at line.now.points.now) line.now.start line.now.end g }
 {
     let e = next(g);
     let f = next(e);
-    if at(corners, f) as usize == vb {
+    if at(line.turned.mesh.corners, f) == line.end {
         return Step::Home;
     }
-    out_by(corners, points, va, vb, e, f)
+    out_by(line, e, f)
 }
 
 // What the walk does after it has crossed half-edge h.
 #[tactic(auto, unfolding(crate::specs::Trace::after))]
-fn after(corners: &[u32], twins: &[u32], points: &[f64], va: usize, vb: usize, h: u32) -> Step
-    requires { (va < 0x1_0000_0000) × (vb < 0x1_0000_0000) }
-    ensures { result ≡ after corners.now twins.now (point_at points.now) va vb h }
+fn after(line: &Line<'_>, h: u32) -> Step
+    ensures { result ≡ after line.now.turned.mesh.corners.now line.now.turned.mesh.twins.now (point_at line.now.points.now) line.now.start line.now.end h }
 {
-    let g = at(twins, h as usize);
+    let g = at(line.turned.mesh.twins, h as usize);
     if g == 4294967295 {
         return Step::Home;
     }
-    pass_on(corners, points, va, vb, g as usize)
+    pass_on(line, g as usize)
 }
 
 // Whether a walk that makes no more crossings keeps those it has made.
@@ -120,22 +126,14 @@ fn home(x: Step) -> bool
     matches!(x, Step::Home)
 }
 
-// The walk of one line from corner va to corner vb: the half-edges that it crosses, in order, at the front of `trail`.
-pub fn trace(
-    corners: &[u32],
-    twins: &[u32],
-    points: &[f64],
-    around: &[u32],
-    va: usize,
-    vb: usize,
-    trail: &mut [u32],
-) -> Trail
-    requires va_bound { (va < 0x1_0000_0000) × (vb < 0x1_0000_0000) × (length corners.now ≤ 24576) × (length corners.now ≤ length trail.old) }
-    requires around_value { take (length corners.now) around.now ≡ round_of corners.now }
-    ensures { Trailed (traced corners.now twins.now (point_at points.now) va vb) trail.old trail.new result.count result.kept }
+// The walk of one line: the half-edges that it crosses, in order, at the front of `trail`.
+pub fn trace(line: &Line<'_>, trail: &mut [u32]) -> Trail
+    requires { length line.now.turned.mesh.corners.now ≤ length trail.old }
+    ensures { Trailed (traced line.now.turned.mesh.corners.now line.now.turned.mesh.twins.now (point_at line.now.points.now) line.now.start line.now.end) trail.old trail.new result.count result.kept }
 {
-    let mut x = start(corners, points, around, va, vb);
-    for n in 0..corners.len() {
+    let most = line.turned.mesh.corners.len();
+    let mut x = start(line);
+    for n in 0..most {
         let Step::Out(h) = x else {
             return Trail {
                 count: n,
@@ -143,10 +141,10 @@ pub fn trace(
             };
         };
         trail[n] = h;
-        x = after(corners, twins, points, va, vb, h);
+        x = after(line, h);
     }
     Trail {
-        count: corners.len(),
+        count: most,
         kept: home(x),
     }
 }

@@ -13,7 +13,8 @@ use network::words::station_count;
 use options::Options;
 use refusals::Refusal;
 
-// Audits the parts of the lists that a drawing of `count` pieces fills.
+// Audits the parts of the lists that a drawing of `count` pieces fills: they are cut here.
+// The lists stand as the public call takes them.
 fn audit_drawing(
     displacement: &mut [f64],
     spacing: &mut [f64],
@@ -67,6 +68,7 @@ fn audit_drawing(
 
 // Draws the network into the lent lists and audits the drawing as it stands there.
 // The audit's numbers of each station and line go into `blocks`, `frames` and `crossing_ways`. Answers layout's refusal, or the plot and what the audit answers.
+// The lists stand as the public calls take them.
 pub fn draw_and_audit(
     positions: &mut [f64],
     bars: &mut [f64],

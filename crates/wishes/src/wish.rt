@@ -8,32 +8,50 @@ use geometry::{Point, number_at, point_at};
 use order::at;
 use runs::run::{first_exit, second_exit};
 
+// What crossings' points are read from: the numbers of m branches and, behind them, of the channels; the corners' places; the mesh's corners; and the crossings' numbers.
+#[derive(Clone, Copy)]
+pub struct Crossed<'a> {
+    pub m: usize,
+    pub ends: &'a [u32],
+    pub centres: &'a [f64],
+    pub corners: &'a [u32],
+    pub numbers: &'a [u32],
+    pub ghost m_fits: { m ≤ 2 ^ 32 },
+}
+
+// What stands still while crossings are spaced: that, and the lines' exits, behind `base` points of `places`.
+#[derive(Clone, Copy)]
+pub struct Fixed<'a> {
+    pub crossed: Crossed<'a>,
+    pub base: usize,
+    pub places: &'a [f64],
+    pub ghost base_fits: { base ≤ 2 ^ 32 },
+}
+
 // A half-edge of channel c.
+// c, a channel, is counted over usize: as a `u32` it would be converted at each index.
 #[tactic(auto, unfolding(crate::specs::Stages::RoundLists::edge_in))]
-pub fn edge_of(m: usize, ends: &[u32], c: usize) -> usize
+pub fn edge_of(m: usize, ends: &[u32], c: usize) -> u32
     requires { (m ≤ 2 ^ 32) × (c < 2 ^ 32) }
-    ensures value { result ≡ edge_in m ends.now c }
-    ensures upper_bound { result < 2 ^ 32 }
+    ensures { result ≡ edge_in m ends.now c }
 {
-    at(ends, 4 * (m + c) + 2) as usize
+    at(ends, 4 * (m + c) + 2)
 }
 
 // The place of the lower corner of half-edge h.
 #[tactic(auto, unfolding(crate::specs::Stages::RoundLists::low_in))]
-fn low_of(corners: &[u32], centres: &[f64], h: usize) -> Point
-    requires { h < 2 ^ 32 }
+fn low_of(corners: &[u32], centres: &[f64], h: u32) -> Point
     ensures { result ≡ low_in corners.now centres.now h }
 {
-    point_at(centres, low_at(corners, h))
+    point_at(centres, low_at(corners, h) as usize)
 }
 
 // The place of the higher corner of half-edge h.
 #[tactic(auto, unfolding(crate::specs::Stages::RoundLists::high_in))]
-fn high_of(corners: &[u32], centres: &[f64], h: usize) -> Point
-    requires { h < 2 ^ 32 }
+fn high_of(corners: &[u32], centres: &[f64], h: u32) -> Point
     ensures { result ≡ high_in corners.now centres.now h }
 {
-    point_at(centres, high_at(corners, h))
+    point_at(centres, high_at(corners, h) as usize)
 }
 
 // The point t of the way from u to w.
@@ -49,105 +67,61 @@ fn between(u: Point, w: Point, t: f64) -> Point
 
 // Where crossing x is now.
 #[tactic(auto, unfolding(crate::specs::Stages::RoundLists::point_in))]
-pub fn point_of(
-    m: usize,
-    ends: &[u32],
-    centres: &[f64],
-    corners: &[u32],
-    numbers: &[u32],
-    along: &[f64],
-    x: usize,
-) -> Point
-    requires { (m ≤ 2 ^ 32) × (x ≤ 2 ^ 32) }
-    ensures { result ≡ point_in m ends.now centres.now corners.now numbers.now along.now x }
+pub fn point_of(crossed: &Crossed<'_>, along: &[f64], x: usize) -> Point
+    requires { x ≤ 2 ^ 32 }
+    ensures { result ≡ point_in crossed.now.m crossed.now.ends.now crossed.now.centres.now crossed.now.corners.now crossed.now.numbers.now along.now x }
 {
-    let h = edge_of(m, ends, at(numbers, 3 * x) as usize);
+    let h = edge_of(crossed.m, crossed.ends, at(crossed.numbers, 3 * x) as usize);
     between(
-        low_of(corners, centres, h),
-        high_of(corners, centres, h),
+        low_of(crossed.corners, crossed.centres, h),
+        high_of(crossed.corners, crossed.centres, h),
         number_at(along, x),
     )
 }
 
 // The point before crossing x of branch e, whose path begins with crossing `first`.
 #[tactic(auto, unfolding(crate::specs::Stages::RoundLists::before_in))]
-fn before_of(
-    m: usize,
-    base: usize,
-    ends: &[u32],
-    places: &[f64],
-    centres: &[f64],
-    corners: &[u32],
-    numbers: &[u32],
-    along: &[f64],
-    e: usize,
-    first: usize,
-    x: usize,
-) -> Point
-    requires { (m ≤ 2 ^ 32) × (base ≤ 2 ^ 32) × (e < 2 ^ 32) × (x < 2 ^ 32) }
-    ensures { result ≡ before_in (held m base ends.now places.now centres.now corners.now numbers.now) along.now e first x }
+fn before_of(fixed: &Fixed<'_>, along: &[f64], e: u32, first: usize, x: u32) -> Point
+    ensures { result ≡ before_in (held fixed.now.crossed.m fixed.now.base fixed.now.crossed.ends.now fixed.now.places.now fixed.now.crossed.centres.now fixed.now.crossed.corners.now fixed.now.crossed.numbers.now) along.now e first x }
 {
-    if x <= first {
-        return first_exit(base, places, e);
+    if x as usize <= first {
+        return first_exit(fixed.base, fixed.places, e as usize);
     }
-    point_of(m, ends, centres, corners, numbers, along, x - 1)
+    point_of(&fixed.crossed, along, x as usize - 1)
 }
 
 // The point behind crossing x of branch e, whose path ends before crossing `past`.
 #[tactic(auto, unfolding(crate::specs::Stages::RoundLists::behind_in))]
-fn behind_of(
-    m: usize,
-    base: usize,
-    ends: &[u32],
-    places: &[f64],
-    centres: &[f64],
-    corners: &[u32],
-    numbers: &[u32],
-    along: &[f64],
-    e: usize,
-    past: usize,
-    x: usize,
-) -> Point
-    requires { (m ≤ 2 ^ 32) × (base ≤ 2 ^ 32) × (e < 2 ^ 32) × (x < 2 ^ 32) }
-    ensures { result ≡ behind_in (held m base ends.now places.now centres.now corners.now numbers.now) along.now e past x }
+fn behind_of(fixed: &Fixed<'_>, along: &[f64], e: u32, past: usize, x: u32) -> Point
+    ensures { result ≡ behind_in (held fixed.now.crossed.m fixed.now.base fixed.now.crossed.ends.now fixed.now.places.now fixed.now.crossed.centres.now fixed.now.crossed.corners.now fixed.now.crossed.numbers.now) along.now e past x }
 {
-    if past <= x + 1 {
-        return second_exit(base, places, e);
+    if past <= x as usize + 1 {
+        return second_exit(fixed.base, fixed.places, e as usize);
     }
-    point_of(m, ends, centres, corners, numbers, along, x + 1)
+    point_of(&fixed.crossed, along, x as usize + 1)
 }
 
 // Where crossing x wishes to be: on the line through the points before and behind it; a cleared path's crossing wishes for its place.
 #[tactic(auto, unfolding(crate::specs::Stages::RoundLists::wish_in))]
-pub fn wish_of(
-    m: usize,
-    base: usize,
-    ends: &[u32],
-    places: &[f64],
-    centres: &[f64],
-    corners: &[u32],
-    numbers: &[u32],
-    along: &[f64],
-    x: usize,
-) -> f64
-    requires { (m ≤ 2 ^ 32) × (base ≤ 2 ^ 32) × (x < 2 ^ 32) }
-    ensures { result ≡ wish_in (held m base ends.now places.now centres.now corners.now numbers.now) along.now x }
+pub fn wish_of(fixed: &Fixed<'_>, along: &[f64], x: u32) -> f64
+    ensures { result ≡ wish_in (held fixed.now.crossed.m fixed.now.base fixed.now.crossed.ends.now fixed.now.places.now fixed.now.crossed.centres.now fixed.now.crossed.corners.now fixed.now.crossed.numbers.now) along.now x }
 {
-    let e = at(numbers, 3 * x + 1) as usize;
-    let first = at(ends, 4 * e + 2) as usize;
-    let past = first + at(ends, 4 * e + 3) as usize;
-    let t = number_at(along, x);
-    if past <= x {
+    let crossed = &fixed.crossed;
+    let e = at(crossed.numbers, 3 * x as usize + 1);
+    let first = at(crossed.ends, 4 * e as usize + 2) as usize;
+    let past = first + at(crossed.ends, 4 * e as usize + 3) as usize;
+    let t = number_at(along, x as usize);
+    if past <= x as usize {
         return t;
     }
-    let h = edge_of(m, ends, at(numbers, 3 * x) as usize);
-    let p = before_of(
-        m, base, ends, places, centres, corners, numbers, along, e, first, x,
+    let h = edge_of(
+        crossed.m,
+        crossed.ends,
+        at(crossed.numbers, 3 * x as usize) as usize,
     );
-    let q = behind_of(
-        m, base, ends, places, centres, corners, numbers, along, e, past, x,
-    );
-    let u = low_of(corners, centres, h);
-    let w = high_of(corners, centres, h);
+    let p = before_of(fixed, along, e, first, x);
+    let q = behind_of(fixed, along, e, past, x);
+    let u = low_of(crossed.corners, crossed.centres, h);
+    let w = high_of(crossed.corners, crossed.centres, h);
     line_param(p, q, u, w).unwrap_or(t)
 }

@@ -15,8 +15,3 @@ pub loop-i-preserved : goal.loop-i-preserved
 unfolding falling
 loop-i-preserved c =
     (omega arith, simp length-set c.loop-i.invariant.1, front_next _ _ _ _ (omega arith) (ap falling c.key_of_bits.ensures) c.loop-i.invariant.2)
-
-pub returns : goal.returns
-returns c =
-    let e : c.loop-i.i ≡ length c.args.kv.now = omega arith in
-    subst (λ (j : ℕ). take j c.loop-i.keys ≡ table (λ i. falling (voltage c.args.kv.now i)) j) e c.loop-i.invariant.2

@@ -2,7 +2,8 @@
 use Prim.Native.Nat.{ℕ}
 use mathlib.Core.Path.{◌≡◌, refl, sym, subst, ◌∙◌}
 use native.Mathlib.Omega.{arith}
-use lib.ListN.{length-set}
+use lib.ListN.{length, length-set}
+use lib.Seq.{take-length}
 use Rattle.order.specs.Order.{key_at}
 use Rattle.order.specs.Table.{table, strided}
 use Rattle.ranking.proofs.Fronts.{side_zero, side_next, front_table}
@@ -17,6 +18,7 @@ loop-i-preserved c =
 
 pub returns : goal.returns
 returns c =
-    let e : c.loop-i.i ≡ c.args.n = omega arith in
+    let e : c.loop-i.i ≡ length c.args.places.now = omega arith in
     subst (λ (j : ℕ). strided 3 0 0 j c.loop-i.buses ≡ table (key_at c.args.places.now) j) e c.loop-i.invariant.2
-    ∙ sym (front_table c.args.n c.args.places.now (omega (arith, c.requires)))
+    ∙ sym (front_table (length c.args.places.now) c.args.places.now (omega arith))
+    ∙ take-length c.args.places.now

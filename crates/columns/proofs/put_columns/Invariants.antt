@@ -7,4 +7,4 @@ use Rattle.order.specs.Table.{table, strided}
 use Rattle.columns.proofs.put_columns.Given as goal
 
 abbrev pub invariant-loop-i : goal.invariant-loop-i
-invariant-loop-i l = (l.i ≤ l.n) × (length l.buses ≡ length l.initial.buses) × (strided 3 0 0 l.i l.buses ≡ table (key_at l.places) l.i)
+invariant-loop-i l = (l.i ≤ length l.places) × (length l.buses ≡ length l.initial.buses) × (strided 3 0 0 l.i l.buses ≡ table (key_at l.places) l.i)

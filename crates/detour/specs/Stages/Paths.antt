@@ -8,12 +8,6 @@ use Rattle.geometry.specs.Plane.{point_at}
 unfoldable pub path_in : ℕ → ℕ → List Float → List Point
 path_in i n l = table_from (point_at l) i n
 
--- The points from j to before `end` are moved one up; those up to j, and the numbers before point i, are as they were.
-pub record Shifted (i j end : ℕ) (was now : List Float) : Type 0 where
-  pub before : take (2 * i) now ≡ take (2 * i) was
-  pub kept : (m : ℕ) → m ≤ j → point_at now m ≡ point_at was m
-  pub moved : (m : ℕ) → j ≤ m → m < end → point_at now (m + 1) ≡ point_at was m
-
 -- c is put in as point i, the points from there to before `end` moved one up; the numbers before are as they were.
 pub record PutIn (i end : ℕ) (c : Point) (was now : List Float) : Type 0 where
   pub before : take (2 * i) now ≡ take (2 * i) was

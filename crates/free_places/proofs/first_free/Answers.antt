@@ -7,42 +7,38 @@ use Rattle.free_places.specs.Stages.Among.{frame}
 use Rattle.free_places.proofs.Searching.{stretch_inside, stretch_free, first_start, first_skip, first_hit, first_miss, first_end}
 use Rattle.free_places.proofs.Columns.{column_within, columns_none, column_known, column_more}
 use Rattle.free_places.proofs.first_free.Goals as goal
+use Rattle.free_places.proofs.first_free.Goals.{then-is_inside+else-is_free, else-is_inside}
 
 pub loop-j-init : goal.loop-j-init
-loop-j-init c = (omega arith, refl, refl, columns_none _ _ _ _ _ _ _, first_start _ _ _ _ _ _ _)
+loop-j-init c = (refl, refl, columns_none _ _ _ _ _ _, first_start _ _ _ _ _ _ _)
 
 pub column-i-requires : goal.column-i-requires
-column-i-requires c = column_within _ _ _ c.requires.0 c.is_inside.ensures c.if-is_inside.true
+column-i-requires c = column_within _ _ _ c.args.tried.now.near c.is_inside.ensures c.if-is_inside.true
 
-pub stretch_of-t-requires-clause-n_in_bounds : goal.stretch_of-t-requires-clause-n_in_bounds
-stretch_of-t-requires-clause-n_in_bounds c = let l = c.loop-j in (c.requires.1.keyed, rising_keys _ _ _ _ _ c.requires.1.kept.ordered)
+pub stretch_of-t-requires-clause-rising : goal.stretch_of-t-requires-clause-rising
+stretch_of-t-requires-clause-rising c = rising_keys _ _ _ _ c.requires.kept.ordered
 
 pub stretch_of-t-requires-clause-bounds : goal.stretch_of-t-requires-clause-bounds
-stretch_of-t-requires-clause-bounds c = let l = c.loop-j in column_known c.args.unit c.args.seed (frame c.args.w c.args.h c.args.f c.args.buffer) c.args.widening c.args.count c.args.most c.args.keys.now l.firsts l.ends l.invariant.3 c.pair_at-o.result (column_within _ _ _ c.requires.0 c.is_inside.ensures c.if-is_inside.true) _ c.column-i.ensures.0 _ c.place-c.ensures _ c.buffered-p.ensures
+stretch_of-t-requires-clause-bounds c = let l = c.loop-j in column_known c.args.unit c.args.seed (frame c.args.w c.args.h c.args.f c.args.buffer) c.args.widening c.args.most c.args.keys.now l.firsts l.ends l.invariant.2 c.pair_at-o.result (column_within _ _ _ c.args.tried.now.near c.is_inside.ensures c.if-is_inside.true) _ c.column-i.ensures.0 _ c.place-c.ensures _ c.buffered-p.ensures
 
 pub is_free-requires : goal.is_free-requires
-is_free-requires c = stretch_inside c.args.unit c.buffered-p.result _ _ _ _ _ c.requires.1 _ c.stretch_of-t.ensures
+is_free-requires c = stretch_inside c.args.unit c.buffered-p.result _ _ _ _ c.requires _ c.stretch_of-t.ensures
 
 pub returns-then-is_free : goal.returns-then-is_free
-returns-then-is_free c = first_hit _ _ _ _ _ _ _ _ _ _ c.loop-j-test.true c.pair_at-o.ensures c.is_inside.ensures c.if-is_inside.true _ _ _ c.place-c.ensures c.buffered-p.ensures (c.is_free.ensures ∙ stretch_free c.args.unit c.buffered-p.result _ _ _ _ _ c.requires.1 _ c.stretch_of-t.ensures) c.loop-j.invariant.4 c.if-is_free.true
-
-pub overflow_add-j : goal.overflow_add-j
-overflow_add-j c = omega (arith, c.loop-j-test.true, c.well_formed, c.ranges)
-
-pub loop-j-preserved-then-is_inside : goal.loop-j-preserved-then-is_inside
-loop-j-preserved-then-is_inside c =
-    let l = c.loop-j in (
-      omega (arith, c.loop-j-test.true),
-      simp length-set l.invariant.1,
-      simp length-set l.invariant.2,
-      column_more c.args.unit c.args.seed (frame c.args.w c.args.h c.args.f c.args.buffer) c.args.widening c.args.count c.args.most c.args.keys.now l.firsts l.ends l.invariant.3 c.pair_at-o.result (column_within _ _ _ c.requires.0 c.is_inside.ensures c.if-is_inside.true) _ c.column-i.ensures.0 _ c.place-c.ensures _ c.buffered-p.ensures _ c.stretch_of-t.ensures (omega (arith, c.column-i.ensures.1, l.invariant.1)) (omega (arith, c.column-i.ensures.1, l.invariant.2)),
-      first_miss _ _ _ _ _ _ _ _ _ _ c.loop-j-test.true c.pair_at-o.ensures c.is_inside.ensures c.if-is_inside.true _ _ _ c.place-c.ensures c.buffered-p.ensures (c.is_free.ensures ∙ stretch_free c.args.unit c.buffered-p.result _ _ _ _ _ c.requires.1 _ c.stretch_of-t.ensures) c.loop-j.invariant.4 c.if-is_free.false,
-    )
+returns-then-is_free c = first_hit _ _ _ _ _ _ _ _ _ _ c.loop-j-test.true c.pair_at-o.ensures c.is_inside.ensures c.if-is_inside.true _ _ _ c.place-c.ensures c.buffered-p.ensures (c.is_free.ensures ∙ stretch_free c.args.unit c.buffered-p.result _ _ _ _ c.requires _ c.stretch_of-t.ensures) c.loop-j.invariant.3 c.if-is_free.true
 
 pub loop-j-preserved : goal.loop-j-preserved
 loop-j-preserved c =
     let l = c.loop-j in
-    (omega (arith, c.loop-j-test.true), l.invariant.1, l.invariant.2, l.invariant.3, first_skip _ _ _ _ _ _ _ _ _ _ c.loop-j-test.true c.pair_at-o.ensures c.is_inside.ensures c.if-is_inside.false l.invariant.4)
+    elim c.if-is_inside.branch [
+      | then-is_inside+else-is_free w ↦ rw w.firsts-is (rw w.ends-is (
+        simp length-set l.invariant.0,
+        simp length-set l.invariant.1,
+        column_more c.args.unit c.args.seed (frame c.args.w c.args.h c.args.f c.args.buffer) c.args.widening c.args.most c.args.keys.now l.firsts l.ends l.invariant.2 c.pair_at-o.result (column_within _ _ _ c.args.tried.now.near c.is_inside.ensures w.if-is_inside.true) _ w.column-i.ensures.0 _ w.place-c.ensures _ w.buffered-p.ensures _ w.stretch_of-t.ensures (omega (arith, w.column-i.ensures.1, l.invariant.0)) (omega (arith, w.column-i.ensures.1, l.invariant.1)),
+        first_miss _ _ _ _ _ _ _ _ _ _ c.loop-j-test.true c.pair_at-o.ensures c.is_inside.ensures w.if-is_inside.true _ _ _ w.place-c.ensures w.buffered-p.ensures (w.is_free.ensures ∙ stretch_free c.args.unit w.buffered-p.result _ _ _ _ c.requires _ w.stretch_of-t.ensures) l.invariant.3 w.if-is_free.false,
+      ))
+      | else-is_inside w ↦ rw w.firsts-is (rw w.ends-is (l.invariant.0, l.invariant.1, l.invariant.2, first_skip _ _ _ _ _ _ _ _ _ _ c.loop-j-test.true c.pair_at-o.ensures c.is_inside.ensures w.if-is_inside.false l.invariant.3))
+    ]
 
 pub returns : goal.returns
-returns c = first_end _ _ _ _ _ _ _ _ c.loop-j-test.false c.loop-j.invariant.4
+returns c = first_end _ _ _ _ _ _ _ _ c.loop-j-test.false c.loop-j.invariant.3

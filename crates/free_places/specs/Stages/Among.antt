@@ -1,5 +1,5 @@
 -- How the lent work lists hold the boxes that a search passes. Definitions only.
-use Rattle.std.specs.Prelude.{ℕ, ◌+◌, ◌-◌, ◌*◌, ◌≤◌, ◌<◌, List, map, ℤ, length, take, drop, Float}
+use Rattle.std.specs.Prelude.{ℕ, ◌+◌, ◌-◌, ◌*◌, ◌<◌, List, map, ℤ, length, take, drop, Float}
 use Rattle.geometry.specs.declared.Box.{Box}
 use Rattle.geometry.specs.Plane.{box_at}
 use Rattle.order.proofs.Laws.{All}
@@ -15,9 +15,9 @@ half a b = record { w = a; h = b }
 abbrev pub frame : Float → Float → Float → Float → Frame
 frame a b c d = record { half = half a b; f = c; buffer = d }
 
--- the boxes of the first n stations of a list
-abbrev pub kept_boxes : List Float → ℕ → List ℕ → List Box
-kept_boxes boxes n sorted = map (box_at boxes) (take n sorted)
+-- the boxes of a list of stations
+abbrev pub kept_boxes : List Float → List ℕ → List Box
+kept_boxes boxes sorted = map (box_at boxes) sorted
 
 -- the boxes of a stretch of a list's stations
 abbrev pub boxes_among : List Float → ℕ → ℕ → List ℕ → List Box
@@ -28,9 +28,7 @@ unfoldable pub column_of : ℤ → ℕ
 unfolding shifted
 column_of a = shifted a - 4503599627370476
 
--- The boxes of n stations are kept by their left cells: `box_order` says how. Each of them stands in the list of boxes.
-pub record Holds (unit : Float) (boxes : List Float) (n most : ℕ) (keys sorted : List ℕ) : Type 0 where
-  pub kept : Kept unit boxes n most keys sorted
-  pub keyed : n ≤ length keys
-  pub listed : n ≤ length sorted
-  pub inside : All (λ s. 4 * s + 3 < length boxes) (take n sorted)
+-- The boxes of stations are kept by their left cells: `box_order` says how. Each of them stands in the list of boxes.
+pub record Holds (unit : Float) (boxes : List Float) (most : ℕ) (keys sorted : List ℕ) : Type 0 where
+  pub kept : Kept unit boxes most keys sorted
+  pub inside : All (λ s. 4 * s + 3 < length boxes) sorted

@@ -6,4 +6,4 @@ use Rattle.mesh.proofs.edges_ok.Goals as goal
 
 pub returns : goal.returns
 unfolding edges_ok
-returns c = all_to_ran (edge_ok c.args.corners.now c.args.twins.now c.args.n) c.all.ensures.ran refl (λ x b q k. search rules)
+returns c = all_to_ran (edge_ok c.args.mesh.now.corners.now c.args.mesh.now.twins.now c.args.n) c.all.ensures.ran refl (λ x b q k. search rules)

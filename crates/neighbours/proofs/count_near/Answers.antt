@@ -25,4 +25,4 @@ loop-j-preserved c =
 
 pub returns : goal.returns
 unfolding within
-returns c = let e : c.loop-j.j ≡ c.args.n = omega arith in rw (← e) c.loop-j.invariant.1
+returns c = let e : c.loop-j.j ≡ c.args.points.now.n = omega arith in rw (← e) c.loop-j.invariant.1

@@ -6,4 +6,4 @@ use Rattle.proximity.specs.Near.{near}
 use Rattle.neighbours.proofs.count_near.Given as goal
 
 abbrev pub invariant-loop-j : goal.invariant-loop-j
-invariant-loop-j l = (l.count ≤ l.j) × (l.count ≡ how_many (near l.points l.radius l.i) l.j)
+invariant-loop-j l = (l.count ≤ l.j) × (l.count ≡ how_many (near l.points.xy.now l.radius l.i) l.j)

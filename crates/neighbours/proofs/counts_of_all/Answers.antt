@@ -11,7 +11,7 @@ pub loop-i-init : goal.loop-i-init
 loop-i-init c = fill_none _ _
 
 pub overflow_cast-counts : goal.overflow_cast-counts
-overflow_cast-counts c = omega (arith, c.count_within.ensures, neighbours_le c.args.points.now c.args.n c.args.radius c.loop-i.i, c.requires)
+overflow_cast-counts c = omega (arith, c.count_within.ensures, neighbours_le c.args.points.now.xy.now c.args.points.now.n c.args.radius c.loop-i.i, c.requires)
 
 pub loop-i-preserved : goal.loop-i-preserved
 loop-i-preserved c = let v = c.loop-i.invariant in

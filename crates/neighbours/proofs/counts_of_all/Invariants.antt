@@ -8,4 +8,4 @@ use Rattle.proximity.specs.Near.{neighbours}
 use Rattle.neighbours.proofs.counts_of_all.Given as goal
 
 abbrev pub invariant-loop-i : goal.invariant-loop-i
-invariant-loop-i l = (l.counts ≡ table (neighbours l.points l.n l.radius) l.i ++ drop l.i l.initial.counts)
+invariant-loop-i l = (l.counts ≡ table (neighbours l.points.xy.now l.points.n l.radius) l.i ++ drop l.i l.initial.counts)

@@ -19,4 +19,4 @@ loop-j-preserved c =
 
 pub returns : goal.returns
 unfolding nearest
-returns c = let e : c.loop-j.j ≡ c.args.n = omega arith in rw (← e) c.loop-j.invariant
+returns c = let e : c.loop-j.j ≡ c.args.points.now.n = omega arith in rw (← e) c.loop-j.invariant

@@ -8,4 +8,4 @@ use Rattle.proximity.specs.Near.{nearest}
 use Rattle.neighbours.proofs.nearest_of_all.Given as goal
 
 abbrev pub invariant-loop-i : goal.invariant-loop-i
-invariant-loop-i l = (l.out ≡ table (nearest l.points l.n) l.i ++ drop l.i l.initial.out)
+invariant-loop-i l = (l.out ≡ table (nearest l.points.xy.now l.points.n) l.i ++ drop l.i l.initial.out)

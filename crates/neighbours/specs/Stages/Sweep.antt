@@ -1,7 +1,7 @@
 -- The points in the order of their x, and what a scan along it has found so far. Definitions only.
 use Rattle.std.specs.Prelude.{◌≡◌, ◌⊎◌, Bool, true, false, List, ℕ, ◌+◌, ◌*◌, ◌≤◌, ◌<◌, T, get_or, take, Float}
-use Rattle.std.specs.Float.{nan, inf}
-use Rattle.std.specs.Float.Ieee.{lt, le}
+use Rattle.std.specs.Float.{nan, inf, binary64}
+use Rattle.std.specs.Float.Ieee.{fits, lt, le}
 use Rattle.float.specs.Small.{is_finite}
 use Rattle.float.specs.Hypot.{hypot_of}
 use Rattle.float.specs.Ops.{◌⊖◌, f0, order_key}
@@ -15,14 +15,18 @@ x_at ps j = get_or ps (2 * j) nan
 pub record Numbered (ps : List Float) (n : ℕ) (ks o : List ℕ) : Type 0 where
   pub listed : take n o ≡ up_from 0 n
   pub finite : (j : ℕ) → j < n → is_finite (x_at ps j) ≡ true
+  pub formed : (j : ℕ) → j < n → T (fits binary64 (x_at ps j))
   pub keyed : (j : ℕ) → j < n → key_at ks j ≡ order_key (x_at ps j)
+
+-- the order key of the x of point j
+abbrev pub x_key : List Float → ℕ → ℕ
+x_key ps j = order_key (x_at ps j)
 
 -- the x of the first n points are finite, and o leads with their numbers by rising x
 pub record Swept (ps : List Float) (n : ℕ) (o : List ℕ) : Type 0 where
-  pub key : ℕ → ℕ
-  pub listed : take n o ≡ sort_by key (up_from 0 n)
+  pub listed : take n o ≡ sort_by (x_key ps) (up_from 0 n)
   pub finite : (j : ℕ) → j < n → is_finite (x_at ps j) ≡ true
-  pub rising : (i j : ℕ) → i < n → j < n → key i ≤ key j → T (le (x_at ps i) (x_at ps j))
+  pub rising : (i j : ℕ) → i < n → j < n → x_key ps i ≤ x_key ps j → T (le (x_at ps i) (x_at ps j))
 
 -- the distance from (x, y) to the point at place q of the order o
 abbrev pub away : List Float → List ℕ → Float → Float → ℕ → Float

@@ -3,4 +3,4 @@ use Rattle.overlaps.proofs.Sweeps.{lefts_occupied}
 use Rattle.overlaps.proofs.by_left.Goals as goal
 
 pub returns-clause-lefts : goal.returns-clause-lefts
-returns-clause-lefts c = lefts_occupied _ _ _ _ _ _ _ _ c.type_inv.boxes c.requires.k_bound.3 c.requires.k_bound.2 c.left_keys.ensures c.list_occupied-n.ensures.value.0 c.list_occupied-n.ensures.order_after c.sort_part.ensures.order_after
+returns-clause-lefts c = lefts_occupied _ _ _ _ _ _ _ c.left_keys.ensures c.list_occupied-n.ensures.value.0 c.list_occupied-n.ensures.order_after c.sort_part.ensures.order_after

@@ -1,4 +1,5 @@
 -- Answers for `overlaps::left_keys`.
+use mathlib.Core.Path.{◌≡◌}
 use Prim.Native.Nat.{◌<◌}
 use native.Mathlib.Omega.{arith}
 use lib.ListN.{length}
@@ -6,6 +7,7 @@ use Rattle.float.specs.Ops.{order_key}
 use Rattle.float.proofs.Keys.{finite_no_nan}
 use Rattle.neighbours.proofs.Fills.{fill_none, fill_more}
 use Rattle.overlaps.specs.Stages.Sweep.{left_at}
+use Rattle.overlaps.proofs.Sweeps.{left_keyed}
 use Rattle.overlaps.proofs.left_keys.Goals as goal
 
 pub loop-s-init : goal.loop-s-init
@@ -17,3 +19,6 @@ order_key-requires c = finite_no_nan _ (c.requires.2.at _ (omega arith))
 pub loop-s-preserved : goal.loop-s-preserved
 loop-s-preserved c = let h : c.loop-s.s < length c.args.keys.now = omega arith in
     cc (c.order_key.ensures, c.loop-s.invariant, fill_more (λ t. order_key (left_at c.args.boxes.now t)) _ c.loop-s.s h)
+
+pub returns : goal.returns
+returns c = let e : c.loop-s.s ≡ c.args.k = omega arith in left_keyed _ _ c.type_inv.boxes c.requires.2 c.requires.0 _ _ (rw e at c.loop-s.invariant)

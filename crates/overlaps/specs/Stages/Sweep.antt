@@ -3,7 +3,7 @@ use Rattle.std.specs.Prelude.{◌≡◌, Bool, true, ◌&&◌, ◌||◌, List, [
 use Rattle.std.specs.Float.{nan}
 use Rattle.std.specs.Float.Ieee.{le}
 use Rattle.float.specs.Small.{is_finite}
-use Rattle.order.specs.Order.{count, sort_by}
+use Rattle.order.specs.Order.{key_at, count, sort_by}
 use Rattle.geometry.specs.declared.Box.{Box}
 use Rattle.geometry.specs.Plane.{shrunk}
 use Rattle.proximity.specs.Overlap.{overlap}
@@ -17,16 +17,20 @@ left_at boxes s = get_or boxes (4 * s) nan
 pub record Finite (l : List Float) : Type 0 where
   pub at : (i : ℕ) → i < length l → is_finite (get_or l i nan) ≡ true
 
--- o leads with n stations below k, whose left sides do not fall
-pub record Sorted (boxes : List Float) (k n : ℕ) (o : List ℕ) : Type 0 where
-  pub below : (q : ℕ) → q < n → get_or o q 0 < k
-  pub rising : (i j : ℕ) → i ≤ j → j < n → T (le (left_at boxes (get_or o i 0)) (left_at boxes (get_or o j 0)))
+-- of k boxes, one whose key is not above another's has its left side not right of the other's
+pub record Keyed (boxes : List Float) (k : ℕ) (ks : List ℕ) : Type 0 where
+  pub rising : (i j : ℕ) → i < k → j < k → key_at ks i ≤ key_at ks j → T (le (left_at boxes i) (left_at boxes j))
 
--- and they are the stations ss, sorted by a key
+-- o is a list of stations below k, whose left sides do not fall
+pub record Sorted (boxes : List Float) (k : ℕ) (o : List ℕ) : Type 0 where
+  pub below : (q : ℕ) → q < length o → get_or o q 0 < k
+  pub rising : (i j : ℕ) → i ≤ j → j < length o → T (le (left_at boxes (get_or o i 0)) (left_at boxes (get_or o j 0)))
+
+-- o leads with n stations: ss, sorted by a key, so that their left sides do not fall
 pub record Lefts (boxes : List Float) (k : ℕ) (ss : List ℕ) (n : ℕ) (o : List ℕ) : Type 0 where
   pub key : ℕ → ℕ
   pub listed : take n o ≡ sort_by key ss
-  pub sorted : Sorted boxes k n o
+  pub sorted : Sorted boxes k (take n o)
 
 -- the boxes p of station s and q of station t overlap, that of the higher number shrunk
 unfoldable pub paired : Box → Box → ℕ → ℕ → Bool

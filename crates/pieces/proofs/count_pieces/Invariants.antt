@@ -1,10 +1,6 @@
 -- What the loops of `pieces::count_pieces` keep.
-use Prim.Native.Nat.{◌-◌}
 use Rattle.pieces.proofs.Laws.{Counting}
 use Rattle.pieces.proofs.count_pieces.Given as goal
 
 abbrev pub invariant-loop-j : goal.invariant-loop-j
 invariant-loop-j l = Counting l.path l.c l.n l.j
-
-abbrev pub decreases-loop-j : goal.decreases-loop-j
-decreases-loop-j l = l.c - l.j

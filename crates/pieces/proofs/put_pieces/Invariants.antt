@@ -6,6 +6,3 @@ use Rattle.pieces.proofs.put_pieces.Given as goal
 
 abbrev pub invariant-loop-j : goal.invariant-loop-j
 invariant-loop-j l = Filling (piece_at l.e l.path) (l.c - 1) l.at l.initial.numbers l.numbers l.initial.branches l.branches l.k l.j
-
-abbrev pub decreases-loop-j : goal.decreases-loop-j
-decreases-loop-j l = l.c - l.j

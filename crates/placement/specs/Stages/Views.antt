@@ -27,8 +27,8 @@ frames_in M k l = frames M (scales_in k l) (sizes_in k l)
 -- and it is kept with them.
 pub record PlacedAs (M : Measures) (blocks : List Float) (os : List Offset) (s p wider : ℕ) (places₀ boxes₀ : List Float) (sorted₀ : List ℕ) (places boxes : List Float) (keys sorted : List ℕ) : Type 0 where
   pub at : Point
-  pub chosen : at ≡ place_for (point_at places₀ s) (frame_in M blocks s) (kept_boxes boxes₀ p sorted₀) os
+  pub chosen : at ≡ place_for (point_at places₀ s) (frame_in M blocks s) (kept_boxes boxes₀ (take p sorted₀)) os
   pub placed : places ≡ set (set places₀ (2 * s) at.x) (2 * s + 1) at.y
   pub boxed : boxes ≡ put_box boxes₀ s (box_on at (frame_in M blocks s).half)
-  pub kept : Kept M.unit boxes (suc p) wider keys sorted
+  pub kept : Kept M.unit boxes wider (take (suc p) keys) (take (suc p) sorted)
   pub listed : take (suc p) sorted ≡ put_in (by_cell M.unit (box_at boxes)) s (take p sorted₀)

@@ -9,9 +9,6 @@ use Rattle.ranking.proofs.walk.Goals.{then-s-k, else-s-k}
 pub loop-n-init : goal.loop-n-init
 loop-n-init c = walk_start _ _ _ _ _ _ (omega arith) (omega arith) (omega arith) c.requires.by_index.1
 
-pub bounds-of-x : goal.bounds-of-x
-bounds-of-x c = grind (arith, common_steps, c.requires.by_index.0 c.loop-n.n-index)
-
 pub overflow_add-stations : goal.overflow_add-stations
 overflow_add-stations c =
     let h : c.loop-n.n-index < c.args.c = omega (arith, length-take-le c.args.c c.args.sorted.now (omega arith)) in

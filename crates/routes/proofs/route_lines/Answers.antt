@@ -6,7 +6,7 @@ use Rattle.routes.proofs.Scenes.{order_rises, order_below, routes_used, routes_u
 use Rattle.routes.proofs.route_lines.Goals as goal
 
 pub clear_paths-requires : goal.clear_paths-requires
-clear_paths-requires c = (c.requires.from_len_bound.0, omega (arith, c.requires.corners_in_bounds.0))
+clear_paths-requires c = omega (arith, c.requires.corners_in_bounds.0)
 
 pub shape_of-stations-then-not-mesh_used : goal.shape_of-stations-then-not-mesh_used
 shape_of-stations-then-not-mesh_used c = c.occupied_corners-c.auto.stations
@@ -21,7 +21,7 @@ pub returns-then-not-mesh_used : goal.returns-then-not-mesh_used
 returns-then-not-mesh_used c = routes_unused _ _ _ _ _ _ _ _ _ _ c.occupied_corners-c.ensures.stations_unchanged _ _ c.occupied_corners-c.ensures.value c.mesh_used.ensures (test_off _ c.if-not-mesh_used.true-raw) c.clear_paths.ensures
 
 pub route_used-requires-clause-from_len_bound : goal.route_used-requires-clause-from_len_bound
-route_used-requires-clause-from_len_bound c = (c.requires.from_len_bound.0, omega (arith, c.occupied_corners-c.ensures.upper_bound, c.requires.from_len_bound.1), c.requires.from_len_bound.4, omega (arith, c.occupied_corners-c.ensures.upper_bound, c.requires.from_len_bound.5, c.occupied_corners-c.auto.path), c.requires.from_len_bound.6, c.requires.from_len_bound.7)
+route_used-requires-clause-from_len_bound c = (c.requires.from_len_bound.3, omega (arith, c.occupied_corners-c.ensures.upper_bound, c.requires.from_len_bound.4, c.occupied_corners-c.auto.path), c.requires.from_len_bound.5)
 
 pub route_used-requires-clause-room_in_bounds : goal.route_used-requires-clause-room_in_bounds
 route_used-requires-clause-room_in_bounds c = c.requires.room_in_bounds
@@ -29,8 +29,8 @@ route_used-requires-clause-room_in_bounds c = c.requires.room_in_bounds
 pub route_used-requires-clause-corners_in_bounds : goal.route_used-requires-clause-corners_in_bounds
 route_used-requires-clause-corners_in_bounds c = c.requires.corners_in_bounds
 
-pub route_used-requires-clause-rising : goal.route_used-requires-clause-rising
-route_used-requires-clause-rising c = order_rises _ _ _ _ c.occupied_corners-c.ensures.stations_after
+pub invariant_of-vertices-clause-rising : goal.invariant_of-vertices-clause-rising
+invariant_of-vertices-clause-rising c = order_rises _ _ _ _ c.occupied_corners-c.ensures.stations_after
 
 pub route_used-requires-clause-by_index : goal.route_used-requires-clause-by_index
 route_used-requires-clause-by_index c = order_below _ _ _ _ c.occupied_corners-c.ensures.value c.occupied_corners-c.ensures.stations_after

@@ -9,15 +9,15 @@ use Rattle.rows.proofs.entry_key.Goals as goal
 
 pub returns-in-Undrawn : goal.returns-in-Undrawn
 unfolding end_key
-returns-in-Undrawn c = by_kind (end_key c.args.sub.now (points_in (station_count c.args.sub.now) c.args.places.now)) c.args.x _ _ _ _ _ c.kind_of.ensures.value c.in-Undrawn.is refl refl
+returns-in-Undrawn c = by_kind (end_key c.args.net.now.sub.now (points_in (station_count c.args.net.now.sub.now) c.args.places.now)) c.args.x _ _ _ _ _ c.kind_of.ensures.value c.in-Undrawn.is refl refl
 
 pub returns-in-Open : goal.returns-in-Open
 unfolding end_key
-returns-in-Open c = by_kind (end_key c.args.sub.now (points_in (station_count c.args.sub.now) c.args.places.now)) c.args.x _ _ _ _ _ c.kind_of.ensures.value c.in-Open.is refl refl
+returns-in-Open c = by_kind (end_key c.args.net.now.sub.now (points_in (station_count c.args.net.now.sub.now) c.args.places.now)) c.args.x _ _ _ _ _ c.kind_of.ensures.value c.in-Open.is refl refl
 
 pub returns-in-Internal : goal.returns-in-Internal
 unfolding end_key
-returns-in-Internal c = by_kind (end_key c.args.sub.now (points_in (station_count c.args.sub.now) c.args.places.now)) c.args.x _ _ _ _ _ c.kind_of.ensures.value c.in-Internal.is refl refl
+returns-in-Internal c = by_kind (end_key c.args.net.now.sub.now (points_in (station_count c.args.net.now.sub.now) c.args.places.now)) c.args.x _ _ _ _ _ c.kind_of.ensures.value c.in-Internal.is refl refl
 
 pub seed_key-requires : goal.seed_key-requires
 seed_key-requires c =
@@ -26,7 +26,7 @@ seed_key-requires c =
 pub returns-then-x-eq0 : goal.returns-then-x-eq0
 unfolding end_key
 returns-then-x-eq0 c =
-    by_kind (end_key c.args.sub.now (points_in (station_count c.args.sub.now) c.args.places.now)) c.args.x _ _ _ _ _ c.kind_of.ensures.value c.in-Line.is (from_side _ c.if-x-eq0.true)
+    by_kind (end_key c.args.net.now.sub.now (points_in (station_count c.args.net.now.sub.now) c.args.places.now)) c.args.x _ _ _ _ _ c.kind_of.ensures.value c.in-Line.is (from_side _ c.if-x-eq0.true)
     (seed_at _ _ _ _ _ (line_buses _ _ _ _ c.kind_of.ensures.safe c.in-Line.is).1 c.station_of.ensures.value c.seed_key.ensures)
 
 pub seed_key-requires-in-Line : goal.seed_key-requires-in-Line
@@ -36,5 +36,5 @@ seed_key-requires-in-Line c =
 pub returns-in-Line : goal.returns-in-Line
 unfolding end_key
 returns-in-Line c =
-    by_kind (end_key c.args.sub.now (points_in (station_count c.args.sub.now) c.args.places.now)) c.args.x _ _ _ _ _ c.kind_of.ensures.value c.in-Line.is (to_side _ c.if-x-eq0.false)
+    by_kind (end_key c.args.net.now.sub.now (points_in (station_count c.args.net.now.sub.now) c.args.places.now)) c.args.x _ _ _ _ _ c.kind_of.ensures.value c.in-Line.is (to_side _ c.if-x-eq0.false)
     (seed_at _ _ _ _ _ (line_buses _ _ _ _ c.kind_of.ensures.safe c.in-Line.is).0 c.station_of-in-Line.ensures.value c.seed_key-in-Line.ensures)

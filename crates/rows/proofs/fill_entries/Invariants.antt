@@ -9,6 +9,6 @@ use Rattle.rows.specs.Stages.Entry.{entry_station, entry_key}
 use Rattle.rows.proofs.fill_entries.Given as goal
 
 abbrev pub invariant-loop-x : goal.invariant-loop-x
-invariant-loop-x l = (l.x ≤ l.c) × (l.c ≡ 2 * length l.from) × (length l.keys ≡ length l.initial.keys) × (length l.own ≡ length l.initial.own)
-    × (take l.x l.keys ≡ table (entry_key l.sub (points_in (station_count l.sub) l.places) (kinds l.sub l.from l.to l.service)) l.x)
-    × (take l.x l.own ≡ table (entry_station l.sub (kinds l.sub l.from l.to l.service)) l.x)
+invariant-loop-x l = (l.x ≤ l.c) × (l.c ≡ 2 * length l.net.from.now) × (length l.keys ≡ length l.initial.keys) × (length l.own ≡ length l.initial.own)
+    × (take l.x l.keys ≡ table (entry_key l.net.sub.now (points_in (station_count l.net.sub.now) l.places) (kinds l.net.sub.now l.net.from.now l.net.to.now l.net.service.now)) l.x)
+    × (take l.x l.own ≡ table (entry_station l.net.sub.now (kinds l.net.sub.now l.net.from.now l.net.to.now l.net.service.now)) l.x)

@@ -8,5 +8,5 @@ use Rattle.rows.specs.Stages.Entry.{to_entry}
 use Rattle.rows.proofs.put_rows.Given as goal
 
 abbrev pub invariant-loop-e : goal.invariant-loop-e
-invariant-loop-e l = (l.e ≤ l.m) × (l.m ≡ length l.from) × (length l.ends ≡ length l.initial.ends) × (strided 4 0 0 l.e l.ends ≡ table (λ e. get_or l.rows (2 * e) 0) l.e)
-    × (strided 4 1 0 l.e l.ends ≡ table (λ e. get_or l.rows (to_entry (kind_of l.sub l.from l.to l.service e) e) 0) l.e)
+invariant-loop-e l = (l.e ≤ l.m) × (l.m ≡ length l.net.from.now) × (length l.ends ≡ length l.initial.ends) × (strided 4 0 0 l.e l.ends ≡ table (λ e. get_or l.rows (2 * e) 0) l.e)
+    × (strided 4 1 0 l.e l.ends ≡ table (λ e. get_or l.rows (to_entry (kind_of l.net.sub.now l.net.from.now l.net.to.now l.net.service.now e) e) 0) l.e)

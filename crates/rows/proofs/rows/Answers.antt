@@ -1,15 +1,7 @@
 -- Answers for `rows::rows`.
-use mathlib.Core.Path.{◌≡◌, ◌∙◌}
-use native.Mathlib.Omega.{arith}
-use lib.ListN.{length}
+use mathlib.Core.Path.{◌∙◌}
 use Rattle.rows.proofs.Rowing.{from_rows_end, to_rows_end, rows_in_end}
 use Rattle.rows.proofs.rows.Goals as goal
-
-pub put_rows-requires : goal.put_rows-requires
-put_rows-requires c =
-    let e : length c.rank_in_stations.new.places ≡ length c.args.spare.now = c.rank_in_stations.auto.places in
-    let f : length c.fill_entries.new.own ≡ length c.args.ends.now = c.fill_entries.auto.own in
-    (omega (arith, c.requires), omega (arith, c.requires, e), omega (arith, c.requires, f))
 
 pub returns-clause-ends_after : goal.returns-clause-ends_after
 returns-clause-ends_after c = c.put_rows.ensures.ends_after ∙ from_rows_end _ _ _ _ _ _ c.requires.k_value.0 c.requires.k_value.1 _ _ _ c.fill_entries.ensures.keys_after c.fill_entries.ensures.own_after c.rank_in_stations.ensures.places_after
@@ -19,6 +11,3 @@ returns-clause-ends_after_2 c = c.put_rows.ensures.ends_after_2 ∙ to_rows_end 
 
 pub returns-clause-stations_after : goal.returns-clause-stations_after
 returns-clause-stations_after c = c.rank_in_stations.ensures.stations_after ∙ rows_in_end _ _ _ _ _ _ c.requires.k_value.0 c.requires.k_value.1 _ _ _ c.fill_entries.ensures.keys_after c.fill_entries.ensures.own_after c.rank_in_stations.ensures.places_after
-
-pub returns-clause-stations_unchanged : goal.returns-clause-stations_unchanged
-returns-clause-stations_unchanged c = c.rank_in_stations.ensures.stations_unchanged

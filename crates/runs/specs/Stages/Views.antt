@@ -9,7 +9,6 @@ use Rattle.network.specs.declared.words.Kind.TheVariants.{Undrawn, Open, Interna
 use Rattle.network.specs.Words.{station_of, occupied}
 use Rattle.network.specs.Views.{counts_in, points_in, boxes_in}
 use Rattle.detour.specs.Detour.{detour}
-use Rattle.grid.specs.Stages.Cells.{Indexed}
 use Rattle.detour.specs.Stages.Paths.{path_in}
 use Rattle.measures.specs.declared.Measures.{Measures}
 use Rattle.bars.specs.declared.Bar.{Bar}
@@ -122,11 +121,6 @@ HasRoom n path = 2 * (n + 8) ≤ length path
 
 abbrev pub Fits : List ℕ → List Float → ℕ → Type 0
 Fits ends path e = HasRoom (way_count ends e) path × (way_of ends e + way_count ends e < 2 ^ 31)
-
--- the lists of k stations are as long as leading needs, and the index enters their boxes, or none
-abbrev pub Stands : ℕ → List ℕ → List Float → List ℕ → Type 0
-Stands k stations frames index =
-    (2 * k ≤ length stations) × (4 * k ≤ length frames) × (k ≤ 4096) × Indexed (boxes_in k frames) (occupied (counts_in k stations)) index
 
 -- a list holds these points and no more than so many are asked for
 pub record Ran (r : ℕ) (path : List Float) (points : List Point) : Type 0 where

@@ -12,29 +12,20 @@ use Rattle.scales.proofs.Scaled.{passed_below, counts_front, count_at, scales_st
 use Rattle.scales.proofs.scales.Goals as goal
 use Rattle.scales.proofs.scales.Goals.{then-stations-s-gt0, else-stations-s-gt0}
 
-pub neighbour_counts-requires : goal.neighbour_counts-requires
-neighbour_counts-requires c = (c.requires.4, c.requires.2, c.requires.7, c.requires.5, c.requires.6)
-
 pub loop-s-init : goal.loop-s-init
-loop-s-init c = (omega arith, refl, omega arith, sym (how_many_zero _), scales_start _ _ _ _ _ _ _, refl, omega (arith, c.requires.7, c.neighbour_counts.auto.counts), counts_front (neighbours c.args.path.now c.args.n (c.args.o.tier_radius ⊗ c.args.spacing)) c.args.n _ _ c.neighbour_counts.ensures)
+loop-s-init c = (omega arith, refl, omega arith, sym (how_many_zero _), scales_start _ _ _ _ _ _ _, refl, omega (arith, c.requires.5, c.neighbour_counts.auto.counts), counts_front (neighbours c.args.points.now.xy.now c.args.points.now.n (c.args.o.tier_radius ⊗ c.args.spacing)) c.args.points.now.n _ _ c.neighbour_counts.ensures)
 
 pub bounds-spare-j : goal.bounds-spare-j
-bounds-spare-j c = let h : c.loop-s.s < c.args.k = c.loop-s-test.true in omega (arith, passed_below c.args.k c.args.stations.now c.loop-s.s c.loop-s.j c.args.n h c.if-stations-s-gt0.true c.loop-s.invariant.3 c.requires.0, c.loop-s.invariant.6)
-
-pub overflow_cast-spare : goal.overflow_cast-spare
-overflow_cast-spare c = omega (arith, c.slice_known-then-stations-s-gt0-1.given c.loop-s.j)
-
-pub offset_bounds-blocks-s : goal.offset_bounds-blocks-s
-offset_bounds-blocks-s c = omega (arith, c.well_formed.1.1.1.1.1.1.0, c.requires.3, c.loop-s-test.true)
+bounds-spare-j c = let h : c.loop-s.s < c.args.stations.now.k = c.loop-s-test.true in omega (arith, passed_below c.args.stations.now.k c.args.stations.now.counts.now c.loop-s.s c.loop-s.j c.args.points.now.n h c.if-stations-s-gt0.true c.loop-s.invariant.3 c.requires.0, c.loop-s.invariant.6)
 
 pub loop-s-preserved : goal.loop-s-preserved
 loop-s-preserved c =
     elim c.if-stations-s-gt0.branch [
       | then-stations-s-gt0 w ↦ rw w.blocks-is (rw w.j-is (let v = c.loop-s.invariant in
-          let h : c.loop-s.s < c.args.k = c.loop-s-test.true in
-          let l : 3 * c.args.k ≤ length c.loop-s.blocks = omega (arith, v.1, c.requires.3) in
+          let h : c.loop-s.s < c.args.stations.now.k = c.loop-s-test.true in
+          let l : 3 * c.args.stations.now.k ≤ length c.loop-s.blocks = omega (arith, v.1, c.requires.1) in
           let g = w.if-stations-s-gt0.true in
-          let e = count_at (neighbours c.args.path.now c.args.n (c.args.o.tier_radius ⊗ c.args.spacing)) c.args.n _ c.loop-s.j v.7 (passed_below c.args.k c.args.stations.now c.loop-s.s c.loop-s.j c.args.n h w.if-stations-s-gt0.true c.loop-s.invariant.3 c.requires.0) in (
+          let e = count_at (neighbours c.args.points.now.xy.now c.args.points.now.n (c.args.o.tier_radius ⊗ c.args.spacing)) c.args.points.now.n _ c.loop-s.j v.7 (passed_below c.args.stations.now.k c.args.stations.now.counts.now c.loop-s.s c.loop-s.j c.args.points.now.n h w.if-stations-s-gt0.true c.loop-s.invariant.3 c.requires.0) in (
             omega arith,
             simp length-set v.1,
             omega arith,
@@ -45,8 +36,8 @@ loop-s-preserved c =
             v.7,
           )))
       | else-stations-s-gt0 w ↦ rw w.blocks-is (rw w.j-is (let v = c.loop-s.invariant in
-          let h : c.loop-s.s < c.args.k = c.loop-s-test.true in
-          let l : 3 * c.args.k ≤ length c.loop-s.blocks = omega (arith, v.1, c.requires.3) in
+          let h : c.loop-s.s < c.args.stations.now.k = c.loop-s-test.true in
+          let l : 3 * c.args.stations.now.k ≤ length c.loop-s.blocks = omega (arith, v.1, c.requires.1) in
           let g = w.if-stations-s-gt0.false in (
             omega arith,
             simp length-set v.1,
@@ -59,11 +50,5 @@ loop-s-preserved c =
           )))
     ]
 
-pub offset_bounds-blocks-s-else-stations-s-gt0 : goal.offset_bounds-blocks-s-else-stations-s-gt0
-offset_bounds-blocks-s-else-stations-s-gt0 c = omega (arith, c.well_formed.1.1.1.1.1.1.0, c.requires.3, c.loop-s-test.true)
-
 pub returns-clause-blocks_after : goal.returns-clause-blocks_after
-returns-clause-blocks_after c = let v = c.loop-s.invariant in let e : c.loop-s.s ≡ c.args.k = omega arith in cc (e, v.4, scales_end c.args.o c.args.path.now c.args.n c.args.spacing c.args.k c.args.stations.now)
-
-pub returns-clause-blocks_unchanged : goal.returns-clause-blocks_unchanged
-returns-clause-blocks_unchanged c = let v = c.loop-s.invariant in let e : c.loop-s.s ≡ c.args.k = omega arith in v.5
+returns-clause-blocks_after c = let v = c.loop-s.invariant in let e : c.loop-s.s ≡ c.args.stations.now.k = omega arith in cc (e, v.4, scales_end c.args.o c.args.points.now.xy.now c.args.points.now.n c.args.spacing c.args.stations.now.k c.args.stations.now.counts.now)

@@ -11,4 +11,4 @@ use Rattle.scales.proofs.Scaled.{scaled}
 use Rattle.scales.proofs.scales.Given as goal
 
 abbrev pub invariant-loop-s : goal.invariant-loop-s
-invariant-loop-s l = (l.s ≤ l.k) × (length l.blocks ≡ length l.initial.blocks) × (l.j ≤ l.s) × (l.j ≡ passed_count l.k l.stations l.s) × (scales_in l.s l.blocks ≡ scaled l.o l.path l.n (l.o.tier_radius ⊗ l.spacing) l.k l.stations l.s) × (sizes_in l.k l.blocks ≡ sizes_in l.k l.initial.blocks) × (l.n ≤ length l.spare) × (take l.n l.spare ≡ table (neighbours l.path l.n (l.o.tier_radius ⊗ l.spacing)) l.n)
+invariant-loop-s l = (l.s ≤ l.stations.k) × (length l.blocks ≡ length l.initial.blocks) × (l.j ≤ l.s) × (l.j ≡ passed_count l.stations.k l.stations.counts.now l.s) × (scales_in l.s l.blocks ≡ scaled l.o l.points.xy.now l.points.n (l.o.tier_radius ⊗ l.spacing) l.stations.k l.stations.counts.now l.s) × (sizes_in l.stations.k l.blocks ≡ sizes_in l.stations.k l.initial.blocks) × (l.points.n ≤ length l.spare) × (take l.points.n l.spare ≡ table (neighbours l.points.xy.now l.points.n (l.o.tier_radius ⊗ l.spacing)) l.points.n)

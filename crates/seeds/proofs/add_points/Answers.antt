@@ -14,6 +14,3 @@ put_point-requires c = omega (arith, station_below c.args.sub.now c.loop-i.i c.l
 
 pub loop-i-preserved : goal.loop-i-preserved
 loop-i-preserved c = (omega arith, omega (arith, c.put_point.auto.list), summed_more _ _ _ _ _ _ _ _ _ (omega arith) c.station_of-s.ensures.value (omega (arith, station_below c.args.sub.now c.loop-i.i c.loop-i-test.true)) c.point_at-p.ensures c.bus_point-q.ensures c.put_point.ensures c.loop-i.invariant.2)
-
-pub returns : goal.returns
-returns c = let e : c.loop-i.i ≡ length c.args.sub.now = omega arith in summed_all _ _ _ _ _ e c.loop-i.invariant.2

@@ -9,6 +9,3 @@ loop-s-init c = (omega arith, refl, zeroed_none _)
 
 pub loop-s-preserved : goal.loop-s-preserved
 loop-s-preserved c = (omega arith, omega (arith, c.put_point.auto.list), zeroed_more _ _ _ (omega arith) c.put_point.ensures c.loop-s.invariant.2)
-
-pub returns : goal.returns
-returns c = let e : c.loop-s.s ≡ c.args.k = omega arith in rw (← e) c.loop-s.invariant.2

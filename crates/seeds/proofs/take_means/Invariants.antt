@@ -6,4 +6,4 @@ use Rattle.seeds.proofs.Seeding.{Divided}
 use Rattle.seeds.proofs.take_means.Given as goal
 
 abbrev pub invariant-loop-s : goal.invariant-loop-s
-invariant-loop-s l = (l.s ≤ l.k) × (length l.places ≡ length l.initial.places) × Divided l.stations l.initial.places l.s l.places
+invariant-loop-s l = (l.s ≤ l.stations.k) × (length l.places ≡ length l.initial.places) × Divided l.stations.counts.now l.initial.places l.s l.places

@@ -9,4 +9,4 @@ use Rattle.network.proofs.Rest.{onward}
 use Rattle.sized.proofs.largest.Given as goal
 
 abbrev pub invariant-loop-s : goal.invariant-loop-s
-invariant-loop-s l = (l.s ≤ l.k) × (Sized.largest (boxes_in l.k l.frames) l.l (onward l.k l.stations l.s) ≡ Sized.largest (boxes_in l.k l.frames) f0 (occupied (counts_in l.k l.stations)))
+invariant-loop-s l = (l.s ≤ l.placed.k) × (Sized.largest (boxes_in l.placed.k l.placed.frames.now) l.l (onward l.placed.k l.placed.stations.now l.s) ≡ Sized.largest (boxes_in l.placed.k l.placed.frames.now) f0 (occupied (counts_in l.placed.k l.placed.stations.now)))

@@ -10,18 +10,13 @@ use Rattle.sizes.proofs.sizes.Goals as goal
 pub loop-s-init : goal.loop-s-init
 loop-s-init c = (omega arith, refl, sizes_start _ _ _ _)
 
-pub bounds-blocks-s-in-loop-s : goal.bounds-blocks-s-in-loop-s
-bounds-blocks-s-in-loop-s c =
-    let h : 3 * c.loop-s.s + 1 < length c.loop-s.blocks = omega arith in
-    lt-length-set c.loop-s.blocks (3 * c.loop-s.s) c.width.result h
-
 pub loop-s-preserved : goal.loop-s-preserved
 loop-s-preserved c =
-    let h : c.loop-s.s < c.args.k = omega arith in
-    let l : 3 * c.args.k ≤ length c.loop-s.blocks = omega arith in
-    (omega arith, simp length-set c.loop-s.invariant.1, sizes_step c.args.g c.args.k c.args.stations.now c.loop-s.s c.loop-s.blocks _ _ h l c.loop-s.invariant.2 c.width.ensures c.height.ensures)
+    let h : c.loop-s.s < c.args.stations.now.k = omega arith in
+    let l : 3 * c.args.stations.now.k ≤ length c.loop-s.blocks = omega arith in
+    (omega arith, simp length-set c.loop-s.invariant.1, sizes_step c.args.g c.args.stations.now.k c.args.stations.now.counts.now c.loop-s.s c.loop-s.blocks _ _ h l c.loop-s.invariant.2 c.width.ensures c.height.ensures)
 
 pub returns : goal.returns
 returns c =
-    let e : c.loop-s.s ≡ c.args.k = omega arith in
-    cc (e, c.loop-s.invariant.2, sizes_end c.args.g c.args.k c.args.stations.now)
+    let e : c.loop-s.s ≡ c.args.stations.now.k = omega arith in
+    cc (e, c.loop-s.invariant.2, sizes_end c.args.g c.args.stations.now.k c.args.stations.now.counts.now)

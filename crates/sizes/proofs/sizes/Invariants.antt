@@ -7,4 +7,4 @@ use Rattle.sizes.proofs.Blocks.{sized}
 use Rattle.sizes.proofs.sizes.Given as goal
 
 abbrev pub invariant-loop-s : goal.invariant-loop-s
-invariant-loop-s l = (l.s ≤ l.k) × (length l.blocks ≡ length l.initial.blocks) × (sizes_in l.s l.blocks ≡ sized l.g l.k l.stations l.s)
+invariant-loop-s l = (l.s ≤ l.stations.k) × (length l.blocks ≡ length l.initial.blocks) × (sizes_in l.s l.blocks ≡ sized l.g l.stations.k l.stations.counts.now l.s)

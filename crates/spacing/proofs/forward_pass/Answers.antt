@@ -4,9 +4,6 @@ use Rattle.spacing.specs.Space.{forward_all}
 use Rattle.spacing.proofs.Passes.{forth_start, forth_step, forth_end}
 use Rattle.spacing.proofs.forward_pass.Goals as goal
 
-pub loop-x-init : goal.loop-x-init
-loop-x-init c = forth_start _ _ _
-
 pub loop-x-preserved : goal.loop-x-preserved
 loop-x-preserved c = forth_step _ _ _ _ _ _ _ _ (omega arith) c.clamp-wish.ensures c.max-t.ensures c.loop-x.invariant
 

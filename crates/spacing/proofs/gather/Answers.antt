@@ -6,9 +6,6 @@ use Rattle.spacing.specs.Space.{wish_of, read_back}
 use Rattle.spacing.proofs.Filling.{fill_start, fill_step, fill_end}
 use Rattle.spacing.proofs.gather.Goals as goal
 
-pub loop-i-init : goal.loop-i-init
-loop-i-init c = fill_start _ _ _ (omega arith)
-
 pub loop-i-preserved : goal.loop-i-preserved
 loop-i-preserved c = fill_step _ _ _ (omega arith) _ _ _ _ (omega arith) (c.wish_of.ensures ∙ ap wish_of c.key_at.ensures) c.loop-i.invariant
 

@@ -12,11 +12,5 @@ use Rattle.spacing.proofs.space_all.Goals as goal
 pub returns-clause-wish_after : goal.returns-clause-wish_after
 returns-clause-wish_after c = let w : List Float = c.args.wish.now in let e : length c.args.order.now ≡ length w = omega (arith, c.requires) in let f : length c.args.spare.now ≡ length w = omega (arith, c.requires) in let numbered : c.number.new.list ≡ up_from 0 (length w) = cc c.number.ensures in let r = steps c.args.c w _ _ _ _ _ (λ i. c.slice_known-1.given i) c.wish_keys.ensures numbered c.sort_by_key.ensures.order_after c.gather.ensures c.place.ensures in r.1
 
-pub returns-clause-keys_after : goal.returns-clause-keys_after
-returns-clause-keys_after c = let w : List Float = c.args.wish.now in let e : length c.args.order.now ≡ length w = omega (arith, c.requires) in let f : length c.args.spare.now ≡ length w = omega (arith, c.requires) in let numbered : c.number.new.list ≡ up_from 0 (length w) = cc c.number.ensures in let r = steps c.args.c w _ _ _ _ _ (λ i. c.slice_known-1.given i) c.wish_keys.ensures numbered c.sort_by_key.ensures.order_after c.gather.ensures c.place.ensures in c.wish_keys.ensures
-
 pub returns-clause-order_after : goal.returns-clause-order_after
 returns-clause-order_after c = let w : List Float = c.args.wish.now in let e : length c.args.order.now ≡ length w = omega (arith, c.requires) in let f : length c.args.spare.now ≡ length w = omega (arith, c.requires) in let numbered : c.number.new.list ≡ up_from 0 (length w) = cc c.number.ensures in let r = steps c.args.c w _ _ _ _ _ (λ i. c.slice_known-1.given i) c.wish_keys.ensures numbered c.sort_by_key.ensures.order_after c.gather.ensures c.place.ensures in r.0
-
-pub returns-clause-spare_after : goal.returns-clause-spare_after
-returns-clause-spare_after c = let w : List Float = c.args.wish.now in let e : length c.args.order.now ≡ length w = omega (arith, c.requires) in let f : length c.args.spare.now ≡ length w = omega (arith, c.requires) in let numbered : c.number.new.list ≡ up_from 0 (length w) = cc c.number.ensures in let r = steps c.args.c w _ _ _ _ _ (λ i. c.slice_known-1.given i) c.wish_keys.ensures numbered c.sort_by_key.ensures.order_after c.gather.ensures c.place.ensures in c.sort_by_key.ensures.spare_after ∙ ap (λ (n : ℕ). replicate n 0) f

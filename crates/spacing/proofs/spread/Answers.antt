@@ -13,18 +13,9 @@ use Rattle.spacing.proofs.spread.Goals as goal
 pub loop-i-init : goal.loop-i-init
 loop-i-init c = fill_start _ _ _ (omega (arith, length_up 0 (c.args.last + 1)))
 
-pub bounds-list-i : goal.bounds-list-i
-bounds-list-i c = omega (arith, length_up 0 (c.args.last + 1))
-
 pub loop-i-preserved : goal.loop-i-preserved
 loop-i-preserved c =
     let n = c.args.last + 1 in
     let long : length (up_from 0 n) ≡ n = length_up 0 n in
     let h : c.loop-i.i < n = omega arith in
     fill_step _ _ _ (omega arith) _ _ _ 0 (omega arith) (c.even_at.ensures ∙ ap (even_at _ _) (sym (get_d_up 0 n c.loop-i.i h ∙ zero-add _))) c.loop-i.invariant
-
-pub shape_of-list : goal.shape_of-list
-shape_of-list c = omega (arith, length_up 0 (c.args.last + 1))
-
-pub returns : goal.returns
-returns c = fill_end _ _ _ (omega (arith, length_up 0 (c.args.last + 1))) _ _ (omega (arith, length_up 0 (c.args.last + 1))) c.loop-i.invariant

@@ -13,4 +13,4 @@ loop-e-preserved c = spanned_more _ _ _ _ _ _ _ _ _ c.loop-e-test.true c.include
 
 pub returns : goal.returns
 returns c =
-    let both = let e : c.loop-e.e ≡ length c.args.from.now = omega arith in spanned_all _ _ _ _ _ _ _ (rw e at c.loop-e.invariant) in record { buses_after = both.0; buses_unchanged = both.1 }
+    let both = let e : c.loop-e.e ≡ length c.args.net.now.from.now = omega arith in spanned_all _ _ _ _ _ _ _ (rw e at c.loop-e.invariant) in record { buses_after = both.0; buses_unchanged = both.1 }

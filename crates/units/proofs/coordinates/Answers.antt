@@ -15,26 +15,21 @@ use Rattle.units.proofs.coordinates.Goals.{then-stations-s-gt0, else-stations-s-
 pub loop-s-init : goal.loop-s-init
 loop-s-init c = (omega arith, refl, omega arith, sym (how_many_zero _), coordinates_none _ _ _)
 
-pub bounds-path-r-then-stations-s-gt0 : goal.bounds-path-r-then-stations-s-gt0
-bounds-path-r-then-stations-s-gt0 c =
-    let h : 2 * c.loop-s.r + 1 < length c.loop-s.path = omega arith in
-    lt-length-set c.loop-s.path (2 * c.loop-s.r) (get_or c.args.places.now (2 * c.loop-s.s) nan) h
-
 pub loop-s-preserved : goal.loop-s-preserved
 loop-s-preserved c =
     elim c.if-stations-s-gt0.branch [
       | then-stations-s-gt0 w ↦ rw w.path-is (rw w.r-is (let v = c.loop-s.invariant in
-          let h : c.loop-s.s < c.args.k = omega arith in
+          let h : c.loop-s.s < c.args.stations.now.k = omega arith in
           let l : 2 * c.loop-s.r + 1 < length c.loop-s.path = omega arith in
           let g = w.if-stations-s-gt0.true in
           (omega arith, simp length-set v.1, omega arith, count_yes _ _ _ h g _ v.3, coordinates_more _ _ _ h g _ _ _ l v.4)))
       | else-stations-s-gt0 w ↦ rw w.path-is (rw w.r-is (let v = c.loop-s.invariant in
-          let h : c.loop-s.s < c.args.k = omega arith in
+          let h : c.loop-s.s < c.args.stations.now.k = omega arith in
           (omega arith, v.1, omega arith, count_no _ _ _ h _ w.if-stations-s-gt0.false v.3, v.4 ∙ ap (coordinates _) (passed_no _ _ _ h w.if-stations-s-gt0.false))))
     ]
 
 pub returns-clause-path_after : goal.returns-clause-path_after
-returns-clause-path_after c = let v = c.loop-s.invariant in let e : c.loop-s.s ≡ c.args.k = omega arith in cc (e, v.4, passed_all c.args.k c.args.stations.now)
+returns-clause-path_after c = let v = c.loop-s.invariant in let e : c.loop-s.s ≡ c.args.stations.now.k = omega arith in cc (e, v.4, passed_all c.args.stations.now.k c.args.stations.now.counts.now)
 
 pub returns-clause-value : goal.returns-clause-value
-returns-clause-value c = let v = c.loop-s.invariant in let e : c.loop-s.s ≡ c.args.k = omega arith in cc (e, v.3, count_all c.args.k c.args.stations.now)
+returns-clause-value c = let v = c.loop-s.invariant in let e : c.loop-s.s ≡ c.args.stations.now.k = omega arith in cc (e, v.3, count_all c.args.stations.now.k c.args.stations.now.counts.now)

@@ -8,4 +8,4 @@ use Rattle.network.proofs.Occupied.{passed, passed_count}
 use Rattle.units.proofs.coordinates.Given as goal
 
 abbrev pub invariant-loop-s : goal.invariant-loop-s
-invariant-loop-s l = (l.s ≤ l.k) × (length l.path ≡ length l.initial.path) × (l.r ≤ l.s) × (l.r ≡ passed_count l.k l.stations l.s) × (take (2 * l.r) l.path ≡ coordinates (points_in l.k l.places) (passed l.k l.stations l.s))
+invariant-loop-s l = (l.s ≤ l.stations.k) × (length l.path ≡ length l.initial.path) × (l.r ≤ l.s) × (l.r ≡ passed_count l.stations.k l.stations.counts.now l.s) × (take (2 * l.r) l.path ≡ coordinates (points_in l.stations.k l.places) (passed l.stations.k l.stations.counts.now l.s))

@@ -4,4 +4,4 @@ use Rattle.units.proofs.typical.Goals as goal
 
 pub returns : goal.returns
 unfolding typical
-returns c = cc (c.max.ensures, c.median_of.ensures, c.sides-r.ensures.frames_after)
+returns c = cc (c.max.ensures, c.unwrap_or.ensures, c.median-median.ensures, c.sides-r.ensures.frames_after)

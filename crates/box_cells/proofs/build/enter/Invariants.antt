@@ -8,4 +8,4 @@ use Rattle.box_cells.proofs.Chaining.{Put}
 use Rattle.box_cells.proofs.build.enter.Given as goal
 
 abbrev pub invariant-loop-s : goal.invariant-loop-s
-invariant-loop-s l = (l.s ≤ l.k) × (length l.index ≡ length l.initial.index) × Put l.g (boxes_in l.k l.frames) l.k l.stations l.s l.index × SameGrid l.initial.index l.index
+invariant-loop-s l = (l.s ≤ l.placed.k) × (length l.index ≡ length l.initial.index) × Put l.g (boxes_in l.placed.k l.placed.frames.now) l.placed.k l.placed.stations.now l.s l.index × SameGrid l.initial.index l.index

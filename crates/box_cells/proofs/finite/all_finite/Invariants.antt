@@ -9,4 +9,4 @@ use Rattle.box_cells.proofs.Occupied.{Left}
 use Rattle.box_cells.proofs.finite.all_finite.Given as goal
 
 abbrev pub invariant-loop-s : goal.invariant-loop-s
-invariant-loop-s l = (l.s ≤ l.k) × Left l.k l.stations (λ s. finite_box (box_in (boxes_in l.k l.frames) s) ≡ true) l.s
+invariant-loop-s l = (l.s ≤ l.placed.k) × Left l.placed.k l.placed.stations.now (λ s. finite_box (box_in (boxes_in l.placed.k l.placed.frames.now) s) ≡ true) l.s

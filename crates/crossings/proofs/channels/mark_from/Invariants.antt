@@ -5,4 +5,4 @@ use Rattle.crossings.proofs.Marking.{Marking}
 use Rattle.crossings.proofs.channels.mark_from.Given as goal
 
 abbrev pub invariant-loop-p : goal.invariant-loop-p
-invariant-loop-p l = Marking l.corners l.m l.v l.w l.mark l.initial.ends l.ends l.p
+invariant-loop-p l = Marking l.turned.mesh.corners.now l.m l.v l.w l.mark l.initial.ends l.ends l.p

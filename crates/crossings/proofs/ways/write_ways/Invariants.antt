@@ -5,4 +5,4 @@ use Rattle.crossings.specs.Stages.Store.{way_of, Wayed}
 use Rattle.crossings.proofs.ways.write_ways.Given as goal
 
 abbrev pub invariant-loop-e : goal.invariant-loop-e
-invariant-loop-e l = Wayed (way_of l.sub l.from l.to l.service (order_in l.c l.stations)) (length l.from) l.e l.initial.ends l.ends
+invariant-loop-e l = Wayed (way_of l.net.sub.now l.net.from.now l.net.to.now l.net.service.now (order_in l.vertices.c l.vertices.stations.now)) (length l.net.from.now) l.e l.initial.ends l.ends

@@ -1,15 +1,19 @@
 -- Answers for `detour::path::detour`.
-use Rattle.detour.proofs.Turning.{first_turn, led_of}
+use native.Mathlib.Omega.{arith}
+use Rattle.detour.proofs.Turning.{leading_start, leading_spent, leading_end, passed, put}
 use Rattle.detour.proofs.path.detour.Goals as goal
 
-pub lead_round-requires-clause-k_in_bounds : goal.lead_round-requires-clause-k_in_bounds
-lead_round-requires-clause-k_in_bounds c = c.requires.k_in_bounds
+pub loop-left-init : goal.loop-left-init
+loop-left-init c = leading_start _ _ _ _ _ _ _ _
 
-pub lead_round-requires-clause-indexed : goal.lead_round-requires-clause-indexed
-lead_round-requires-clause-indexed c = c.requires.indexed
+pub loop-left-preserved-in-None : goal.loop-left-preserved-in-None
+loop-left-preserved-in-None c = passed _ _ _ _ _ _ _ _ _ _ _ _ c.loop-left.invariant c.loop-left-test.true c.if-i-n.true _ _ c.point_in-p.ensures c.point_in-q.ensures _ c.first_hit.ensures c.in-None.is
 
-pub lead_round-requires-clause-starts : goal.lead_round-requires-clause-starts
-lead_round-requires-clause-starts c = first_turn _ _ _ _ c.look_at-start.ensures c.requires.count_in_bounds
+pub loop-left-preserved : goal.loop-left-preserved
+loop-left-preserved c = put _ _ _ _ _ _ _ _ _ _ _ _ c.loop-left.invariant c.loop-left-test.true c.if-i-n.true _ _ c.point_in-p.ensures c.point_in-q.ensures _ c.first_hit.ensures _ _ _ _ c.in-Some.is c.box_in-f.ensures c.corner.ensures c.put_in.ensures c.put_in.auto.path
 
-pub returns : goal.returns
-returns c = led_of _ _ _ _ _ _ _ _ _ _ _ c.look_at-start.ensures.0 c.lead_round.ensures
+pub returns-else-i-n : goal.returns-else-i-n
+returns-else-i-n c = leading_end _ _ _ _ _ _ _ _ _ _ _ _ c.loop-left.invariant c.if-i-n.false
+
+pub returns-after-loop-left : goal.returns-after-loop-left
+returns-after-loop-left c = leading_spent _ _ _ _ _ _ _ _ _ _ _ _ c.loop-left.invariant (omega (arith, c.loop-left-test.false))

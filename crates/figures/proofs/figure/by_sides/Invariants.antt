@@ -8,4 +8,4 @@ use Rattle.figures.proofs.Stationwise.{sided}
 use Rattle.figures.proofs.figure.by_sides.Given as goal
 
 abbrev pub invariant-loop-s : goal.invariant-loop-s
-invariant-loop-s l = (l.c ≤ l.s) × Front (sided l.k l.stations l.boxes l.initial.spacing 0 (occupied (counts_in l.k l.stations))) (sided l.k l.stations l.boxes l.initial.spacing l.c (onward l.k l.stations l.s)) l.initial.spacing l.spacing l.c
+invariant-loop-s l = (l.c ≤ l.s) × Front (sided l.placed.k l.placed.stations.now l.placed.frames.now l.initial.spacing 0 (occupied (counts_in l.placed.k l.placed.stations.now))) (sided l.placed.k l.placed.stations.now l.placed.frames.now l.initial.spacing l.c (onward l.placed.k l.placed.stations.now l.s)) l.initial.spacing l.spacing l.c

@@ -8,4 +8,4 @@ use Rattle.figures.proofs.Stationwise.{displaced}
 use Rattle.figures.proofs.figure.displacements.Given as goal
 
 abbrev pub invariant-loop-s : goal.invariant-loop-s
-invariant-loop-s l = (l.c ≤ l.s) × Front (displaced l.k l.stations l.boxes l.seeds (occupied (counts_in l.k l.stations))) (displaced l.k l.stations l.boxes l.seeds (onward l.k l.stations l.s)) l.initial.displacement l.displacement l.c
+invariant-loop-s l = (l.c ≤ l.s) × Front (displaced l.placed.k l.placed.stations.now l.placed.frames.now l.seeds (occupied (counts_in l.placed.k l.placed.stations.now))) (displaced l.placed.k l.placed.stations.now l.placed.frames.now l.seeds (onward l.placed.k l.placed.stations.now l.s)) l.initial.displacement l.displacement l.c

@@ -7,11 +7,11 @@ use Rattle.first_box.specs.First.{first_hit}
 use Rattle.first_hit.proofs.Ends.{grid_held, done_hit}
 use Rattle.first_hit.proofs.search.first_hit.Goals as goal
 
-pub march-requires-clause-k_in_bounds : goal.march-requires-clause-k_in_bounds
-march-requires-clause-k_in_bounds c = let held = grid_held _ _ _ _ _ c.grid_of.ensures (length_boxes _ _) c.requires.k_in_bounds.2 (c.requires.indexed.entered (omega (arith, c.at.ensures, c.if-at-gt0.true))) in (c.requires.k_in_bounds.1, c.requires.k_in_bounds.2, held.0, held.1, held.2, held.3)
+pub march-requires-clause-columns_in_bounds : goal.march-requires-clause-columns_in_bounds
+march-requires-clause-columns_in_bounds c = grid_held _ _ _ _ _ c.grid_of-g.ensures (length_boxes _ _) c.args.index.now.few c.args.index.now.indexed (omega (arith, c.at.ensures, c.if-at-gt0.true))
 
 pub returns-in-Some : goal.returns-in-Some
-returns-in-Some c = c.hit_of.ensures ∙ done_hit _ _ _ _ _ _ _ _ _ c.in-Some.is c.march.ensures (c.requires.indexed.entered (omega (arith, c.at.ensures, c.if-at-gt0.true)))
+returns-in-Some c = c.hit_of.ensures ∙ done_hit _ _ _ _ _ _ _ _ _ c.in-Some.is c.march.ensures c.args.index.now.indexed (omega (arith, c.at.ensures, c.if-at-gt0.true))
 
 pub returns : goal.returns
 unfolding first_hit

@@ -1,10 +1,6 @@
 -- Answers for `first_hit::search::look_chains`.
-use mathlib.Core.Path.{refl}
 use Rattle.first_hit.proofs.Turns.{chains_turn, chains_end}
 use Rattle.first_hit.proofs.search.look_chains.Goals as goal
-
-pub loop-c-init : goal.loop-c-init
-loop-c-init c = refl
 
 pub loop-c-preserved : goal.loop-c-preserved
 loop-c-preserved c = chains_turn _ _ _ _ _ _ _ _ _ _ _ _ _ c.loop-c-test.true c.look_chain-n.ensures c.loop-c.invariant

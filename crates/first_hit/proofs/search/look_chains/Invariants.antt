@@ -6,4 +6,4 @@ use Rattle.first_hit.specs.Stages.Looks.{after_chains}
 use Rattle.first_hit.proofs.search.look_chains.Given as goal
 
 abbrev pub invariant-loop-c : goal.invariant-loop-c
-invariant-loop-c l = after_chains (boxes_in l.k l.frames) l.p l.q l.a l.b l.k l.index l.w l.c (l.end - l.c) l.n ≡ after_chains (boxes_in l.k l.frames) l.p l.q l.a l.b l.k l.index l.w l.chain (l.end - l.chain) l.initial.n
+invariant-loop-c l = after_chains (boxes_in l.index.placed.k l.index.placed.frames.now) l.piece.p l.piece.q l.piece.a l.piece.b l.index.placed.k l.index.cells.now l.w l.c (l.end - l.c) l.n ≡ after_chains (boxes_in l.index.placed.k l.index.placed.frames.now) l.piece.p l.piece.q l.piece.a l.piece.b l.index.placed.k l.index.cells.now l.w l.chain (l.end - l.chain) l.initial.n

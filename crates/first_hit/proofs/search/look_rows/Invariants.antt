@@ -6,4 +6,4 @@ use Rattle.first_hit.specs.Stages.Looks.{after_rows}
 use Rattle.first_hit.proofs.search.look_rows.Given as goal
 
 abbrev pub invariant-loop-r : goal.invariant-loop-r
-invariant-loop-r l = after_rows (boxes_in l.k l.frames) l.p l.q l.a l.b l.k l.index l.w l.g l.i l.j l.r (l.end - l.r) l.n ≡ after_rows (boxes_in l.k l.frames) l.p l.q l.a l.b l.k l.index l.w l.g l.i l.j l.row (l.end - l.row) l.initial.n
+invariant-loop-r l = after_rows (boxes_in l.index.placed.k l.index.placed.frames.now) l.piece.p l.piece.q l.piece.a l.piece.b l.index.placed.k l.index.cells.now l.w l.g l.i l.j l.r (l.end - l.r) l.n ≡ after_rows (boxes_in l.index.placed.k l.index.placed.frames.now) l.piece.p l.piece.q l.piece.a l.piece.b l.index.placed.k l.index.cells.now l.w l.g l.i l.j l.row (l.end - l.row) l.initial.n

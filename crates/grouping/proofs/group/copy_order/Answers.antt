@@ -9,6 +9,3 @@ loop-j-init c = copy_start _ _
 
 pub loop-j-preserved : goal.loop-j-preserved
 loop-j-preserved c = copy_step _ _ _ _ _ (omega arith) (omega arith) refl c.loop-j.invariant
-
-pub returns : goal.returns
-returns c = copy_end _ _ _ _ (omega arith) c.loop-j.invariant

@@ -5,11 +5,8 @@ use Rattle.half_edges.proofs.Rounds.{round_made}
 use Rattle.grouping.proofs.Grouping.{grouped}
 use Rattle.grouping.proofs.group.group_all.Goals as goal
 
-pub put_starts-requires-clause-m_bound : goal.put_starts-requires-clause-m_bound
-put_starts-requires-clause-m_bound c = (c.requires.0, c.requires.1, omega (arith, c.sort_by_key.auto.order, c.number.auto.list, c.requires.4, c.requires.3), c.requires.2)
-
 pub put_starts-requires-clause-order_value : goal.put_starts-requires-clause-order_value
-put_starts-requires-clause-order_value c = round_made _ _ _ _ _ refl c.number.ensures (omega (arith, c.requires.4, c.channel_keys.auto.keys)) c.sort_by_key.ensures.order_after
+put_starts-requires-clause-order_value c = round_made _ _ _ _ _ refl c.number.ensures (omega (arith, c.requires.2, c.channel_keys.auto.keys)) c.sort_by_key.ensures.order_after
 
 pub returns : goal.returns
-returns c = grouped _ _ _ _ _ _ _ _ _ c.channel_keys.ensures (round_made _ _ _ _ _ refl c.number.ensures (omega (arith, c.requires.4, c.channel_keys.auto.keys)) c.sort_by_key.ensures.order_after) c.copy_order.ensures c.put_starts.ensures
+returns c = grouped _ _ _ _ _ _ _ _ _ c.channel_keys.ensures (round_made _ _ _ _ _ refl c.number.ensures (omega (arith, c.requires.2, c.channel_keys.auto.keys)) c.sort_by_key.ensures.order_after) c.copy_order.ensures c.put_starts.ensures

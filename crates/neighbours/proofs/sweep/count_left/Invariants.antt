@@ -5,4 +5,4 @@ use Rattle.neighbours.specs.Stages.Sweep.{in_reach}
 use Rattle.neighbours.proofs.sweep.count_left.Given as goal
 
 abbrev pub invariant-loop-q : goal.invariant-loop-q
-invariant-loop-q l = (l.count + l.q ≤ l.c) × (l.count + how_many (in_reach l.points l.order l.x l.y l.radius) l.q ≡ how_many (in_reach l.points l.order l.x l.y l.radius) l.c)
+invariant-loop-q l = (l.count + l.q ≤ l.c) × (l.count + how_many (in_reach l.sweep.points.xy.now l.sweep.order.now l.x l.y l.radius) l.q ≡ how_many (in_reach l.sweep.points.xy.now l.sweep.order.now l.x l.y l.radius) l.c)

@@ -6,18 +6,18 @@ use Rattle.neighbours.proofs.Sweeps.{many_right, none_right, many_stop_right}
 use Rattle.neighbours.proofs.sweep.count_right.Goals as goal
 use Rattle.neighbours.proofs.sweep.count_right.Goals.{then-is_near, else-is_near}
 
-pub bounds-points-j : goal.bounds-points-j
-bounds-points-j c = let h : get_or c.args.order.now c.loop-q.q 0 < c.args.n = place_below _ _ _ c.requires.3 _ c.loop-q-test.true in omega arith
+pub bounds-xy-j : goal.bounds-xy-j
+bounds-xy-j c = let h : get_or c.args.sweep.now.order.now c.loop-q.q 0 < c.args.sweep.now.points.n = place_below _ _ _ c.args.sweep.now.swept _ c.loop-q-test.true in omega arith
 
-pub bounds-points-j-in-loop-q : goal.bounds-points-j-in-loop-q
-bounds-points-j-in-loop-q c = let h : get_or c.args.order.now c.loop-q.q 0 < c.args.n = place_below _ _ _ c.requires.3 _ c.loop-q-test.true in omega arith
+pub bounds-xy-j-in-loop-q : goal.bounds-xy-j-in-loop-q
+bounds-xy-j-in-loop-q c = let h : get_or c.args.sweep.now.order.now c.loop-q.q 0 < c.args.sweep.now.points.n = place_below _ _ _ c.args.sweep.now.swept _ c.loop-q-test.true in omega arith
 
 pub returns-then-radius-d : goal.returns-then-radius-d
-returns-then-radius-d c = c.loop-q.invariant.1 ∙ many_stop_right _ c.args.n _ _ _ _ c.requires.3 c.requires.4 c.requires.5 c.loop-q.q (omega arith) c.if-radius-d.true
+returns-then-radius-d c = c.loop-q.invariant.1 ∙ many_stop_right _ c.args.sweep.now.points.n _ _ _ _ c.args.sweep.now.swept c.requires.1 c.requires.2 c.loop-q.q (omega arith) c.if-radius-d.true
 
 pub loop-q-preserved : goal.loop-q-preserved
 loop-q-preserved c =
     elim c.if-is_near.branch [
-      | then-is_near w ↦ (omega arith, rw w.count-is (many_right (in_reach c.args.points.now c.args.order.now c.args.x c.args.y c.args.radius) _ c.loop-q.q _ _ c.loop-q.invariant.1 c.is_near.ensures w.if-is_near.true))
-      | else-is_near w ↦ (omega arith, rw w.count-is (none_right (in_reach c.args.points.now c.args.order.now c.args.x c.args.y c.args.radius) _ c.loop-q.q _ _ c.loop-q.invariant.1 c.is_near.ensures w.if-is_near.false))
+      | then-is_near w ↦ (omega arith, rw w.count-is (many_right (in_reach c.args.sweep.now.points.xy.now c.args.sweep.now.order.now c.args.x c.args.y c.args.radius) _ c.loop-q.q _ _ c.loop-q.invariant.1 c.is_near.ensures w.if-is_near.true))
+      | else-is_near w ↦ (omega arith, rw w.count-is (none_right (in_reach c.args.sweep.now.points.xy.now c.args.sweep.now.order.now c.args.x c.args.y c.args.radius) _ c.loop-q.q _ _ c.loop-q.invariant.1 c.is_near.ensures w.if-is_near.false))
     ]

@@ -6,4 +6,4 @@ use Rattle.neighbours.specs.Stages.Sweep.{in_reach}
 use Rattle.neighbours.proofs.sweep.count_right.Given as goal
 
 abbrev pub invariant-loop-q : goal.invariant-loop-q
-invariant-loop-q l = (l.count ≤ l.q) × (l.count + how_many (in_reach l.points l.order l.x l.y l.radius) (l.c + 1) ≡ how_many (in_reach l.points l.order l.x l.y l.radius) l.q)
+invariant-loop-q l = (l.count ≤ l.q) × (l.count + how_many (in_reach l.sweep.points.xy.now l.sweep.order.now l.x l.y l.radius) (l.c + 1) ≡ how_many (in_reach l.sweep.points.xy.now l.sweep.order.now l.x l.y l.radius) l.q)

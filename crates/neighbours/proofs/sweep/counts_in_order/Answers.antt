@@ -7,16 +7,16 @@ use Rattle.neighbours.proofs.Scans.{neighbours_le}
 use Rattle.neighbours.proofs.sweep.counts_in_order.Goals as goal
 
 pub overflow_cast-counts : goal.overflow_cast-counts
-overflow_cast-counts c = omega (arith, neighbours_le c.args.points.now c.args.n c.args.radius (get_or c.args.order.now c.loop-c.c 0))
+overflow_cast-counts c = omega (arith, neighbours_le c.args.sweep.now.points.xy.now c.args.sweep.now.points.n c.args.radius (get_or c.args.sweep.now.order.now c.loop-c.c 0))
 
 pub bounds-counts-i : goal.bounds-counts-i
-bounds-counts-i c = let h : get_or c.args.order.now c.loop-c.c 0 < c.args.n = place_below _ _ _ c.requires.4 _ c.loop-c-test.true in omega arith
+bounds-counts-i c = let h : get_or c.args.sweep.now.order.now c.loop-c.c 0 < c.args.sweep.now.points.n = place_below _ _ _ c.args.sweep.now.swept _ c.loop-c-test.true in omega arith
 
 pub loop-c-preserved : goal.loop-c-preserved
-loop-c-preserved c = filled_more _ _ _ _ c.loop-c.counts c.loop-c.c _ c.loop-c.invariant (place_below _ _ _ c.requires.4 _ c.loop-c-test.true) c.requires.3 c.count_at.ensures
+loop-c-preserved c = filled_more _ _ _ _ c.loop-c.counts c.loop-c.c _ c.loop-c.invariant (place_below _ _ _ c.args.sweep.now.swept _ c.loop-c-test.true) c.requires.1 c.count_at.ensures
 
 pub returns : goal.returns
 returns c =
-    let e : c.loop-c.c ≡ c.args.n = omega arith in
-    let k = subst (Filled (neighbours c.args.points.now c.args.n c.args.radius) c.args.order.now c.args.n c.args.counts.now c.loop-c.counts) e c.loop-c.invariant in
-    filled_end _ _ _ _ _ k c.requires.3 (place_of _ _ _ c.requires.4)
+    let e : c.loop-c.c ≡ c.args.sweep.now.points.n = omega arith in
+    let k = subst (Filled (neighbours c.args.sweep.now.points.xy.now c.args.sweep.now.points.n c.args.radius) c.args.sweep.now.order.now c.args.sweep.now.points.n c.args.counts.now c.loop-c.counts) e c.loop-c.invariant in
+    filled_end _ _ _ _ _ k c.requires.1 (place_of _ _ _ c.args.sweep.now.swept)

@@ -12,4 +12,4 @@ pub order_key-requires : goal.order_key-requires
 order_key-requires c = finite_no_nan _ (sym c.is_finite.ensures ∙ c.if-not-is_finite.false)
 
 pub loop-i-preserved : goal.loop-i-preserved
-loop-i-preserved c = rw c.order_key.ensures (numbered_more _ _ _ _ c.loop-i.invariant (sym c.is_finite.ensures ∙ c.if-not-is_finite.false) (omega arith) (omega arith))
+loop-i-preserved c = rw c.order_key.ensures (numbered_more _ _ _ _ c.loop-i.invariant (sym c.is_finite.ensures ∙ c.if-not-is_finite.false) (c.type_inv.xy _) (omega arith) (omega arith))

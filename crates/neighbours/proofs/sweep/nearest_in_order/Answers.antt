@@ -6,13 +6,13 @@ use Rattle.neighbours.proofs.Places.{place_below, place_of}
 use Rattle.neighbours.proofs.sweep.nearest_in_order.Goals as goal
 
 pub bounds-out-i : goal.bounds-out-i
-bounds-out-i c = let h : get_or c.args.order.now c.loop-c.c 0 < c.args.n = place_below _ _ _ c.requires.3 _ c.loop-c-test.true in omega arith
+bounds-out-i c = let h : get_or c.args.sweep.now.order.now c.loop-c.c 0 < c.args.sweep.now.points.n = place_below _ _ _ c.args.sweep.now.swept _ c.loop-c-test.true in omega arith
 
 pub loop-c-preserved : goal.loop-c-preserved
-loop-c-preserved c = filled_more _ _ _ _ c.loop-c.out c.loop-c.c _ c.loop-c.invariant (place_below _ _ _ c.requires.3 _ c.loop-c-test.true) c.requires.2 c.nearest_at.ensures
+loop-c-preserved c = filled_more _ _ _ _ c.loop-c.out c.loop-c.c _ c.loop-c.invariant (place_below _ _ _ c.args.sweep.now.swept _ c.loop-c-test.true) c.requires c.nearest_at.ensures
 
 pub returns : goal.returns
 returns c =
-    let e : c.loop-c.c ≡ c.args.n = omega arith in
-    let k = subst (Filled (nearest c.args.points.now c.args.n) c.args.order.now c.args.n c.args.out.now c.loop-c.out) e c.loop-c.invariant in
-    filled_end _ _ _ _ _ k c.requires.2 (place_of _ _ _ c.requires.3)
+    let e : c.loop-c.c ≡ c.args.sweep.now.points.n = omega arith in
+    let k = subst (Filled (nearest c.args.sweep.now.points.xy.now c.args.sweep.now.points.n) c.args.sweep.now.order.now c.args.sweep.now.points.n c.args.out.now c.loop-c.out) e c.loop-c.invariant in
+    filled_end _ _ _ _ _ k c.requires (place_of _ _ _ c.args.sweep.now.swept)

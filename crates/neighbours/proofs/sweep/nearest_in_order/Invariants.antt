@@ -5,4 +5,4 @@ use Rattle.proximity.specs.Near.{nearest}
 use Rattle.neighbours.proofs.sweep.nearest_in_order.Given as goal
 
 abbrev pub invariant-loop-c : goal.invariant-loop-c
-invariant-loop-c l = Filled (nearest l.points l.n) l.order l.n l.initial.out l.out l.c
+invariant-loop-c l = Filled (nearest l.sweep.points.xy.now l.sweep.points.n) l.sweep.order.now l.sweep.points.n l.initial.out l.out l.c

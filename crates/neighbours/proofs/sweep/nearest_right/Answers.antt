@@ -6,16 +6,16 @@ use Rattle.neighbours.proofs.Sweeps.{least_start, least_right, least_stop_right}
 use Rattle.neighbours.proofs.sweep.nearest_right.Goals as goal
 
 pub loop-q-init : goal.loop-q-init
-loop-q-init c = rw inf_bits (least_start c.args.points.now c.args.n c.args.order.now c.args.x c.args.y c.args.c)
+loop-q-init c = rw inf_bits (least_start c.args.sweep.now.points.xy.now c.args.sweep.now.points.n c.args.sweep.now.order.now c.args.x c.args.y c.args.c)
 
-pub bounds-points-j : goal.bounds-points-j
-bounds-points-j c = let h : get_or c.args.order.now c.loop-q.q 0 < c.args.n = place_below _ _ _ c.requires.3 _ c.loop-q-test.true in omega arith
+pub bounds-xy-j : goal.bounds-xy-j
+bounds-xy-j c = let h : get_or c.args.sweep.now.order.now c.loop-q.q 0 < c.args.sweep.now.points.n = place_below _ _ _ c.args.sweep.now.swept _ c.loop-q-test.true in omega arith
 
-pub bounds-points-j-in-loop-q : goal.bounds-points-j-in-loop-q
-bounds-points-j-in-loop-q c = let h : get_or c.args.order.now c.loop-q.q 0 < c.args.n = place_below _ _ _ c.requires.3 _ c.loop-q-test.true in omega arith
+pub bounds-xy-j-in-loop-q : goal.bounds-xy-j-in-loop-q
+bounds-xy-j-in-loop-q c = let h : get_or c.args.sweep.now.order.now c.loop-q.q 0 < c.args.sweep.now.points.n = place_below _ _ _ c.args.sweep.now.swept _ c.loop-q-test.true in omega arith
 
 pub returns-then-best-d : goal.returns-then-best-d
-returns-then-best-d c = least_stop_right _ _ _ _ _ _ c.requires.3 c.requires.4 c.loop-q.q _ (omega arith) c.loop-q.invariant c.if-best-d.true
+returns-then-best-d c = least_stop_right _ _ _ _ _ _ c.args.sweep.now.swept c.requires.1 c.loop-q.q _ (omega arith) c.loop-q.invariant c.if-best-d.true
 
 pub loop-q-preserved : goal.loop-q-preserved
-loop-q-preserved c = rw c.closer-best.ensures (least_right c.args.points.now c.args.n c.args.order.now c.args.x c.args.y c.args.c c.loop-q.q _ (omega arith) c.loop-q.invariant)
+loop-q-preserved c = rw c.closer-best.ensures (least_right c.args.sweep.now.points.xy.now c.args.sweep.now.points.n c.args.sweep.now.order.now c.args.x c.args.y c.args.c c.loop-q.q _ (omega arith) c.loop-q.invariant)

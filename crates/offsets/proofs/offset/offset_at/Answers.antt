@@ -7,12 +7,6 @@ use Rattle.offsets.specs.Stages.OffsetList.{offset_at}
 use Rattle.offsets.proofs.Grids.{less_fits, offset_made}
 use Rattle.offsets.proofs.offset.offset_at.Goals as goal
 
-pub overflow_sub-result : goal.overflow_sub-result
-overflow_sub-result c = less_fits (c.key_at-c.result / 41 % 41) (omega arith)
-
-pub overflow_sub-result-2 : goal.overflow_sub-result-2
-overflow_sub-result-2 c = less_fits (c.key_at-c.result % 41) (omega arith)
-
 pub returns : goal.returns
 unfolding offset_at
 returns c = offset_made _ _ (c.key_at-c.ensures ∙ ap (key_at c.args.keys.now) c.at.ensures)

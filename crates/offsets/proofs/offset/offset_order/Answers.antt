@@ -7,22 +7,6 @@ use Rattle.offsets.proofs.Grids.{side_square, grid_offsets}
 use Rattle.offsets.proofs.OffsetLaw.{offsets_complete}
 use Rattle.offsets.proofs.offset.offset_order.Goals as goal
 
-pub overflow_mul-count : goal.overflow_mul-count
-overflow_mul-count c = omega (arith, side_square (2 * c.args.search + 1) (omega arith))
-
-pub grid_keys-requires : goal.grid_keys-requires
-grid_keys-requires c =
-    (omega arith, omega arith, omega (arith, c.requires, side_square (2 * c.args.search + 1) (omega arith)))
-
-pub number_first-requires : goal.number_first-requires
-number_first-requires c =
-    (omega (arith, c.requires, side_square (2 * c.args.search + 1) (omega arith)), omega (arith, c.requires, side_square (2 * c.args.search + 1) (omega arith)))
-
-pub sort_part-requires : goal.sort_part-requires
-sort_part-requires c =
-    let h = side_square (2 * c.args.search + 1) (omega arith) in
-    (omega arith, omega (arith, c.requires, h, c.number_first.auto), omega (arith, c.requires, h))
-
 pub returns : goal.returns
 returns c =
     let e : (2 * c.args.search + 1) * (2 * c.args.search + 1) ≡ suc (2 * c.args.search) * suc (2 * c.args.search) = omega arith in

@@ -11,15 +11,12 @@ use Rattle.placement.proofs.search.place_all.Goals as goal
 pub loop-p-init : goal.loop-p-init
 loop-p-init c = (omega arith, refl, refl, refl, refl, placed_none _ _ _ _ _ _ _ _ _)
 
-pub overflow_cast-s : goal.overflow_cast-s
-overflow_cast-s c = omega (arith, c.shared_slice_known-in-loop-p-1.given (2 * c.loop-p.p + 1))
-
 pub place_station-most-requires-clause-s_in_bounds : goal.place_station-most-requires-clause-s_in_bounds
-place_station-most-requires-clause-s_in_bounds c = let h : get_or c.args.stations.now (2 * c.loop-p.p + 1) 0 < c.args.k = turn_below _ _ _ _ c.requires.turns (omega arith) in let g : c.loop-p.p < length (order_in c.args.r c.args.stations.now) = rw (length_strided 2 1 0 c.args.r c.args.stations.now) (omega arith) in let q : c.loop-p.p ≤ length (order_in c.args.r c.args.stations.now) = omega arith in (omega (arith, h, c.requires.search_bound), omega (arith, h, c.requires.search_bound, c.loop-p.invariant.1), omega (arith, h, c.requires.search_bound, c.loop-p.invariant.2), omega (arith, h, c.requires.search_bound), omega (arith, c.requires.search_bound, c.loop-p.invariant.3), omega (arith, c.requires.search_bound, c.loop-p.invariant.4), c.requires.search_bound.0)
+place_station-most-requires-clause-s_in_bounds c = let h : get_or c.args.stations.now (2 * c.loop-p.p + 1) 0 < c.args.k = turn_below _ _ _ _ c.requires.turns (omega arith) in let g : c.loop-p.p < length (order_in c.args.r c.args.stations.now) = rw (length_strided 2 1 0 c.args.r c.args.stations.now) (omega arith) in let q : c.loop-p.p ≤ length (order_in c.args.r c.args.stations.now) = omega arith in (omega (arith, h, c.requires.search_bound), omega (arith, h, c.requires.search_bound, c.loop-p.invariant.1), omega (arith, h, c.requires.search_bound, c.loop-p.invariant.2), omega (arith, h, c.requires.search_bound), omega (arith, c.requires.search_bound, c.loop-p.invariant.3), omega (arith, c.requires.search_bound, c.loop-p.invariant.4))
 
 pub place_station-most-requires-clause-holds : goal.place_station-most-requires-clause-holds
 place_station-most-requires-clause-holds c = let h : get_or c.args.stations.now (2 * c.loop-p.p + 1) 0 < c.args.k = turn_below _ _ _ _ c.requires.turns (omega arith) in let g : c.loop-p.p < length (order_in c.args.r c.args.stations.now) = rw (length_strided 2 1 0 c.args.r c.args.stations.now) (omega arith) in let q : c.loop-p.p ≤ length (order_in c.args.r c.args.stations.now) = omega arith in (
-  holds_of _ _ _ _ _ _ _ _ _ _ _ _ c.requires.turns c.loop-p.invariant.5 q (omega (arith, c.requires.search_bound, c.loop-p.invariant.2)) (omega (arith, c.requires.search_bound, c.loop-p.invariant.3)) (omega (arith, c.requires.search_bound, c.loop-p.invariant.4)),
+  holds_of _ _ _ _ _ _ _ _ _ _ _ _ c.requires.turns c.loop-p.invariant.5 q (omega (arith, c.requires.search_bound, c.loop-p.invariant.2)),
   fresh_of _ _ _ _ _ _ _ _ _ _ _ _ c.requires.turns c.loop-p.invariant.5 q g _ (sym (get_d_strided 2 1 0 c.args.r c.loop-p.p c.args.stations.now 0 (omega arith))),
 )
 

@@ -10,12 +10,6 @@ use Rattle.placement.specs.Place.{places}
 use Rattle.placement.specs.Stages.Views.{frames_in}
 use Rattle.placement.proofs.search.place_by_table.Goals as goal
 
-pub place_all-requires-clause-search_bound : goal.place_all-requires-clause-search_bound
-place_all-requires-clause-search_bound c = c.requires.search_bound
-
-pub place_all-requires-clause-turns : goal.place_all-requires-clause-turns
-place_all-requires-clause-turns c = c.requires.turns
-
 pub returns : goal.returns
 unfolding codes table_pairs offset_of
 returns c =

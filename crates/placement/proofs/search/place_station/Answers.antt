@@ -1,16 +1,12 @@
 -- Answers for `placement::search::place_station`.
 use mathlib.Core.Path.{refl, ap, ◌∙◌}
-use native.Mathlib.Omega.{arith}
 use Rattle.free_places.specs.Search.{frame_for}
 use Rattle.placement.specs.Stages.Views.{put_box}
 use Rattle.placement.proofs.Placing.{kept_on}
 use Rattle.placement.proofs.search.place_station.Goals as goal
 
-pub keep_box-requires-clause-s_in_bounds : goal.keep_box-requires-clause-s_in_bounds
-keep_box-requires-clause-s_in_bounds c = (omega (arith, c.put_box.auto, c.requires.s_in_bounds.2), c.requires.s_in_bounds.3, c.requires.s_in_bounds.4, c.requires.s_in_bounds.5)
-
 pub keep_box-requires-clause-kept : goal.keep_box-requires-clause-kept
-keep_box-requires-clause-kept c = (kept_on _ _ _ _ _ _ _ _ _ c.put_box.ensures c.requires.holds.1 c.requires.holds.0.kept, c.requires.holds.1)
+keep_box-requires-clause-kept c = (kept_on _ _ _ _ _ _ _ _ c.put_box.ensures c.requires.holds.1 c.requires.holds.0.kept, c.requires.holds.1)
 
 pub returns : goal.returns
 unfolding frame_for

@@ -5,4 +5,4 @@ use Rattle.requests.specs.Stages.Requests.{lists, FilledTo}
 use Rattle.requests.proofs.request.requests_from.Given as goal
 
 abbrev pub invariant-loop-i : goal.invariant-loop-i
-invariant-loop-i l = (length l.list ≡ 16) × FilledTo (lists l.sub l.measures l.buses l.ends l.blocks l.places l.frames) l.from l.to l.service l.start l.i l.list
+invariant-loop-i l = (length l.list ≡ 16) × FilledTo (lists l.net.sub.now l.laid.measures l.laid.buses.now l.laid.ends.now l.laid.blocks.now l.laid.places.now l.frames) l.net.from.now l.net.to.now l.net.service.now l.start l.i l.list

@@ -17,4 +17,4 @@ loop-e-preserved c = written_one _ _ _ _ _ _ (omega arith) (map_more _ _ _ _ (c.
 
 pub returns : goal.returns
 unfolding kinds
-returns c = let e : c.loop-e.e ≡ length c.args.from.now = omega arith in all_written _ _ _ _ _ (ap (λ n. map role (table (kind_of c.args.sub.now c.args.from.now c.args.to.now c.args.service.now) n)) e) c.loop-e.invariant
+returns c = let e : c.loop-e.e ≡ length c.args.net.now.from.now = omega arith in all_written _ _ _ _ _ (ap (λ n. map role (table (kind_of c.args.net.now.sub.now c.args.net.now.from.now c.args.net.now.to.now c.args.net.now.service.now) n)) e) c.loop-e.invariant

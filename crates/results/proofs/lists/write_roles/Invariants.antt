@@ -8,4 +8,4 @@ use Rattle.results.proofs.Writes.{Written}
 use Rattle.results.proofs.lists.write_roles.Given as goal
 
 abbrev pub invariant-loop-e : goal.invariant-loop-e
-invariant-loop-e l = Written (map role (table (kind_of l.sub l.from l.to l.service) l.e)) l.e l.initial.roles l.roles
+invariant-loop-e l = Written (map role (table (kind_of l.net.sub.now l.net.from.now l.net.to.now l.net.service.now) l.e)) l.e l.initial.roles l.roles

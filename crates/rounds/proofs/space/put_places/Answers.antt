@@ -5,24 +5,12 @@ use Rattle.rounds.proofs.Putting.{put_start, put_step, put_none, put_end}
 use Rattle.rounds.proofs.space.put_places.Goals as goal
 use Rattle.rounds.proofs.space.put_places.Goals.{then-x-along, else-x-along}
 
-pub loop-i-init : goal.loop-i-init
-loop-i-init c = put_start _ _ _ _ _ (omega arith) (omega arith)
-
-pub overflow_cast-order : goal.overflow_cast-order
-overflow_cast-order c = omega (arith, c.shared_slice_known-in-loop-i-1.given c.loop-i.i)
-
-pub overflow_add-start : goal.overflow_add-start
-overflow_add-start c = omega (arith, c.shared_slice_known-in-loop-i-1.given c.loop-i.i, c.requires)
-
-pub member_of-x-requires : goal.member_of-x-requires
-member_of-x-requires c = omega (arith, c.shared_slice_known-in-loop-i-1.given c.loop-i.i, c.requires)
-
 pub loop-i-preserved : goal.loop-i-preserved
 loop-i-preserved c =
     elim c.if-x-along.branch [
-      | then-x-along w ↦ rw w.along-is (put_step _ _ _ _ _ (omega arith) (omega arith) _ _ (omega arith) c.loop-i.invariant _ _ c.member_of-x.ensures.value refl)
-      | else-x-along w ↦ rw w.along-is (put_none _ _ _ _ _ (omega arith) (omega arith) _ _ (omega arith) c.loop-i.invariant _ c.member_of-x.ensures.value (omega arith))
+      | then-x-along w ↦ rw w.along-is (put_step _ _ _ _ (omega arith) _ _ (omega arith) c.loop-i.invariant _ _ c.member_of-x.ensures refl)
+      | else-x-along w ↦ rw w.along-is (put_none _ _ _ _ (omega arith) _ _ (omega arith) c.loop-i.invariant _ c.member_of-x.ensures (omega arith))
     ]
 
 pub returns : goal.returns
-returns c = put_end _ _ _ _ _ (omega arith) (omega arith) _ _ (omega arith) c.loop-i.invariant
+returns c = put_end _ _ _ _ (omega arith) _ _ (omega arith) c.loop-i.invariant

@@ -3,4 +3,4 @@ use Rattle.rounds.proofs.Ranges.{ranged}
 use Rattle.rounds.proofs.space.range_of.Goals as goal
 
 pub returns : goal.returns
-returns c = ranged _ _ _ _ _ _ _ _ _ _ _ _ _ _ _ _ _ c.low_at-a.ensures.value c.high_at-b.ensures.value c.station_at-s.ensures.value c.station_at-t.ensures.value c.point_at.ensures c.point_at-2.ensures c.number_at.ensures c.number_at-2.ensures c.gap_of.ensures c.channel.ensures
+returns c = ranged _ _ _ _ _ _ _ _ _ _ _ _ _ _ _ _ _ c.low_at-a.ensures c.high_at-b.ensures c.station_at-s.ensures c.station_at-t.ensures c.point_at.ensures c.point_at-2.ensures c.number_at.ensures c.number_at-2.ensures c.gap_of.ensures c.channel.ensures

@@ -6,29 +6,11 @@ use Rattle.survey.proofs.lines.lead_line.Goals as goal
 pub returns-then-r : goal.returns-then-r
 returns-then-r c = nothing_asked _ _ _ _ _ _ _ _ c.if-r.true
 
-pub overflow_mul-e : goal.overflow_mul-e
-overflow_mul-e c = omega (arith, (c.requires.1 c.if-r.false).1)
-
-pub overflow_add-e : goal.overflow_add-e
-overflow_add-e c = omega (arith, (c.requires.1 c.if-r.false).1)
-
-pub overflow_mul-e-2 : goal.overflow_mul-e-2
-overflow_mul-e-2 c = omega (arith, (c.requires.1 c.if-r.false).1)
-
-pub overflow_add-e-2 : goal.overflow_add-e-2
-overflow_add-e-2 c = omega (arith, (c.requires.1 c.if-r.false).1)
-
-pub run_line-c-requires-clause-has_room : goal.run_line-c-requires-clause-has_room
-run_line-c-requires-clause-has_room c = let z = c.requires.1 c.if-r.false in (omega (arith, z.0.0, c.at-n.ensures), omega (arith, z.0.1, c.at-w.ensures, c.at-n.ensures))
-
-pub run_line-c-requires-clause-stands : goal.run_line-c-requires-clause-stands
-run_line-c-requires-clause-stands c = let z = c.requires.1 c.if-r.false in c.requires.0
-
 pub tally-requires-clause-c_bound : goal.tally-requires-clause-c_bound
-tally-requires-clause-c_bound c = let z = c.requires.1 c.if-r.false in (line_short _ _ c.args.ends.now c.args.r _ _ c.run_line-c.ensures (omega (arith, z.0.1, c.at-n.ensures)), omega (arith, z.1))
+tally-requires-clause-c_bound c = let z = c.requires.0 c.if-r.false in (line_short _ _ c.args.ends.now c.args.r _ _ c.run_line-c.ensures (omega (arith, z.0.1, c.at-n.ensures)), omega (arith, z.1))
 
 pub tally-requires-clause-room_for : goal.tally-requires-clause-room_for
-tally-requires-clause-room_for c = let z = c.requires.1 c.if-r.false in line_room _ _ _ _ _ _ c.run_line-c.ensures c.if-r.false c.at-w.ensures c.at-n.ensures _ _ c.args.numbers.now c.args.branches.now c.requires.2
+tally-requires-clause-room_for c = let z = c.requires.0 c.if-r.false in line_room _ _ _ _ _ _ c.run_line-c.ensures c.if-r.false c.at-w.ensures c.at-n.ensures _ _ c.args.numbers.now c.args.branches.now c.requires.1
 
 pub returns : goal.returns
 returns c = line_passed _ _ _ _ _ _ c.run_line-c.ensures c.if-r.false c.at-w.ensures c.at-n.ensures _ c.tally.ensures

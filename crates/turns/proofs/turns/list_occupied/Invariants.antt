@@ -7,4 +7,4 @@ use Rattle.turns.specs.Stages.Listed.{Listed}
 use Rattle.turns.proofs.turns.list_occupied.Given as goal
 
 abbrev pub invariant-loop-s : goal.invariant-loop-s
-invariant-loop-s l = (l.s ≤ l.k) × (l.r ≤ l.s) × (length l.keys ≡ length l.initial.keys) × (length l.sorted ≡ length l.initial.sorted) × Listed (counts_in l.k l.stations) l.s l.keys l.sorted l.r
+invariant-loop-s l = (l.s ≤ l.stations.k) × (l.r ≤ l.s) × (length l.keys ≡ length l.initial.keys) × (length l.sorted ≡ length l.initial.sorted) × Listed (counts_in l.stations.k l.stations.counts.now) l.s l.keys l.sorted l.r

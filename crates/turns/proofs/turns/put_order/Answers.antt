@@ -1,7 +1,10 @@
 -- Answers for `turns::turns::put_order`.
-use mathlib.Core.Path.{◌≡◌, refl, ◌∙◌}
+use Prim.Native.Nat.{ℕ}
+use mathlib.Core.Path.{◌≡◌, refl, subst, ◌∙◌}
 use native.Mathlib.Omega.{arith}
-use lib.ListN.{length-set}
+use lib.ListN.{length, length-set, take}
+use lib.Seq.{take-length}
+use Rattle.network.specs.Views.{order_in}
 use Rattle.turns.proofs.Queue.{put_none, put_more, put_kept}
 use Rattle.turns.proofs.turns.put_order.Goals as goal
 
@@ -15,9 +18,3 @@ loop-p-preserved c = (
   put_more _ _ _ c.loop-p.invariant.2 (omega arith) (omega arith),
   λ k. put_kept k _ _ _ ∙ c.loop-p.invariant.3 k,
 )
-
-pub returns-clause-stations_after : goal.returns-clause-stations_after
-returns-clause-stations_after c = let e : c.loop-p.p ≡ c.args.r = omega arith in rw (← e) c.loop-p.invariant.2
-
-pub returns-clause-by_index : goal.returns-clause-by_index
-returns-clause-by_index c = let e : c.loop-p.p ≡ c.args.r = omega arith in c.loop-p.invariant.3

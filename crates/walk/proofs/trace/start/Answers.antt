@@ -6,17 +6,17 @@ use Rattle.walk.proofs.trace.start.Goals as goal
 pub loop-p-init : goal.loop-p-init
 loop-p-init c = seek_start _ _ _ _ _ c.first_at-p.ensures
 
-pub returns-then-at-va : goal.returns-then-at-va
-returns-then-at-va c = seek_other _ _ _ _ _ c.requires.around_value _ _ _ (omega arith) c.at-h.ensures c.at.ensures c.loop-p.invariant c.if-at-va.true
+pub returns-then-at-line : goal.returns-then-at-line
+returns-then-at-line c = seek_other _ _ _ _ _ c.args.line.now.turned.turned _ _ _ (omega arith) c.at-h.ensures c.at.ensures c.loop-p.invariant c.if-at-line.true
 
 pub leave-requires : goal.leave-requires
-leave-requires c = omega (arith, c.requires.va_bound, place_fits _ _ c.requires.around_value (omega (arith, c.requires.va_bound)) _ _ (omega arith) c.at-h.ensures)
+leave-requires c = omega (arith, place_fits _ _ c.args.line.now.turned.turned c.args.line.now.turned.few _ _ (omega arith) c.at-h.ensures)
 
 pub returns-in_default : goal.returns-in_default
-returns-in_default c = seek_found _ _ _ _ _ c.requires.around_value _ _ _ (omega arith) c.at-h.ensures c.at.ensures c.loop-p.invariant c.if-at-va.false _ c.leave.ensures c.in_default.not-Lost
+returns-in_default c = seek_found _ _ _ _ _ c.args.line.now.turned.turned _ _ _ (omega arith) c.at-h.ensures c.at.ensures c.loop-p.invariant c.if-at-line.false _ c.leave.ensures c.in_default.not-Lost
 
 pub loop-p-preserved : goal.loop-p-preserved
-loop-p-preserved c = seek_on _ _ _ _ _ c.requires.around_value _ _ _ (omega arith) c.at-h.ensures c.at.ensures c.loop-p.invariant c.if-at-va.false _ c.leave.ensures c.in-Lost.is
+loop-p-preserved c = seek_on _ _ _ _ _ c.args.line.now.turned.turned _ _ _ (omega arith) c.at-h.ensures c.at.ensures c.loop-p.invariant c.if-at-line.false _ c.leave.ensures c.in-Lost.is
 
 pub returns : goal.returns
 returns c = seek_end _ _ _ _ _ (omega arith) c.loop-p.invariant

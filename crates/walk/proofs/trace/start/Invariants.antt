@@ -6,4 +6,4 @@ use Rattle.geometry.specs.Plane.{point_at}
 use Rattle.walk.proofs.trace.start.Given as goal
 
 abbrev pub invariant-loop-p : goal.invariant-loop-p
-invariant-loop-p l = Seeking l.corners (point_at l.points) l.va l.vb l.p
+invariant-loop-p l = Seeking l.line.turned.mesh.corners.now (point_at l.line.points.now) l.line.start l.line.end l.p

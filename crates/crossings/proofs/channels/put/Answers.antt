@@ -1,7 +1,0 @@
--- Answers for `crossings::channels::put`.
-use mathlib.Core.Path.{sym}
-use lib.Seq.{set_out}
-use Rattle.crossings.proofs.channels.put.Goals as goal
-
-pub returns-else-i-list : goal.returns-else-i-list
-returns-else-i-list c = sym (set_out _ _ _ c.if-i-list.false)

@@ -1,0 +1,22 @@
+// What runs are drawn from.
+use grid::index::BoxIndex;
+use measures::Measures;
+
+// A drawing that is laid out, but for its boxes: what its interiors are measured by, its buses' columns and rows, its branches' ends, its stations' blocks and places.
+#[derive(Clone, Copy)]
+pub struct Laid<'a> {
+    pub measures: Measures,
+    pub buses: &'a [u32],
+    pub ends: &'a [u32],
+    pub blocks: &'a [f64],
+    pub places: &'a [f64],
+}
+
+// What lines are led by: whether they are led round boxes, the gap that they keep, the boxes entered by cell, and the waypoints. No Option: the boxes are read where lines aren't led too.
+#[derive(Clone, Copy)]
+pub struct Guide<'a> {
+    pub led: bool,
+    pub gap: f64,
+    pub index: BoxIndex<'a>,
+    pub ways: &'a [f64],
+}
