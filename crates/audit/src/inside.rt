@@ -6,7 +6,7 @@ ghost use Rattle.findings.specs.Answer.{Inner};
 
 use audit_figures::stages::figures_of;
 use findings::answer::Figures;
-use fit::drawn::Drawn;
+use fit::drawn::FewBuses;
 use fit::fit::fits;
 use fit::scale::ill_drawn;
 use network::lists::Placed;
@@ -14,9 +14,9 @@ use network::words::{bus_counts, station_count};
 use refusals::Refusal;
 
 // 13 or 8, or the figures.
-// The bound of buses is asked of three functions that read a `Drawn`; those that test it read one too, so it can't be a field's fact.
+// The lists that are written stand as the public call takes them: `figures_of` lends some of them to each stage.
 pub(crate) fn audited(
-    drawing: &Drawn<'_>,
+    drawing: &FewBuses<'_>,
     displacement: &mut [f64],
     spacing: &mut [f64],
     relative: &mut [f64],
@@ -27,23 +27,23 @@ pub(crate) fn audited(
     points: &mut [f64],
     path: &mut [f64],
 ) -> Result<Figures, Refusal>
-    requires sub_len_bound { (length drawing.now.sub.now ≤ 4096) × (station_count drawing.now.sub.now ≤ length drawing.now.sub.now) × (2 * length drawing.now.sub.now ≤ length stations.old) }
-    requires sub_in_bounds { (station_count drawing.now.sub.now ≤ length displacement.old) × (station_count drawing.now.sub.now ≤ length spacing.old) × (length drawing.now.branches.now ≤ length relative.old) × (2 * length drawing.now.sub.now ≤ length points.old) × (2 * length drawing.now.sub.now ≤ length path.old) }
-    requires sub_in_bounds_2 { (length drawing.now.sub.now ≤ length index.old) × (length drawing.now.sub.now ≤ length spare.old) × (length drawing.now.sub.now ≤ length keys.old) }
-    ensures { Inner (drawn drawing.now.sub.now drawing.now.kv.now drawing.now.from.now drawing.now.to.now drawing.now.xy.now drawing.now.boxes.now drawing.now.roles.now drawing.now.pieces.now drawing.now.branches.now)
+    requires sub_len_bound { (station_count drawing.now.lists.sub.now ≤ length drawing.now.lists.sub.now) × (2 * length drawing.now.lists.sub.now ≤ length stations.old) }
+    requires sub_in_bounds { (station_count drawing.now.lists.sub.now ≤ length displacement.old) × (station_count drawing.now.lists.sub.now ≤ length spacing.old) × (length drawing.now.lists.branches.now ≤ length relative.old) × (2 * length drawing.now.lists.sub.now ≤ length points.old) × (2 * length drawing.now.lists.sub.now ≤ length path.old) }
+    requires sub_in_bounds_2 { (length drawing.now.lists.sub.now ≤ length index.old) × (length drawing.now.lists.sub.now ≤ length spare.old) × (length drawing.now.lists.sub.now ≤ length keys.old) }
+    ensures { Inner (drawn drawing.now.lists.sub.now drawing.now.lists.kv.now drawing.now.lists.from.now drawing.now.lists.to.now drawing.now.lists.xy.now drawing.now.lists.boxes.now drawing.now.lists.roles.now drawing.now.lists.pieces.now drawing.now.lists.branches.now)
         (record { displacement = displacement.old; spacing = spacing.old; relative = relative.old }) result (record { displacement = displacement.new; spacing = spacing.new; relative = relative.new }) }
 {
     if !fits(drawing) {
         return Err(Refusal::NoFit);
     }
-    let k = station_count(drawing.sub);
-    bus_counts(drawing.sub, k, stations);
+    let k = station_count(drawing.lists.sub);
+    bus_counts(drawing.lists.sub, k, stations);
     let placed = Placed {
         k,
         stations,
-        frames: drawing.boxes,
+        frames: drawing.lists.boxes,
     };
-    if ill_drawn(&placed, drawing.pieces) {
+    if ill_drawn(&placed, drawing.lists.pieces) {
         return Err(Refusal::IllSized);
     }
     Ok(figures_of(

@@ -6,7 +6,7 @@ use crate::inside::audited;
 use audit_limits::refuse::check_input;
 use findings::answer::Figures;
 use findings::room::Room;
-use fit::drawn::Drawn;
+use fit::drawn::{Drawn, FewBuses};
 use refusals::Refusal;
 
 // Audits a drawing: the figures of each station and line in the result lists, the others in the answer.
@@ -47,7 +47,7 @@ pub fn tx_layout_quality(
         points: points.len(),
         path: path.len(),
     };
-    let drawing = Drawn {
+    let lists = Drawn {
         sub,
         kv,
         from,
@@ -58,7 +58,8 @@ pub fn tx_layout_quality(
         pieces,
         branches,
     };
-    check_input(&drawing, room)?;
+    check_input(&lists, room)?;
+    let drawing = FewBuses { lists };
     let a = audited(
         &drawing,
         displacement,

@@ -8,7 +8,7 @@ ghost use Rattle.findings.specs.Answer.{Figured};
 
 use figures::figure::{displacements, middles, spacings};
 use findings::answer::Figures;
-use fit::drawn::Drawn;
+use fit::drawn::FewBuses;
 use neighbours::points::Points;
 use network::lists::{Placed, Stations};
 use overlaps::count_overlaps;
@@ -18,8 +18,9 @@ use through::through::count_through;
 use units::coordinates;
 
 // The figures of a drawing that isn't refused.
+// What is asked of the boxes, the pieces and the lists that are written was tested by `check_input` and `fits`, which are lent a drawing that may fail it. `displacement`, `spacing`, `relative`, `index`, `spare`, `keys`, `points` and `path` are no struct: each stage writes some of them alone.
 pub fn figures_of(
-    drawing: &Drawn<'_>,
+    drawing: &FewBuses<'_>,
     k: usize,
     stations: &[u32],
     displacement: &mut [f64],
@@ -31,13 +32,14 @@ pub fn figures_of(
     points: &mut [f64],
     path: &mut [f64],
 ) -> Figures
-    requires k_value { (k ≡ station_count drawing.now.sub.now) × (length drawing.now.sub.now ≤ 4096) × (k ≤ length drawing.now.sub.now) × (counts_in k stations.now ≡ bus_counts drawing.now.sub.now) }
-    requires k_in_bounds { (4 * k ≤ length drawing.now.boxes.now) × (length drawing.now.pieces.now ≡ 4 * length drawing.now.branches.now) × (2 * length drawing.now.sub.now ≤ length stations.now) × Finite drawing.now.boxes.now }
-    requires k_in_bounds_2 { (k ≤ length displacement.old) × (k ≤ length spacing.old) × (length drawing.now.branches.now ≤ length relative.old) × (2 * length drawing.now.sub.now ≤ length points.old) × (2 * length drawing.now.sub.now ≤ length path.old) }
-    requires sub_in_bounds { (length drawing.now.sub.now ≤ length index.old) × (length drawing.now.sub.now ≤ length spare.old) × (length drawing.now.sub.now ≤ length keys.old) }
-    ensures { Figured (drawn drawing.now.sub.now drawing.now.kv.now drawing.now.from.now drawing.now.to.now drawing.now.xy.now drawing.now.boxes.now drawing.now.roles.now drawing.now.pieces.now drawing.now.branches.now)
+    requires k_value { (k ≡ station_count drawing.now.lists.sub.now) × (k ≤ length drawing.now.lists.sub.now) × (counts_in k stations.now ≡ bus_counts drawing.now.lists.sub.now) }
+    requires k_in_bounds { (4 * k ≤ length drawing.now.lists.boxes.now) × (length drawing.now.lists.pieces.now ≡ 4 * length drawing.now.lists.branches.now) × (2 * length drawing.now.lists.sub.now ≤ length stations.now) × Finite drawing.now.lists.boxes.now }
+    requires k_in_bounds_2 { (k ≤ length displacement.old) × (k ≤ length spacing.old) × (length drawing.now.lists.branches.now ≤ length relative.old) × (2 * length drawing.now.lists.sub.now ≤ length points.old) × (2 * length drawing.now.lists.sub.now ≤ length path.old) }
+    requires sub_in_bounds { (length drawing.now.lists.sub.now ≤ length index.old) × (length drawing.now.lists.sub.now ≤ length spare.old) × (length drawing.now.lists.sub.now ≤ length keys.old) }
+    ensures { Figured (drawn drawing.now.lists.sub.now drawing.now.lists.kv.now drawing.now.lists.from.now drawing.now.lists.to.now drawing.now.lists.xy.now drawing.now.lists.boxes.now drawing.now.lists.roles.now drawing.now.lists.pieces.now drawing.now.lists.branches.now)
         (record { displacement = displacement.old; spacing = spacing.old; relative = relative.old }) result (record { displacement = displacement.new; spacing = spacing.new; relative = relative.new }) }
 {
+    let drawing = drawing.lists;
     let counted = Stations {
         k,
         counts: stations,
@@ -54,7 +56,7 @@ pub fn figures_of(
     let points = Points { n, xy: path };
     spacings(&placed, &points, spacing, keys, index, spare);
     let overlaps = count_overlaps(&placed, keys, index, spare);
-    let through = count_through(&placed, index, drawing);
+    let through = count_through(&placed, index, &drawing);
     let lengths = relative_lengths(drawing.roles, drawing.pieces, drawing.branches, relative);
     Figures {
         stations: n,

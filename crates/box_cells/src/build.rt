@@ -17,6 +17,7 @@ use grid::{Grid, chain_of, grid_of};
 use network::lists::Placed;
 
 // The needed length of a list that the boxes of n stations are entered in.
+// n is a number alone, counted before there are boxes: no `Placed` holds it, and its bound keeps 5 n within a usize.
 pub fn index_length(n: usize) -> usize
     requires { n ≤ 4096 }
     ensures { result ≡ index_length n }
@@ -25,6 +26,7 @@ pub fn index_length(n: usize) -> usize
 }
 
 // Puts station s at the front of a chain.
+// `index` is written, so its length is asked as the slice's own; k is at most 4,096 so that the numbers written fit a u32.
 fn link(k: usize, chain: usize, s: usize, index: &mut [u32])
     requires { (s < k) × (k ≤ 4096) × (7 + chain < 4 * k) × (5 * k ≤ length index.old) }
     ensures { index.new ≡ linked k chain s index.old }

@@ -51,7 +51,7 @@ fn extended(placed: &Placed<'_>, e: Extent, s: usize) -> Extent
 }
 
 // The extent of the occupied stations' boxes.
-// `Placed` is lent with more stations too (`sized`, `results`), so the bound of k is asked where it is needed.
+// `sized` and `results` don't ask for at most 4,096 stations: a ghost field of `Placed` would ask more of them.
 pub(crate) fn extent_of(placed: &Placed<'_>) -> Extent
     requires { placed.now.k ≤ 4096 }
     ensures { (result.left ≤ 4096) × (result.right ≤ 4096) × (result.top ≤ 4096) × (result.bottom ≤ 4096) × (result.count ≤ placed.now.k) }

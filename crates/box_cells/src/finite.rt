@@ -20,6 +20,7 @@ fn finite_box(b: Box) -> bool
 }
 
 // Whether all sides of the occupied stations' boxes are finite.
+// It is a loop: `all` over 0..k would need an induction over the occupied stations (tried in `sized`), which the loop's invariant is.
 pub(crate) fn all_finite(placed: &Placed<'_>) -> bool
     ensures { result ≡ true → All (λ s. finite_box (box_in (boxes_in placed.now.k placed.now.frames.now) s) ≡ true) (occupied (counts_in placed.now.k placed.now.stations.now)) }
 {

@@ -27,6 +27,7 @@ pub(crate) fn floors(p: u64, r: u64) -> bool {
 pub(crate) fn agrees(name: &[u8], p: u64, q: u64, r: u64) -> bool {
     let a = of_bits(p);
     let b = of_bits(q);
+    // no table of closures: each arm is another operation, on floats or on patterns, and compares in its own way
     match name {
         b"add" => same(a + b, r),
         b"sub" => same(a - b, r),

@@ -38,6 +38,7 @@ fn agrees(line: &[u8]) -> bool {
     let w = words(digits);
     let count = digits.len().div_ceil(WORD);
     let name = line.get(..3).unwrap_or(&[]);
+    // no table of functions: most arms hand on all words, but the last two test the count and hand on single words, each to a function of other parameters
     match name {
         b"hit" => plane::hit_agrees(&w),
         b"crs" => plane::cross_agrees(&w),

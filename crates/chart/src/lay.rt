@@ -20,7 +20,8 @@ fn search_in(o: Options) -> usize
 }
 
 // Lays a drawing out: rows, sizes, places and boxes of its stations, and the exits of its lines. Answers the unit.
-// Lists that are written are no struct: behind `&mut` others could stand in it, so each contract would have to say that it keeps them and their lengths. k, the number of stations, is counted once by the caller: beside lists that are written no struct can hold it.
+// `stations`, `buses`, `ends`, `sorted`, `spare`, `keys`, `places`, `blocks`, `frames` and `path` are written: behind the `&mut` of a struct other lists could be put, so each contract would have to say that it keeps the lists and their lengths.
+// k is what the caller counted. As ghost fields of `Bounded`, `k ≡ station_count sub`, `k ≤ length sub` and `length kv ≡ length sub` would be asked of `survey`, `spans` and `route_lines` too, which need none of them.
 pub(crate) fn lay(
     o: Options,
     net: &Bounded<'_>,

@@ -23,7 +23,8 @@ use routes::route_lines;
 use sized::ill_sized;
 
 // Routes the lines of a drawing that is laid out, unless its sizes are ill, and answers its unit; the crossing list holds `room` crossings.
-// Lists that are written are no struct: behind `&mut` others could stand in it, so each contract would have to say that it keeps them and their lengths.
+// `stations`, `ends`, `sorted`, `spare`, `keys`, `path`, `numbers`, `along` and `ways` are written: behind the `&mut` of a struct other lists could be put, so each contract would have to say that it keeps the lists and their lengths.
+// So no `Placed` holds k, `stations` and `frames` here, and the lengths of `frames` and `places` are asked as the slices' own; `k ≤ 4096` is no fact of `Placed`, since `ill_sized` and `bounds_of` do without it.
 fn route(
     o: Options,
     ill: bool,
@@ -79,21 +80,9 @@ fn route(
     Ok(unit)
 }
 
-// Enters the boxes of k stations in `sorted` where it is wanted.
-fn enter<'a>(wanted: bool, k: usize, stations: &'a [u32], frames: &'a [f64], sorted: &mut [u32])
-    requires { (k ≤ 4096) × (2 * k ≤ length stations.now) × (4 * k ≤ length frames.now) }
-    ensures { Indexed (boxes_in k frames.now) (occupied (counts_in k stations.now)) sorted.new }
-{
-    let placed = Placed {
-        k,
-        stations,
-        frames,
-    };
-    index_boxes(wanted, &placed, sorted);
-}
-
 // Lays a drawing out, routes its lines, and enters its boxes in `sorted` where lines are led round them. Answers the unit, or 8, 9 or 10.
-// Lists that are written are no struct: behind `&mut` others could stand in it, so each contract would have to say that it keeps them and their lengths.
+// The lists from `stations` to `ways` are written: behind the `&mut` of a struct other lists could be put, so each contract would have to say that it keeps the lists and their lengths.
+// k and the voltages' number are asked here and in `lay`, for the reason that stands there.
 pub fn chart(
     o: Options,
     net: &Bounded<'_>,
@@ -133,6 +122,11 @@ pub fn chart(
         o, ill, net, k, unit, room, stations, buses, ends, sorted, spare, keys, places, blocks,
         frames, path, numbers, along, ways,
     );
-    enter(0 < o.route_iterations, k, stations, frames, sorted);
+    let placed = Placed {
+        k,
+        stations,
+        frames,
+    };
+    index_boxes(0 < o.route_iterations, &placed, sorted);
     course
 }

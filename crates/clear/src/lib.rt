@@ -6,7 +6,7 @@ ghost use Rattle.drawing.specs.Network.{crossings};
 ghost use Rattle.drawing.specs.Answer.{cleared_work, cleared_crossings};
 
 // All work lists of fixed needed length hold zeros.
-// Lists that are written are no struct: behind `&mut` others could stand in it, so each contract would have to say that it keeps them and their lengths.
+// The ten lists are written: behind the `&mut` of a struct other lists could be put, so the contract would have to say of each that it is the one that was lent.
 #[tactic(auto, unfolding(drawing::specs::Answer::cleared_work))]
 pub fn clear_work(
     stations: &mut [u32],

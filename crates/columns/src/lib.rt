@@ -15,23 +15,26 @@ fn falling_keys(kv: &[u64], keys: &mut [u64])
     requires { length kv.now ≤ length keys.old }
     ensures { take (length kv.now) keys.new ≡ table (λ i. falling (voltage kv.now i)) (length kv.now) }
 {
-    for i in 0..kv.len() {
-        keys[i] = 0xffff_ffff_ffff_ffff - key_of_bits(kv[i]);
+    for (i, &v) in kv.iter().enumerate() {
+        keys[i] = 0xffff_ffff_ffff_ffff - key_of_bits(v);
     }
 }
 
 // Puts each bus's column beside its bus.
+// `turns` `put_order` copies to every second number, from the second on: the strides differ, and it keeps what is between.
 fn put_columns(places: &[u32], buses: &mut [u32])
     requires { 3 * length places.now ≤ length buses.old }
     ensures { columns_in (length places.now) buses.new ≡ places.now }
 {
-    for i in 0..places.len() {
-        buses[3 * i] = places[i];
+    for (i, &place) in places.iter().enumerate() {
+        buses[3 * i] = place;
     }
 }
 
 // Each bus's column, beside its bus; the counters of the k stations are used, their bus counts stay. The other lists are lent for the work.
-// Lists that are written are no struct: behind `&mut` others could stand in it, so each contract would have to say that it keeps them and their lengths.
+// `stations`, `buses`, `keys`, `sorted` and `spare` are written: behind one `&mut` a struct of them could hold other lists afterwards, so its contract would have to say of each that it is as long as before.
+// `Bounded` would ask for few branches, and a ghost field of `Network` for as many voltages as buses would ask it of the callers of `kind_of`, `rows` and `write_roles`.
+// k is counted once for all functions, and stands beside `stations`, which is written, so that no `Stations` holds it.
 pub fn columns(
     sub: &[u32],
     kv: &[u64],

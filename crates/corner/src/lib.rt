@@ -20,7 +20,7 @@ fn cost_key(p: Point, q: Point, c: Point) -> u64
     ensures { result ≡ cost_key p q c }
 {
     let x = cost(p, q, c);
-    if x != x {
+    if x.is_nan() {
         return 0xfff8_0000_0000_0000;
     }
     order_key(x)

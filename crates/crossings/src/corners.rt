@@ -18,7 +18,7 @@ pub struct Vertices<'a> {
     pub ghost rising: { Rising (order_in c stations.now) },
 }
 
-// Writes the occupied stations, in order, as the second of two numbers each. The bounds of k are asked here and in the two functions that lend the list on to be written: a struct that held it would have to keep them true at each write.
+// Writes the occupied stations, in order, as the second of two numbers each. The bounds of k are asked here and in the functions that lend `stations` on to be written: behind the `&mut` of a struct another list could be put, so each contract would have to say that it keeps its length.
 fn note_occupied(k: usize, stations: &mut [u32])
     requires { (k ≤ 4096) × (2 * k ≤ length stations.old) }
     ensures stations_unchanged { counts_in k stations.new ≡ counts_in k stations.old }
@@ -34,6 +34,7 @@ fn note_occupied(k: usize, stations: &mut [u32])
 }
 
 // The corners: their number, the occupied stations in order as the second of two numbers each, and their places at the front of path.
+// `stations` and `path` are written, so no `Placed` holds k with them, and `places` is in no struct with k: the four lengths are asked here.
 pub fn occupied_corners(k: usize, stations: &mut [u32], places: &[f64], path: &mut [f64]) -> usize
     requires { (k ≤ 4096) × (2 * k ≤ length stations.old) × (2 * k ≤ length places.now) × (2 * k ≤ length path.old) }
     ensures value { result ≡ length (occupied (counts_in k stations.old)) }

@@ -94,8 +94,7 @@ pub fn store_trail(
     ensures upper_bound { result ≤ x + length trail.now }
 {
     let mut known = k;
-    for i in 0..trail.len() {
-        let h = at(trail, i);
+    for (i, &h) in trail.iter().enumerate() {
         known = store_crossing(line, m, e, h, x + i, known, ends, numbers, places);
     }
     known

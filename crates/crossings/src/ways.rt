@@ -8,7 +8,7 @@ use crate::corners::{Vertices, corner_of};
 use network::lists::Network;
 use network::words::{Kind, kind_of, station_of};
 
-// The way of a branch: of a line one more than its first corner, and its second corner; 0 and 0 of any other.
+// The way of a branch: of a line one more than its first corner, and its second corner; 0 and 0 of any other. No Option: `ends`, which holds the ways, is a list of numbers, where 0 says that there is none.
 #[derive(Clone, Copy)]
 pub struct Way {
     pub start: u32,
@@ -40,7 +40,7 @@ fn way_of(net: &Network<'_>, vertices: &Vertices<'_>, e: usize) -> Way
 }
 
 // Writes each branch's way as the last two of its four numbers.
-// Lists that are written are no struct: behind `&mut` others could stand in it, so each contract would have to say that it keeps them and their lengths.
+// The length of `ends`, the one list that is written, is asked as the slice's own.
 pub fn write_ways(net: &Network<'_>, vertices: &Vertices<'_>, ends: &mut [u32])
     requires { 4 * length net.now.from.now ≤ length ends.old }
     ensures { Wayed (way_of net.now.sub.now net.now.from.now net.now.to.now net.now.service.now (order_in vertices.now.c vertices.now.stations.now)) (length net.now.from.now) (length net.now.from.now) ends.old ends.new }

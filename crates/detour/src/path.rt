@@ -12,7 +12,7 @@ use first_hit::search::first_hit;
 use geometry::Point;
 use grid::index::BoxIndex;
 
-// Point i of a list of coordinates.
+// Point i of a list of coordinates. `point_at` asks a number below 2^32: here the list's length bounds i, and no number does.
 fn point_in(path: &[f64], i: usize) -> Point
     requires { 2 * i + 1 < length path.now }
     ensures { result ≡ point_at path.now i }

@@ -10,7 +10,7 @@ use listing::output::{print, print_refusal};
 use refusals::Refusal;
 
 // Draws a network of at most 64 buses and 64 branches, and writes its pieces or its refusal to out.
-// An array of 15,960 bytes would ask more: a longer list may be lent.
+// The lists stand as the public call takes them. `&mut [u8; 16384]` for `out`, in this crate's functions, was tried: the check of `list_of` didn't end within minutes, beside others.
 fn list_drawing(
     sub: &[u32],
     kv: &[u64],
@@ -43,7 +43,7 @@ fn list_drawing(
     }
 }
 
-// Draws the network of the first n buses and the first m branches of these lists, which are cut here.
+// Draws the network of the first n buses and the first m branches of these lists, which are cut here. They stand as the public call takes them.
 fn list_front(
     n: usize,
     m: usize,
@@ -71,6 +71,7 @@ fn list_front(
     )
 }
 
+// `list_parsed` within `list_of`, which has arrays, was tried: its check didn't end within minutes, beside others.
 // Reads a network into these lists, draws it, and writes its pieces, its refusal, or refusal 14 to out.
 fn list_parsed(
     text: &[u8],

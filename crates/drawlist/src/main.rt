@@ -50,7 +50,7 @@ fn run<R: Read + Drop, W: Write>(
 }
 
 fn main(rt: HostRuntime) -> io::Result<()> {
-    // no heap is a rule of the project, so the text has a buffer that is long enough for the longest
+    // the text that is written has at most 15,960 bytes, so a buffer on the stack will do
     let mut out = [0u8; 16384];
     run(rt.alloc(), rt.reader(), &mut io::writer(&rt), &mut out)
 }

@@ -13,7 +13,8 @@ use measures::Measures;
 use network::lists::{Bounded, Network};
 use network::words::{Kind, kind_of, station_of};
 use order::at;
-use runs::run::{box_at, exit_of, put_point};
+use runs::run::{box_at, exit_of};
+use seeds::put_point;
 
 // The two exits of a line: from its first station's box and from its second's.
 #[derive(Clone, Copy)]
@@ -23,7 +24,7 @@ pub struct Exits {
 }
 
 // The exit of station s towards t, at the height of a row.
-// The lists come one by one and not as `Laid`: the exits are written into `places` itself, which no struct of shared lists can hold meanwhile.
+// The lists come one by one and not as `Laid`: `places` is written between two branches, so the struct would be made anew for each, and it wants `buses`, which `write_exits` lacks.
 #[tactic(auto, unfolding(crate::specs::Stages::Exits::exit_from, runs::specs::Stages::Views::block_of))]
 fn exit_at(
     measures: Measures,
@@ -83,6 +84,7 @@ fn no_exits() -> Exits
 }
 
 // The exits of branch e.
+// e is counted over usize, and asked to be below 2^32 so that 4 * e can't overflow: a `u32` would be converted at each index.
 fn exits_of(
     net: &Network<'_>,
     measures: Measures,
@@ -104,7 +106,7 @@ fn exits_of(
 }
 
 // Writes every branch's exits behind the places of as many stations as there are buses.
-// Lists that are written are no struct: behind `&mut` others could stand in it, so each contract would have to say that it keeps them and their lengths.
+// The length of `places`, the one list that is written, is asked as the slice's own.
 pub fn write_exits(
     net: &Bounded<'_>,
     measures: Measures,

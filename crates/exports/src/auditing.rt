@@ -5,6 +5,7 @@ use audit::quality::tx_layout_quality;
 use records::plain::Audited;
 
 // Audits a drawing: the figures of each station and line in the result lists, the others in the answer.
+// The lists stand as C hands them over, each with its length.
 #[unsafe(no_mangle)]
 pub extern "C" fn tansygate_audit(
     displacement: &mut [f64],

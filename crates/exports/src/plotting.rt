@@ -7,6 +7,7 @@ use options::Options;
 use records::plain::{Plotted, Settings};
 
 // Draws the network into the lent lists.
+// The lists stand as C hands them over, each with its length.
 #[unsafe(no_mangle)]
 pub extern "C" fn tansygate_plot(
     positions: &mut [f64],

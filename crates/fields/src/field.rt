@@ -82,6 +82,7 @@ pub fn whole(text: &[u8], at: usize, stop: u8, most: u64) -> Option<Parsed<u64>>
     requires { (9 ≤ most) × (most ≤ 2 ^ 63) }
     ensures { whole_to stop most (drop at text.now) ≡ field_of text.now result }
 {
+    // no table: each arm calls another function with other words
     match text.get(at)? {
         b'0' => closed(text, at + 1, stop, 0),
         _ => positive(text, at, stop, most),
@@ -110,6 +111,7 @@ pub fn pattern(text: &[u8], at: usize, stop: u8) -> Option<Parsed<u64>>
 pub fn bus_number(text: &[u8], at: usize, stop: u8) -> Option<Parsed<i64>>
     ensures { bus_number stop (drop at text.now) ≡ field_of text.now result }
 {
+    // no table: each arm calls another function, with another limit, and makes its number of the answer in another way
     match text.get(at)? {
         b'-' => {
             let f = positive(text, at + 1, stop, 0x8000_0000_0000_0000)?;

@@ -46,7 +46,7 @@ pub fn middles(k: usize, boxes: &[f64], points: &mut [f64])
 }
 
 // The distance from each occupied station's seed to its box's middle.
-// `Placed` is lent with more stations too (`sized`, `results`), so the bound of k is asked where it is needed.
+// The bound of k is no fact of `Placed`: `sized` and `results` don't ask for at most 4,096 stations, so it would ask more of their callers.
 pub fn displacements(placed: &Placed<'_>, seeds: &[f64], displacement: &mut [f64])
     requires { (placed.now.k ≤ 4096) × (placed.now.k ≤ length displacement.old) }
     ensures { displacement.new ≡ over (displacements (points_in placed.now.k seeds.now) (boxes_in placed.now.k placed.now.frames.now) (occupied (counts_in placed.now.k placed.now.stations.now))) displacement.old }
@@ -86,7 +86,7 @@ fn by_sides(placed: &Placed<'_>, spacing: &mut [f64])
 }
 
 // The least positive distance of each point to another by the shorter side of its station's box: the points are the occupied stations' in order. `keys`, `order` and `spare` are work lists.
-// Lists that are written are no struct: behind `&mut` others could stand in it, so each contract would have to say that it keeps them and their lengths.
+// `spacing`, `keys`, `order` and `spare` are no struct: behind `&mut` other lists could stand in it, so the contracts here and of `nearest_neighbour_distances` would have to say that it keeps the four and their lengths.
 pub fn spacings(
     placed: &Placed<'_>,
     points: &Points<'_>,

@@ -2,26 +2,28 @@
 -- Assumes nothing.
 use Prim.Native.Nat.{ℕ, ◌*◌, ◌≤◌, ◌<◌}
 use mathlib.Core.Path.{◌≡◌, refl, sym, ap, ◌∙◌, subst}
-use mathlib.Core.Bool.{Bool}
+use mathlib.Core.Bool.{Bool, true, false, cond}
 use mathlib.Core.List.{List, map}
 use lib.Dec.{ltb}
 use lib.ListN.{length}
-use lib.Ieee.{Float}
-use Rattle.std.specs.Prelude.{Some, None, Ok, Err}
+use lib.Ieee.{Float, nan}
+use Rattle.std.specs.Prelude.{Option, Some, None, Ok, Err}
 use Rattle.order.specs.Over.{over}
+use Rattle.order.proofs.Tables.{table_ext}
 use Rattle.geometry.specs.declared.Box.{Box}
 use Rattle.options.specs.declared.Gaps.{Gaps}
 use Rattle.options.specs.declared.Options.{Options}
 use Rattle.refusals.specs.declared.Refusal.{Refusal}
 use Rattle.refusals.proofs.Unless as Unless
 use Rattle.refusals.proofs.Unless.{accepted}
-use Rattle.network.specs.Words.{kinds, occupied}
+use Rattle.network.specs.Words.{kinds, kind_of, occupied}
 use Rattle.network.specs.Views.{counts_in, boxes_in}
 use Rattle.sizes.specs.Stages.Views.{scales_in}
 use Rattle.bars.specs.Bar.{position}
 use Rattle.runs.specs.Run.{Piece, all_pieces, role}
+use Rattle.runs.proofs.Paths.{run_unled}
 use Rattle.runs.specs.Lists.{flat, point_numbers, box_numbers, bar_numbers, piece_numbers, after}
-use Rattle.runs.specs.Stages.Views.{RunLists, held, lead, Fits}
+use Rattle.runs.specs.Stages.Views.{RunLists, held, lead, lead_by, Fits}
 use Rattle.pieces.specs.Stages.Pieces.{branch_of}
 use Rattle.survey.specs.Stages.Runs.{runs_in}
 use Rattle.results.specs.Stages.Bars.{bars_in}
@@ -79,12 +81,23 @@ module _ (o : Options) (N : Network) (k : ℕ) (R : Room) (stations buses ends :
     unfolding late routed_late
     late_is pieces e = let z = passed.0 in cc
 
-    module _ (gap : Float) (led : Bool) (ge : gap ≡ gap_of M.unit) (le : led ≡ ltb 0 o.route_iterations) where
+    -- Where lines aren't led, no gap is read.
+    led_is : (b : Bool) → runs_in (held N.station M buses ends blocks places frames (lead_by (cond b (Some (gap_of M.unit)) None) k stations ways)) N.from N.to N.service
+        ≡ runs_in (held N.station M buses ends blocks places frames (lead b (gap_of M.unit) k stations ways)) N.from N.to N.service
+    unfolding runs_in
+    led_is true = refl
+    led_is false = table_ext _ _ (length N.from) (λ e h. run_unled N.station M buses ends blocks places frames k stations ways nan (gap_of M.unit) e (kind_of N.station N.from N.to N.service e))
+
+    module _ (gap : Option Float) (ge : gap ≡ cond (ltb 0 o.route_iterations) (Some (gap_of M.unit)) None) where
       abbrev held_by : RunLists
-      held_by = held N.station M buses ends blocks places frames (lead led gap k stations ways)
+      held_by = held N.station M buses ends blocks places frames (lead_by gap k stations ways)
 
       runs_are : runs_in held_by N.from N.to N.service ≡ (drawing o N).runs
-      runs_are = (let e = passed.1 in let m = measured in cc (ge, le)) ∙ C.runs (sym passed.0)
+      runs_are =
+          ap (λ (g : Option Float). runs_in (held N.station M buses ends blocks places frames (lead_by g k stations ways)) N.from N.to N.service) ge
+          ∙ led_is (ltb 0 o.route_iterations)
+          ∙ (let e = passed.1 in let m = measured in cc)
+          ∙ C.runs (sym passed.0)
 
       all_pieces_lem : all_pieces (kinds N.station N.from N.to N.service) (runs_in held_by N.from N.to N.service) ≡ (drawing o N).pieces
       unfolding drawing

@@ -1,5 +1,5 @@
 // A charted drawing judged: its plot, or refusal 11.
-ghost use Rattle.std.specs.Prelude.{◌≡◌, ◌*◌, ◌≤◌, ltb, length};
+ghost use Rattle.std.specs.Prelude.{◌≡◌, ◌*◌, ◌≤◌, ltb, cond, Some, None, length};
 ghost use Rattle.network.specs.Words.{occupied};
 ghost use Rattle.network.specs.Views.{counts_in, boxes_in};
 ghost use Rattle.grid.specs.Stages.Cells.{Indexed};
@@ -9,6 +9,7 @@ ghost use Rattle.drawing.specs.Drawing.{drawing};
 ghost use Rattle.drawing.specs.Answer.{crossing_room, late, answer_for};
 ghost use Rattle.chart.specs.Stages.Charted.{Charted};
 
+use crossings::gap::gap_of;
 use drawing::answer::Plot;
 use drawing::late::check_pieces;
 use drawing::room::Room;
@@ -19,11 +20,15 @@ use results::bounds::bounds_of;
 use runs::laid::{Guide, Laid};
 use survey::survey;
 
-// Whether lines are led: there are iterations.
-pub(crate) fn is_led(o: Options) -> bool
-    ensures { result ≡ ltb 0 o.route_iterations }
+// The gap that lines keep where they are led: where there are iterations.
+pub(crate) fn gap_led(o: Options, unit: f64) -> Option<f64>
+    ensures { result ≡ cond (ltb 0 o.route_iterations) (Some (gap_of unit)) None }
 {
-    0 < o.route_iterations
+    if 0 < o.route_iterations {
+        Some(gap_of(unit))
+    } else {
+        None
+    }
 }
 
 // Judges the drawing that the work lists hold, which nothing refuses so far, with lists of these lengths; `guide` enters its boxes.
@@ -36,7 +41,7 @@ pub(crate) fn judge(
     path: &mut [f64],
 ) -> Result<Plot, Refusal>
     requires measured { laid.now.measures.gaps ≡ o.gaps }
-    requires guided { (guide.now.led ≡ ltb 0 o.route_iterations) × (guide.now.gap ≡ gap_of laid.now.measures.unit) }
+    requires guided { guide.now.gap ≡ cond (ltb 0 o.route_iterations) (Some (gap_of laid.now.measures.unit)) None }
     requires charted { Charted o (network net.now.lists.sub.now net.now.lists.kv.now net.now.lists.from.now net.now.lists.to.now net.now.lists.service.now net.now.lists.xy.now net.now.lists.mesh.corners.now net.now.lists.mesh.twins.now) guide.now.index.placed.k (crossing_room room) (Ok laid.now.measures.unit) guide.now.index.placed.stations.now laid.now.buses.now laid.now.ends.now laid.now.blocks.now laid.now.places.now guide.now.index.placed.frames.now path.old guide.now.ways.now }
     ensures { result ≡ answer_for (late (drawing o (network net.now.lists.sub.now net.now.lists.kv.now net.now.lists.from.now net.now.lists.to.now net.now.lists.service.now net.now.lists.xy.now net.now.lists.mesh.corners.now net.now.lists.mesh.twins.now)) room) (drawing o (network net.now.lists.sub.now net.now.lists.kv.now net.now.lists.from.now net.now.lists.to.now net.now.lists.service.now net.now.lists.xy.now net.now.lists.mesh.corners.now net.now.lists.mesh.twins.now)) }
 {

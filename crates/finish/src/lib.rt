@@ -3,7 +3,7 @@
 
 pub mod draft;
 
-ghost use Rattle.std.specs.Prelude.{◌≡◌, ◌*◌, ◌≤◌, ltb, length};
+ghost use Rattle.std.specs.Prelude.{◌≡◌, ◌*◌, ◌≤◌, ltb, cond, Some, None, length};
 ghost use Rattle.network.specs.Words.{occupied};
 ghost use Rattle.network.specs.Views.{counts_in, boxes_in};
 ghost use Rattle.grid.specs.Stages.Cells.{Indexed};
@@ -14,8 +14,7 @@ ghost use Rattle.drawing.specs.Answer.{crossing_room, late};
 ghost use Rattle.chart.specs.Stages.Charted.{Charted};
 ghost use Rattle.finish.specs.Stages.Draft.{Drew};
 
-use crate::draft::{is_led, judge};
-use crossings::gap::gap_of;
+use crate::draft::{gap_led, judge};
 use drawing::answer::Plot;
 use drawing::room::Room;
 use grid::index::BoxIndex;
@@ -29,6 +28,7 @@ use runs::laid::{Guide, Laid};
 use survey::write_pieces;
 
 // Judges a drawing that nothing refuses so far, and writes it where nothing does.
+// That `blocks` holds three numbers of each of k stations is asked here and in `finish`: `Laid` has no k, and `survey` doesn't ask it. The lengths of the lists from `path` on are asked as the slices' own, since they are written.
 fn write(
     o: Options,
     net: &Bounded<'_>,
@@ -45,7 +45,7 @@ fn write(
     branches: &mut [u32],
 ) -> Result<Plot, Refusal>
     requires measured { laid.now.measures.gaps ≡ o.gaps }
-    requires guided { (guide.now.led ≡ ltb 0 o.route_iterations) × (guide.now.gap ≡ gap_of laid.now.measures.unit) }
+    requires guided { guide.now.gap ≡ cond (ltb 0 o.route_iterations) (Some (gap_of laid.now.measures.unit)) None }
     requires sub_len_bound { 3 * guide.now.index.placed.k ≤ length laid.now.blocks.now }
     requires sub_in_bounds { (2 * length net.now.lists.sub.now ≤ length positions.old) × (4 * length net.now.lists.sub.now ≤ length bars.old) × (4 * guide.now.index.placed.k ≤ length boxes.old) × (guide.now.index.placed.k ≤ length scales.old) × (length net.now.lists.from.now ≤ length roles.old) × (room.pieces ≡ length pieces.old) × (room.branches ≡ length branches.old) }
     requires charted { Charted o (network net.now.lists.sub.now net.now.lists.kv.now net.now.lists.from.now net.now.lists.to.now net.now.lists.service.now net.now.lists.xy.now net.now.lists.mesh.corners.now net.now.lists.mesh.twins.now) guide.now.index.placed.k (crossing_room room) (Ok laid.now.measures.unit) guide.now.index.placed.stations.now laid.now.buses.now laid.now.ends.now laid.now.blocks.now laid.now.places.now guide.now.index.placed.frames.now path.old guide.now.ways.now }
@@ -69,7 +69,8 @@ fn write(
 }
 
 // Writes a charted drawing where nothing refuses it; `sorted` enters its boxes.
-// Lists that are written are no struct: behind `&mut` others could stand in it, so each contract would have to say that it keeps them and their lengths.
+// `path` and the lists from `positions` to `branches` are written: behind the `&mut` of a struct other lists could be put, so each contract would have to say that it keeps the lists and their lengths.
+// k, `stations`, `frames` and `sorted` come one by one: the caller writes these lists before this call and after it, so it would make a `BoxIndex` for this call alone. The bounds of k are what `Placed` and `BoxIndex`, made here, ask; `blocks` is bounded by k since `Laid` has no k.
 pub fn finish<'a>(
     o: Options,
     net: &Bounded<'_>,
@@ -119,8 +120,7 @@ pub fn finish<'a>(
         cells: sorted,
     };
     let guide = Guide {
-        led: is_led(o),
-        gap: gap_of(unit),
+        gap: gap_led(o, unit),
         index,
         ways,
     };

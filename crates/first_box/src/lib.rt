@@ -11,7 +11,8 @@ use geometry::entry::enters;
 use geometry::{Box, Point, box_at};
 use network::lists::Placed;
 
-// Station s's box, zeros past the last. Here, in `entry_at` and in `grid::grid_of` boxes are lent without bus counts: a `Placed` would ask for more, and a struct of k and frames would be made anew at each call.
+// Station s's box, zeros past the last.
+// This, `entry_at` and `grid::grid_of` are public and read no bus counts, for which a `Placed` would ask their callers.
 #[tactic(auto, using(network::proofs::Views::get_d_boxes, crate::proofs::Looking::box_past))]
 pub fn box_in(k: usize, frames: &[f64], s: usize) -> Box
     requires { 4 * k ≤ length frames.now }

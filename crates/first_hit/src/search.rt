@@ -61,6 +61,7 @@ fn hit_of(n: Near) -> Option<usize>
 }
 
 // One more than the station behind station s in its chain, 0 for none; never above s.
+// s is below 2^32 as a number of a chain; it is counted over usize, and a `u32` would be converted at each index.
 #[tactic(auto, unfolding(grid::specs::Stages::Cells::next_at))]
 fn behind(index: &BoxIndex<'_>, s: usize) -> usize
     requires { s < 2 ^ 32 }

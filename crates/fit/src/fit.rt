@@ -2,7 +2,7 @@
 ghost use Rattle.std.specs.Prelude.{◌≡◌, ◌*◌, ◌≤◌, eqb, length, get_or};
 ghost use Rattle.fit.specs.Fit.{all_named, is_line, end_at, joins, all_join, moderate, all_moderate, ordered, all_ordered, fits};
 
-use crate::drawn::Drawn;
+use crate::drawn::{Drawn, FewBuses};
 use float::small::abs;
 use geometry::{Box, box_at};
 use network::words::{known_bus, station_count, station_of};
@@ -30,7 +30,7 @@ pub fn is_line(roles: &[u8], e: usize) -> bool
 }
 
 // The bus at the end of branch e, of n; unknown past the list's end.
-// Here and below n is how many buses there are: the lists beside it have an element for each branch.
+// n is how many buses there are: the list has an element for each branch. The rule is that of `network::words::end_of`, which is private there and reads the lists of the layout call.
 pub fn end_at(n: usize, ends: &[i64], e: usize) -> Option<usize>
     ensures { result ≡ end_at n ends.now e }
 {
@@ -39,17 +39,19 @@ pub fn end_at(n: usize, ends: &[i64], e: usize) -> Option<usize>
 
 // Whether branch e has no line role or two known ends.
 #[tactic(auto, unfolding(crate::specs::Fit::joins))]
-fn joins(n: usize, from: &[i64], to: &[i64], roles: &[u8], e: usize) -> bool
-    ensures { result ≡ joins n from.now to.now roles.now e }
+fn joins(drawing: &Drawn<'_>, e: usize) -> bool
+    ensures { result ≡ joins (length drawing.now.sub.now) drawing.now.from.now drawing.now.to.now drawing.now.roles.now e }
 {
-    !is_line(roles, e) || end_at(n, from, e).is_some() && end_at(n, to, e).is_some()
+    let n = drawing.sub.len();
+    !is_line(drawing.roles, e)
+        || end_at(n, drawing.from, e).is_some() && end_at(n, drawing.to, e).is_some()
 }
 
 // Whether no line-role branch has an unknown end.
-fn all_join(n: usize, from: &[i64], to: &[i64], roles: &[u8]) -> bool
-    ensures { result ≡ all_join n from.now to.now roles.now }
+fn all_join(drawing: &Drawn<'_>) -> bool
+    ensures { result ≡ all_join (length drawing.now.sub.now) drawing.now.from.now drawing.now.to.now drawing.now.roles.now }
 {
-    (0..from.len()).all(|e| joins(n, from, to, roles, e))
+    (0..drawing.from.len()).all(|e| joins(drawing, e))
 }
 
 // Whether a number is at most 2^100 in size.
@@ -76,6 +78,7 @@ fn ordered(b: Box) -> bool
 }
 
 // Whether all of k boxes are ordered.
+// `fits` calls it once the length of the boxes has passed, and no bus counts stand beside them: a `Placed` would ask for them.
 fn all_ordered(k: usize, boxes: &[f64]) -> bool
     requires { 4 * k ≤ length boxes.now }
     ensures { result ≡ all_ordered k boxes.now }
@@ -92,16 +95,16 @@ fn fours(pieces: &[f64], branches: &[u32]) -> bool
 
 // Whether the drawing fits: 13 is given where it doesn't.
 #[tactic(auto, unfolding(crate::specs::Fit::fits))]
-pub fn fits(drawing: &Drawn<'_>) -> bool
-    requires { length drawing.now.sub.now ≤ 4096 }
-    ensures { result ≡ fits drawing.now.sub.now drawing.now.from.now drawing.now.to.now drawing.now.boxes.now drawing.now.roles.now drawing.now.pieces.now drawing.now.branches.now }
+pub fn fits(drawing: &FewBuses<'_>) -> bool
+    ensures { result ≡ fits drawing.now.lists.sub.now drawing.now.lists.from.now drawing.now.lists.to.now drawing.now.lists.boxes.now drawing.now.lists.roles.now drawing.now.lists.pieces.now drawing.now.lists.branches.now }
 {
+    let drawing = drawing.lists;
     let k = station_count(drawing.sub);
     drawing.boxes.len() == 4 * k
         && drawing.roles.len() == drawing.from.len()
         && fours(drawing.pieces, drawing.branches)
         && all_named(drawing.from.len(), drawing.branches)
-        && all_join(drawing.sub.len(), drawing.from, drawing.to, drawing.roles)
+        && all_join(&drawing)
         && all_moderate(drawing.boxes)
         && all_moderate(drawing.pieces)
         && all_ordered(k, drawing.boxes)

@@ -1,8 +1,10 @@
 -- Which bit patterns are a NaN's, by one comparison.
 -- Assumes nothing.
 use Rattle.std.proofs.Common.{◌≡◌, ℕ, ◌*◌, ◌%◌, ◌<◌, ◌≤◌, Bool, true, false, not, T, sym, refl, ◌∙◌, subst, true≢false, le-ltb, lt-ltb}
-use lib.Ieee.{Float, nan, inf, fin, binary64, is_nan, hid, ones, top, of_bits, nan_bits, div, ne, eq}
+use lib.Ieee.{Float, nan, inf, fin, binary64, is_nan, hid, ones, top, of_bits, to_bits, nan_bits, div}
 use lib.Ieee.Bits.{nan_bits_is, nan_bits_above}
+use Rattle.float.specs.Key.{key_of}
+use Rattle.float.specs.Ops.{order_key}
 
 only_nan : (x : Float) → is_nan x ≡ true → x ≡ nan
 unfolding is_nan
@@ -22,9 +24,9 @@ pub zero_over_zero : div binary64 (of_bits binary64 0) (of_bits binary64 0) ≡ 
 unfolding div of_bits
 zero_over_zero = refl
 
--- a float that equals itself is no NaN
-pub no_nan : (x : Float) → ne x x ≡ false → T (not (is_nan x))
-unfolding ne eq is_nan
-no_nan nan h = absurd (true≢false h)
-no_nan (inf s) h = tt
-no_nan (fin s m e) h = tt
+-- the key of every NaN is that of the one pattern
+pub key_nan : (x : Float) → is_nan x ≡ true → 0xfff8_0000_0000_0000 ≡ order_key x
+unfolding is_nan key_of to_bits
+key_nan nan h = refl
+key_nan (inf s) h = absurd (true≢false (sym h))
+key_nan (fin s m e) h = absurd (true≢false (sym h))

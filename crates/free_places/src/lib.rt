@@ -22,6 +22,7 @@ fn is_free(p: Box, boxes: &[f64], sorted: &[u32], t: Stretch) -> bool
     ensures { result ≡ free p (boxes_among boxes.now t.first t.end sorted.now) }
 {
     let end = t.end;
+    // by index: that a stretch begins before it ends, which a slice of it would ask, isn't known here
     for j in t.first..end {
         if overlaps(p, box_at(boxes, sorted[j] as usize)) {
             return false;
@@ -101,6 +102,7 @@ fn first_free(
     requires { Holds unit boxes.now most keys.now sorted.now }
     ensures { result ≡ first_free seed (frame w h f buffer) (kept_boxes boxes.now sorted.now) widening (skipped tried.now.search (pairs_in tried.now.a.now tried.now.b.now)) }
 {
+    // by column, an end of 0 where no stretch is known yet: an Option of one would be a third word to copy at each offset
     let mut firsts = [0; 41];
     let mut ends = [0; 41];
     for j in 0..tried.a.len() {

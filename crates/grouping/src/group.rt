@@ -11,18 +11,18 @@ fn channel_keys(numbers: &[u32], keys: &mut [u64])
     requires { length keys.old ≤ 2 ^ 32 }
     ensures { keys.new ≡ strided 3 0 0 (length keys.old) numbers.now }
 {
-    for x in 0..keys.len() {
-        keys[x] = at(numbers, 3 * x) as u64;
+    for (x, key) in keys.iter_mut().enumerate() {
+        *key = at(numbers, 3 * x) as u64;
     }
 }
 
-// The third of each crossing's three numbers becomes one of the crossings in the order given.
+// The third of each crossing's three numbers becomes one of the crossings in the order given. `put_columns` of `columns` writes the first of three: one function for both would take the column, and both contracts would say which.
 fn copy_order(order: &[u32], numbers: &mut [u32])
     requires { (length order.now ≤ 2 ^ 32) × (3 * length order.now ≤ length numbers.old) }
     ensures { Copied order.now numbers.old numbers.new }
 {
-    for j in 0..order.len() {
-        numbers[3 * j + 2] = order[j];
+    for (j, &x) in order.iter().enumerate() {
+        numbers[3 * j + 2] = x;
     }
 }
 
@@ -45,7 +45,7 @@ fn put_starts(m: usize, channels: usize, keys: &[u64], order: &[u32], ends: &mut
     }
 }
 
-// Groups all crossings by channel; the last three lists are as long as there are crossings.
+// Groups all crossings by channel; the last three lists are as long as there are crossings. That `sorted` and `spare` are as long as `keys` is asked and no struct's fact: behind its `&mut` lists of other lengths could be put.
 fn group_all(
     m: usize,
     channels: usize,
@@ -66,7 +66,7 @@ fn group_all(
 }
 
 // Groups as many crossings as `keys` is long by channel: the third number of each, and behind the branches where each channel's begin; the last three are work lists.
-// Lists that are written are no struct: behind `&mut` others could stand in it, so each contract would have to say that it keeps them and their lengths.
+// `ends`, `numbers`, `sorted`, `spare` and `keys` are written: behind the `&mut` of a struct other lists could be put, so each contract would have to say that it keeps the lists and their lengths.
 pub fn group(
     m: usize,
     channels: usize,

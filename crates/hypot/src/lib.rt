@@ -203,7 +203,7 @@ fn guess(w: u64) -> u64
     ensures { result < 2 ^ 28 }
 {
     let x = (w / 16) as f64 * 16.0;
-    if x != x {
+    if x.is_nan() {
         return 0;
     }
     let p = f64::to_bits(x) % 0x8000_0000_0000_0000 / 2;
@@ -223,7 +223,7 @@ fn guess(w: u64) -> u64
 fn under(g: u64) -> u64
     ensures { result < 2 ^ 28 }
 {
-    if g < 0x1000_0000 { g } else { 0xfff_ffff }
+    g.min(0xfff_ffff)
 }
 
 // The largest number from g down whose square isn't above w.
@@ -326,10 +326,10 @@ pub fn hypot(x: f64, y: f64) -> f64
     if b == i {
         return i;
     }
-    if a != a {
+    if a.is_nan() {
         return a;
     }
-    if b != b {
+    if b.is_nan() {
         return b;
     }
     let p = f64::to_bits(a);

@@ -1,5 +1,5 @@
 // The text of a drawing, and of a refusal.
-ghost use Rattle.std.specs.Prelude.{◌≡◌, ◌+◌, ◌*◌, ◌^◌, ◌≤◌, ◌<◌, length, get_or};
+ghost use Rattle.std.specs.Prelude.{◌≡◌, ◌+◌, ◌*◌, ◌^◌, ◌≤◌, ◌<◌, length};
 ghost use Rattle.order.specs.Table.{joined};
 ghost use Rattle.order.specs.Over.{over};
 ghost use Rattle.listing.specs.Output.{point_fields, piece_line, listing, refusal};
@@ -18,13 +18,6 @@ pub fn word(s: &[u8], at: usize, out: &mut [u8]) -> usize
     let end = at + s.len();
     out[at..end].copy_from_slice(s);
     end
-}
-
-// The role of branch b, 0 past the end.
-fn role_at(roles: &[u8], b: u32) -> u8
-    ensures { result ≡ get_or roles.now b 0 }
-{
-    roles.get(b as usize).copied().unwrap_or(0)
 }
 
 // The point at place j of the pieces; the place after it.
@@ -54,7 +47,7 @@ fn piece_line(
     ensures out_after { out.new ≡ put_at out.old at (piece_line roles.now pieces.now branches.now i) }
 {
     let b = order::at(branches, i);
-    let role = role_at(roles, b);
+    let role = roles.get(b as usize).copied().unwrap_or(0);
     let p1 = number_field(b, b' ', at, out);
     let p2 = number_field(role as u32, b' ', p1, out);
     let p3 = point_fields(pieces, 4 * i, b' ', p2, out);

@@ -21,7 +21,8 @@ pub struct Measures {
 
 // The unit of the first k stations, and the size and scale of each in blocks. `stations` has the bus count and the row count of each,
 // `places` the seeds. The other lists are work lists.
-// Lists that are written are no struct: behind `&mut` others could stand in it, so each contract would have to say that it keeps them and their lengths.
+// `blocks`, `frames`, `path`, `keys`, `sorted` and `spare` are written: behind one `&mut` a struct of them could hold other lists afterwards, so its contract would have to say of each that it is as long as before.
+// The bound of k is no ghost field of `Stations`: `sizes`, `units::coordinates` and `scales` take one of any k.
 pub fn units(
     o: Options,
     stations: &Stations<'_>,

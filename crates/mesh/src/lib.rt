@@ -32,7 +32,7 @@ pub fn end_at(corners: &[u32], h: usize) -> u32
     at(corners, next(h))
 }
 
-// Whether half-edge h starts at a corner below n and ends at another. n counts stations: the list of corners is longer.
+// Whether half-edge h starts at a corner below n and ends at another. n counts stations, not half-edges, of which the list has a number each.
 #[tactic(auto, unfolding(crate::specs::Mesh::corner_ok))]
 fn corner_ok(corners: &[u32], n: usize, h: u32) -> bool
     ensures { result ≡ corner_ok corners.now n h }

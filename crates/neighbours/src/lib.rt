@@ -41,6 +41,7 @@ pub fn nearest_of_all(points: &Points<'_>, out: &mut [f64])
 }
 
 // The same along the order of x where every x is finite. The other lists are work lists.
+// n is asked to fit a u32 where the points' numbers or counts are written: `nearest_of_all`, which writes none, takes `Points` of any n.
 pub fn nearest_neighbour_distances(
     points: &Points<'_>,
     out: &mut [f64],

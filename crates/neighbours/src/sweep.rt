@@ -40,7 +40,7 @@ fn keys_by_x(points: &Points<'_>, keys: &mut [u64], order: &mut [u32]) -> usize
 }
 
 // Those points' numbers by rising x at the front of order, and how many they are: all where every x is finite.
-// Lists that are written are no struct: behind `&mut` others could stand in it, so each contract would have to say that it keeps them and their lengths.
+// `keys`, `order` and `spare` are written: behind one `&mut` a struct of them could hold other lists afterwards, so its contract would have to say of each that it is as long as before.
 pub(crate) fn by_x(
     points: &Points<'_>,
     keys: &mut [u64],

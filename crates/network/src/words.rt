@@ -94,6 +94,7 @@ pub fn kind_of(net: &Network<'_>, e: usize) -> Kind
 }
 
 // Sets the bus counts of k stations to 0. This and `count_buses` are the two loops of `bus_counts`, so they ask for what it asks.
+// `ranking` sets the number beside each to 0, `spans` the third of each bus: other strides, and other numbers that stay, so that one function would be told both.
 #[tactic(auto, using(crate::proofs::Counts::cleared_none, crate::proofs::Counts::cleared_more))]
 fn clear_counts(k: usize, stations: &mut [u32])
     requires { 2 * k ≤ length stations.old }
@@ -116,7 +117,8 @@ fn count_buses(sub: &[u32], k: usize, stations: &mut [u32])
 }
 
 // The bus counts of the k stations.
-// Lists that are written are no struct: behind `&mut` others could stand in it, so each contract would have to say that it keeps them and their lengths.
+// `stations` is written, so its length is asked as the slice's own; k is counted once for all functions.
+// `Bounded` would ask for service flags and a mesh, which an audit, that counts too, doesn't have.
 pub fn bus_counts(sub: &[u32], k: usize, stations: &mut [u32])
     requires { (k ≡ station_count sub.now) × (length sub.now ≤ 4096) × (2 * k ≤ length stations.old) }
     ensures { counts_in k stations.new ≡ bus_counts sub.now }

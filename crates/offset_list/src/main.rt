@@ -3,7 +3,7 @@
 
 mod table;
 
-ghost use Rattle.std.specs.Prelude.{◌≤◌, length, OnOk};
+ghost use Rattle.std.specs.Prelude.{OnOk};
 ghost use Rattle.std.specs.Io.KnownBytes.{Appends};
 ghost use Rattle.offset_rule.specs.Table.{table_pairs};
 ghost use Rattle.offset_lines.specs.Stages.Text.{offset_text};
@@ -14,8 +14,7 @@ use table::print_table;
 
 // Writes the text of the table.
 #[tactic(auto, using(listing::proofs::Writing::front_laws))]
-fn run<W: Write>(output: &mut W, out: &mut [u8]) -> io::Result<()>
-    requires { 40348 ≤ length out.old }
+fn run<W: Write>(output: &mut W, out: &mut [u8; 40348]) -> io::Result<()>
     ensures { OnOk result (Appends (W.contents output.old) (W.contents output.new) (offset_text table_pairs)) }
 {
     let count = print_table(out);
@@ -23,7 +22,7 @@ fn run<W: Write>(output: &mut W, out: &mut [u8]) -> io::Result<()>
 }
 
 fn main(rt: HostRuntime) -> io::Result<()> {
-    // no heap is a rule of the project, so the text has a buffer of its length
+    // the text's length is known, so a buffer on the stack will do: no allocator is asked for
     let mut out = [0u8; 40348];
     run(&mut io::writer(&rt), &mut out)
 }

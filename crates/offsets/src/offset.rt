@@ -35,6 +35,7 @@ fn offset_number(u: u64, v: u64) -> u64
 }
 
 // The numbers of the pairs, row by row.
+// The bound of a search is asked beside the number: a struct of it, as `free_places` `Tried` is of it and two lists, would hold nothing else.
 fn grid_keys(search: u64, side: u64, keys: &mut [u64])
     requires { (search ≤ 20) × (side ≡ suc (2 * search)) × (side * side ≤ length keys.old) }
     ensures { keys.new ≡ table (grid_number search) (side * side) ++ drop (side * side) keys.old }
@@ -56,7 +57,7 @@ fn number_first(list: &mut [u32], c: usize)
 }
 
 // The generator: for each search from 0 to 20 every pair within it, once, in order. It returns how many there are; `offset_at` reads them.
-// Lists that are written are no struct: behind `&mut` others could stand in it, so each contract would have to say that it keeps them and their lengths.
+// `keys`, `sorted` and `spare` are written: behind one `&mut` a struct of them could hold other lists afterwards, so its contract would have to say of each that it is as long as before.
 pub fn offset_order(search: usize, keys: &mut [u64], sorted: &mut [u32], spare: &mut [u32]) -> usize
     requires { (search ≤ 20) × (1681 ≤ length keys.old) × (1681 ≤ length sorted.old) × (1681 ≤ length spare.old) }
     ensures { (result ≡ suc (2 * search) * suc (2 * search)) × (offsets_in result keys.new sorted.new ≡ offsets search) × Complete search (offsets_in result keys.new sorted.new) }

@@ -130,5 +130,5 @@ fn gaps_fit(g: Gaps) -> bool
 pub fn search_of(search: i32) -> usize
     ensures { result ≡ search_of search }
 {
-    if search < 0 { 0 } else { search as usize }
+    search.max(0) as usize
 }

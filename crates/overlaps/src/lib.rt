@@ -27,6 +27,7 @@ fn paired(p: Box, q: Box, s: usize, t: usize) -> bool
 }
 
 // The order keys of k boxes' left sides.
+// Boxes are read here without the stations' counts: a `Placed` would ask for them. That `keys` has room for k numbers is asked of a list that is written: no field of `Placed` can say it.
 fn left_keys(k: usize, boxes: &[f64], keys: &mut [u64])
     requires { (4 * k ≤ length boxes.now) × (k ≤ length keys.old) × Finite boxes.now }
     ensures { Keyed boxes.now k keys.new }
@@ -66,6 +67,7 @@ fn by_left(placed: &Placed<'_>, keys: &mut [u64], order: &mut [u32], spare: &mut
     n
 }
 
+// Here too boxes are read without the counts. A loop: as a chain, `take_while` and `filter` would each read a station's box, which is read once here.
 // How many stations behind place c of the order overlap the one there: none from the first whose left side isn't left of its right side.
 #[tactic(auto, unfolding(order::specs::Order::count))]
 fn count_right(k: usize, boxes: &[f64], order: &[u32], c: usize) -> usize
@@ -105,7 +107,8 @@ fn count_pairs(placed: &Placed<'_>, order: &[u32]) -> usize
 }
 
 // The number of pairs that overlap. `keys`, `order` and `spare` are work lists.
-// Lists that are written are no struct: behind `&mut` others could stand in it, so each contract would have to say that it keeps them and their lengths.
+// `keys`, `order` and `spare` are no struct: behind `&mut` other lists could stand in it, so the contracts of `by_left` and `order::sort_part` too would have to say that it keeps them and their lengths.
+// The bound of k is no fact of `Placed`: `sized` and `results` don't ask for at most 4,096 stations, so it would ask more of their callers.
 #[tactic(auto, unfolding(crate::specs::Overlaps::overlaps))]
 pub fn count_overlaps(
     placed: &Placed<'_>,

@@ -70,6 +70,8 @@ fn put_pieces(
 }
 
 // Counts the pieces of branch e through the first c points from number `first` on, writes them where it is to write, and answers the number after the last.
+// `write` and two lists, no `Option` of them: `Passed` says what both hold at the end in either case, and a loop would have to take the lists out of the `Option` and lend them anew for each call.
+// e is counted over usize by the callers' loops, and asked to be below 2^32 since it is written as a `u32`.
 pub fn tally(
     write: bool,
     first: usize,

@@ -15,9 +15,11 @@ use box_order::kept::keep_box;
 use free_places::{Tried, box_on, place_for};
 use geometry::{Box, Point};
 use measures::Measures;
+use network::lists::Stations;
 use offset_table::{OFFSET_A, OFFSET_B};
 
 // Stores a box.
+// `results` `put_numbers` stores bars too, so it takes four numbers; neither of the two crates names the other.
 fn put_box(frames: &mut [f64], i: usize, b: Box)
     requires { 4 * i + 3 < length frames.old }
     ensures { frames.new ≡ put_box frames.old i b }
@@ -73,13 +75,13 @@ fn place_station(
     keep_box(m.unit, boxes, s, p, most, keys, sorted)
 }
 
-// Places the first r stations of the order, every second number of `stations` (so r is no list's length); `boxes` holds their boxes by station, `keys` and `sorted` keep them by cell.
-// Lists that are written are no struct: behind `&mut` others could stand in it, so each contract would have to say that it keeps them and their lengths.
+// Places the first r stations of the order, every second number of `stations.counts` (so r is no list's length); `boxes` holds their boxes by station, `keys` and `sorted` keep them by cell.
+// `places`, `boxes`, `keys` and `sorted` are written: behind one `&mut` a struct of them could hold other lists afterwards, so its contract would have to say of each that it is as long as before.
+// `Stations` is lent with any k (`sizes`, `units`), so its bound is asked here; a struct of k and `blocks` would bring a second k, equal to the stations' by a further clause.
 fn place_all(
-    k: usize,
+    stations: &Stations<'_>,
     r: usize,
     m: Measures,
-    stations: &[u32],
     blocks: &[f64],
     tried: &Tried<'_>,
     places: &mut [f64],
@@ -87,23 +89,22 @@ fn place_all(
     keys: &mut [u64],
     sorted: &mut [u32],
 )
-    requires search_bound { (r ≤ k) × (k ≤ 4096) × (2 * k ≤ length stations.now) × (3 * k ≤ length blocks.now) × (2 * k ≤ length places.old) × (4 * k ≤ length boxes.old) × (k ≤ length keys.old) × (k ≤ length sorted.old) }
-    requires turns { Turns k (order_in r stations.now) }
-    ensures { points_in k places.new ≡ Place.places (frames_in m k blocks.now) (skipped tried.now.search (pairs_in tried.now.a.now tried.now.b.now)) (points_in k places.old) (order_in r stations.now) }
+    requires search_bound { (r ≤ stations.now.k) × (stations.now.k ≤ 4096) × (3 * stations.now.k ≤ length blocks.now) × (2 * stations.now.k ≤ length places.old) × (4 * stations.now.k ≤ length boxes.old) × (stations.now.k ≤ length keys.old) × (stations.now.k ≤ length sorted.old) }
+    requires turns { Turns stations.now.k (order_in r stations.now.counts.now) }
+    ensures { points_in stations.now.k places.new ≡ Place.places (frames_in m stations.now.k blocks.now) (skipped tried.now.search (pairs_in tried.now.a.now tried.now.b.now)) (points_in stations.now.k places.old) (order_in r stations.now.counts.now) }
 {
     let mut most = 0;
     for p in 0..r {
-        let s = stations[2 * p + 1] as usize;
+        let s = stations.counts[2 * p + 1] as usize;
         most = place_station(s, p, m, blocks, tried, most, places, boxes, keys, sorted);
     }
 }
 
 // The same by the table of offsets, lent once; r is as there.
 pub fn place_by_table(
-    k: usize,
+    stations: &Stations<'_>,
     r: usize,
     m: Measures,
-    stations: &[u32],
     blocks: &[f64],
     search: usize,
     places: &mut [f64],
@@ -111,18 +112,16 @@ pub fn place_by_table(
     keys: &mut [u64],
     sorted: &mut [u32],
 )
-    requires search_bound { (search ≤ 20) × (r ≤ k) × (k ≤ 4096) × (2 * k ≤ length stations.now) × (3 * k ≤ length blocks.now) × (2 * k ≤ length places.old) × (4 * k ≤ length boxes.old) × (k ≤ length keys.old) × (k ≤ length sorted.old) }
-    requires turns { Turns k (order_in r stations.now) }
-    ensures { points_in k places.new ≡ Place.places (frames_in m k blocks.now) (offsets search) (points_in k places.old) (order_in r stations.now) }
+    requires search_bound { (search ≤ 20) × (r ≤ stations.now.k) × (stations.now.k ≤ 4096) × (3 * stations.now.k ≤ length blocks.now) × (2 * stations.now.k ≤ length places.old) × (4 * stations.now.k ≤ length boxes.old) × (stations.now.k ≤ length keys.old) × (stations.now.k ≤ length sorted.old) }
+    requires turns { Turns stations.now.k (order_in r stations.now.counts.now) }
+    ensures { points_in stations.now.k places.new ≡ Place.places (frames_in m stations.now.k blocks.now) (offsets search) (points_in stations.now.k places.old) (order_in r stations.now.counts.now) }
 {
     let tried = Tried {
         a: &OFFSET_A,
         b: &OFFSET_B,
         search,
     };
-    place_all(
-        k, r, m, stations, blocks, &tried, places, boxes, keys, sorted,
-    );
+    place_all(stations, r, m, blocks, &tried, places, boxes, keys, sorted);
 }
 
 // Station s's box at its place.
@@ -141,19 +140,19 @@ fn station_box(s: usize, m: Measures, blocks: &[f64], places: &[f64]) -> Box
 }
 
 // The box list: by station, zeros where one isn't occupied.
+// `places` and `blocks` hold numbers of each station: a struct of one and its k would bring a second k, equal to the stations' by a further clause.
 pub fn station_boxes(
-    k: usize,
+    stations: &Stations<'_>,
     m: Measures,
-    stations: &[u32],
     blocks: &[f64],
     places: &[f64],
     frames: &mut [f64],
 )
-    requires { (2 * k ≤ length stations.now) × (3 * k ≤ length blocks.now) × (2 * k ≤ length places.now) × (4 * k ≤ length frames.old) }
-    ensures { boxes_in k frames.new ≡ Place.boxes (frames_in m k blocks.now) (counts_in k stations.now) (points_in k places.now) }
+    requires { (3 * stations.now.k ≤ length blocks.now) × (2 * stations.now.k ≤ length places.now) × (4 * stations.now.k ≤ length frames.old) }
+    ensures { boxes_in stations.now.k frames.new ≡ Place.boxes (frames_in m stations.now.k blocks.now) (counts_in stations.now.k stations.now.counts.now) (points_in stations.now.k places.now) }
 {
-    for s in 0..k {
-        if 0 < stations[2 * s] {
+    for s in 0..stations.k {
+        if 0 < stations.counts[2 * s] {
             put_box(frames, s, station_box(s, m, blocks, places));
         } else {
             put_box(

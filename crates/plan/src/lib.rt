@@ -17,7 +17,8 @@ use seeds::seeds;
 use turns::turns::placement_order;
 
 // Bus counts, seeds, columns, rows, sizes and scales of k stations; answers the unit.
-// Lists that are written are no struct: behind `&mut` others could stand in it, so each contract would have to say that it keeps them and their lengths.
+// The lists from `stations` to `path` are written: behind the `&mut` of a struct other lists could be put, so each contract would have to say that it keeps the lists and their lengths.
+// k is what the caller counted. As ghost fields of `Bounded`, `k ≡ station_count sub`, `k ≤ length sub` and `length kv ≡ length sub` would be asked of `survey` and `spans` too, which need none of them. `k ≤ 4096` is what `seeds` and `rows` ask, and 3 * k numbers of `blocks` what `units` writes: no struct holds k with a list that is written.
 pub fn interiors(
     o: Options,
     net: &Bounded<'_>,
@@ -76,7 +77,8 @@ pub fn interiors(
 }
 
 // The places of k stations, from their seeds, and their boxes.
-// Lists that are written are no struct: behind `&mut` others could stand in it, so each contract would have to say that it keeps them and their lengths.
+// `stations`, `sorted`, `spare`, `keys`, `places` and `frames` are written: behind the `&mut` of a struct other lists could be put, so each contract would have to say that it keeps the lists and their lengths.
+// `search` is at most 20 since the table of offsets ends there. k, `kv` and `blocks` are bounded as above: `sub` and `kv` come alone, without a `Bounded`.
 pub fn settle(
     sub: &[u32],
     kv: &[u64],
@@ -96,8 +98,12 @@ pub fn settle(
     ensures { Settled sub.now kv.now k measures search blocks.now (points_in k places.old) stations.new places.new frames.new }
 {
     let r = placement_order(sub, kv, k, stations, keys, sorted, spare);
+    let counted = Stations {
+        k,
+        counts: stations,
+    };
     place_by_table(
-        k, r, measures, stations, blocks, search, places, frames, keys, sorted,
+        &counted, r, measures, blocks, search, places, frames, keys, sorted,
     );
-    station_boxes(k, measures, stations, blocks, places, frames);
+    station_boxes(&counted, measures, blocks, places, frames);
 }

@@ -9,7 +9,8 @@ ghost use Rattle.ranking.specs.Stages.Ranking.{in_station, place_in};
 
 use order::{number, sort_part};
 
-// 0, .., c - 1 by rising key, numbers of one key by number, at the front of `sorted`.
+// 0, .., c - 1 by rising key, numbers of one key by number, at the front of `sorted`. (It sorts numbers; it converts none.)
+// c is at most 2^32 so that they fit a u32; it is how long the front of both lists is that are written.
 fn sort_numbers(keys: &[u64], c: usize, sorted: &mut [u32], spare: &mut [u32])
     requires { (c ≤ 2 ^ 32) × (c ≤ length sorted.old) × (c ≤ length spare.old) }
     ensures { take c sorted.new ≡ sort_by (key_at keys.now) (up_from 0 c) }
@@ -19,6 +20,7 @@ fn sort_numbers(keys: &[u64], c: usize, sorted: &mut [u32], spare: &mut [u32])
 }
 
 // Sets the counters of k stations to 0; the numbers beside them stay.
+// `network` sets those to 0, `spans` the third number of each bus: other strides, and other numbers that stay, so that one function would be told both.
 fn clear_counters(stations: &mut [u32], k: usize)
     requires { 2 * k ≤ length stations.old }
     ensures by_index { (s : ℕ) → s < k → get_or stations.new (2 * s + 1) 0 ≡ 0 }
@@ -52,7 +54,7 @@ fn walk(of: &[u32], c: usize, k: usize, sorted: &[u32], stations: &mut [u32], pl
 }
 
 // The place of each of 0, .., c - 1 in its station, which `of` gives, by rising key and then number, in `places`; how many each station has is left in its counter.
-// Lists that are written are no struct: behind `&mut` others could stand in it, so each contract would have to say that it keeps them and their lengths.
+// `stations`, `sorted` and `places` are written: behind one `&mut` a struct of them could hold other lists afterwards, so its contract would have to say of each that it is as long as before.
 pub fn rank_in_stations(
     of: &[u32],
     c: usize,

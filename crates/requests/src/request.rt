@@ -40,6 +40,7 @@ fn nothing_at(e: usize) -> LineRequest
 }
 
 // The request of line e between the buses a and b, whose ends have the rows ra and rb; its exits stand in `places`.
+// a and b are usize as `kind_of` answers them, and asked to be below 2^32 as `slot_of` asks.
 #[tactic(auto, unfolding(crate::specs::Stages::Requests::line_request))]
 fn line_request(
     sub: &[u32],

@@ -12,7 +12,8 @@ use geometry::box_at;
 use network::lists::Network;
 use network::words::{Kind, kind_of};
 
-// Stores four numbers side by side, the i-th four of a list.
+// Stores four numbers side by side, the i-th four of a list. (They are stored as they are: it converts none.)
+// `placement` `put_box` stores a box; a bar, stored by this, is none, and neither of the two crates names the other.
 pub(crate) fn put_numbers(list: &mut [f64], i: usize, a: f64, b: f64, c: f64, d: f64)
     requires { 4 * i + 3 < length list.old }
     ensures { list.new ≡ set (set (set (set list.old (4 * i) a) (4 * i + 1) b) (4 * i + 2) c) (4 * i + 3) d }
@@ -24,7 +25,8 @@ pub(crate) fn put_numbers(list: &mut [f64], i: usize, a: f64, b: f64, c: f64, d:
 }
 
 // The stations' boxes and scales.
-// Lists that are written are no struct: behind `&mut` others could stand in it, so each contract would have to say that it keeps them and their lengths.
+// `boxes` and `scales` are written, so their lengths are asked as the slices' own. `Placed` would ask for bus counts, which aren't read here.
+// `blocks` holds three numbers of each station: a struct of it and its k would bring a second k, equal to this one by a further clause.
 pub fn write_stations(
     k: usize,
     frames: &[f64],

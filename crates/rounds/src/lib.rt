@@ -17,6 +17,8 @@ use network::lists::Network;
 use wishes::wish::{Crossed, Fixed};
 
 // Spaces all crossings of the routing that the lists hold, so many rounds, and puts their points into `ways`. The channels' ranges are written behind the mesh's points; `sorted`, `spare` and `keys` are work lists.
+// `ends`, `centres`, `numbers`, `along`, `ways`, `sorted`, `spare` and `keys` are written: behind the `&mut` of a struct other lists could be put, so each contract would have to say that it keeps the lists and their lengths.
+// The lengths of `from` and `sub` are bounded so that no index overflows: `Bounded` would ask for at most 8,192 branches and 4,096 buses.
 pub fn space_all_rounds<'a>(
     net: &Network<'a>,
     measures: Measures,

@@ -12,7 +12,7 @@ use crossings::crossings::{high_at, low_at};
 use crossings::gap::gap_of;
 use geometry::{number_at, point_at};
 use order::at;
-use runs::run::put_point;
+use seeds::put_point;
 use spacing::space_sorted;
 use wishes::wish::{Crossed, Fixed, edge_of, point_of, wish_of};
 
@@ -30,7 +30,7 @@ pub(crate) struct Stretches<'a> {
 }
 
 // Where channel c's crossings begin among those grouped by channel.
-// c and m are counted over usize: as `u32` they would be converted at each index.
+// c and m are counted over usize: as `u32` they would be converted at each index. Another column of the list than `edge_of` reads.
 #[tactic(auto, unfolding(grouping::specs::Stages::Grouped::start_in))]
 fn start_of(m: usize, ends: &[u32], c: usize) -> u32
     requires { (m ≤ 2 ^ 32) × (c ≤ 2 ^ 32) }
@@ -137,9 +137,9 @@ fn take_wishes(fixed: &Fixed<'_>, along: &[f64], start: u32, ways: &mut [f64])
     requires { length ways.old ≤ 2 ^ 32 }
     ensures { ways.new ≡ table (λ i. wish_in (held fixed.now.crossed.m fixed.now.base fixed.now.crossed.ends.now fixed.now.places.now fixed.now.crossed.centres.now fixed.now.crossed.corners.now fixed.now.crossed.numbers.now) along.now (member_in fixed.now.crossed.numbers.now (start + i))) (length ways.old) }
 {
-    for i in 0..ways.len() {
+    for (i, way) in ways.iter_mut().enumerate() {
         let x = member_of(fixed.crossed.numbers, start as usize + i);
-        ways[i] = wish_of(fixed, along, x);
+        *way = wish_of(fixed, along, x);
     }
 }
 
@@ -148,15 +148,15 @@ fn put_places(numbers: &[u32], start: u32, order: &[u32], places: &[f64], along:
     requires { length order.now ≤ length places.now }
     ensures { along.new ≡ put_all (map (λ j. member_in numbers.now (start + j)) order.now) places.now along.old }
 {
-    for i in 0..order.len() {
-        let x = member_of(numbers, start as usize + order[i] as usize) as usize;
+    for (i, &j) in order.iter().enumerate() {
+        let x = member_of(numbers, start as usize + j as usize) as usize;
         if x < along.len() {
             along[x] = places[i];
         }
     }
 }
 
-// Spaces channel c's crossings: all its wishes are taken before any place changes. The room in the four lists that are lent for the work is asked here and in the two functions below: a struct that held lists to be written would have to keep its facts true at each write.
+// Spaces channel c's crossings: all its wishes are taken before any place changes. The room in `ways`, `sorted`, `spare` and `keys` is asked here and in the two functions below: behind the `&mut` of a struct other lists could be put, so each contract would have to say that it keeps their lengths.
 fn space_one(
     stretches: &Stretches<'_>,
     c: usize,
@@ -196,7 +196,7 @@ fn round(
 }
 
 // So many rounds.
-// Lists that are written are no struct: behind `&mut` others could stand in it, so each contract would have to say that it keeps them and their lengths.
+// `along`, `ways`, `sorted`, `spare` and `keys` are written, so no struct holds them, as in `space_one`.
 pub(crate) fn rounds(
     stretches: &Stretches<'_>,
     iterations: u32,

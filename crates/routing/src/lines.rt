@@ -17,7 +17,7 @@ pub struct Counts {
     pub channels: usize,
 }
 
-// The crossings of a branch with this way. The room in `trail` is asked in each function that lends it on: it is written, and a struct that held it would have to keep the fact true at each write.
+// The crossings of a branch with this way. The room in `trail` is asked in each function that lends it on to be written: behind the `&mut` of a struct another list could be put, so each contract would have to say that it keeps its length.
 fn count_line(turned: &Turned<'_>, points: &[f64], a: u32, b: u32, trail: &mut [u32]) -> usize
     requires { length turned.now.mesh.corners.now ≤ length trail.old }
     ensures value { result ≡ length (walk_of turned.now.mesh.corners.now turned.now.mesh.twins.now (point_at points.now) a b).edges }

@@ -1,16 +1,15 @@
 -- What the tests on a branch's kind and on an entry's side give, and the order key of any float.
 -- Assumes nothing.
 use mathlib.Core.Path.{◌≡◌, refl, sym, ap, ◌∙◌, subst}
-use mathlib.Core.Bool.{Bool, true, false, not}
+use mathlib.Core.Bool.{Bool, true, false}
 use mathlib.Core.List.{List}
 use Prim.Native.Nat.{ℕ, suc, ◌+◌, ◌*◌, ◌-◌, ◌%◌, ◌^◌, ◌≤◌, ◌<◌}
 use native.Mathlib.Omega.{arith}
 use native.Mathlib.Decide.{dec_le}
 use lib.Dec.{T}
 use lib.ListN.{get_or}
-use lib.Ieee.{Float, nan, inf, fin, ne, is_nan, fits, to_bits, of_bits, of_fields, nan_bits, binary64}
+use lib.Ieee.{Float, nan, inf, fin, is_nan, fits, to_bits, of_bits, of_fields, nan_bits, binary64}
 use lib.Ieee.Bits.{of_bits-to_bits, to_bits-lt}
-use lib.Ieee.Compare.{differs_from_itself, nan_differs}
 use borrow.Author.Tests.{eq-eqb, ne_eqb}
 use Rattle.float.specs.Key.{key_of}
 use Rattle.float.specs.Ops.{order_key}
@@ -37,19 +36,6 @@ pub to_side : (x : ℕ) → (x % 2 ≡ 0 → ⊥) → from_end x ≡ false
 to_side x h = ne_eqb (x % 2) 0 h
 
 -- ---- keys
-pub no_nan : (x : Float) → ne x x ≡ false → T (not (is_nan x))
-unfolding is_nan
-no_nan nan h = let z : ◌≡◌ {A = Bool} true false = sym nan_differs ∙ h in absurd (subst T z tt)
-no_nan (inf s) h = tt
-no_nan (fin s m e) h = tt
-
-nan_key : 0xfff8_0000_0000_0000 ≡ order_key nan
-unfolding key_of to_bits
-nan_key = refl
-
-pub key_nan : (x : Float) → ne x x ≡ true → 0xfff8_0000_0000_0000 ≡ order_key x
-key_nan x h = nan_key ∙ sym (ap order_key (differs_from_itself x (subst T (sym h) tt)))
-
 last_bits : of_bits binary64 0x7fff_ffff_ffff_ffff ≡ nan
 unfolding of_bits of_fields nan_bits
 last_bits = refl
@@ -62,14 +48,14 @@ key_less b h n = go (dec_le (2 ^ 63) b)
     go (yes l) = omega (arith, key_high b l)
     go (no f) = let l : b < 2 ^ 63 = omega arith in omega (arith, key_low b l)
 
-pub key_fits : (x : Float) → T (fits binary64 x) → T (not (is_nan x)) → order_key x < 2 ^ 64 - 1
+pub key_fits : (x : Float) → T (fits binary64 x) → is_nan x ≡ false → order_key x < 2 ^ 64 - 1
 unfolding is_nan
 key_fits x f n =
     key_less (to_bits binary64 x) (to_bits-lt binary64 x f)
-    (λ e. subst (λ (y : Float). T (not (is_nan y)) → ⊥) (sym last_bits ∙ ap (of_bits binary64) (sym e) ∙ of_bits-to_bits binary64 x f) nan_is n)
+    (λ e. subst (λ (y : Float). is_nan y ≡ false → ⊥) (sym last_bits ∙ ap (of_bits binary64) (sym e) ∙ of_bits-to_bits binary64 x f) nan_is n)
   where
-    nan_is : T (not (is_nan nan)) → ⊥
-    nan_is h = absurd h
+    nan_is : is_nan nan ≡ false → ⊥
+    nan_is h = absurd (subst T h tt)
 
 -- ---- the buses of a line, and the seed that a line end leads to
 pub line_buses : (sub : List ℕ) (K : Kind) (a b : ℕ) → Safe sub K → K ≡ Line a b → (station_of sub a < station_count sub) × (station_of sub b < station_count sub)

@@ -18,11 +18,12 @@ use order::at;
 use ranking::rank_in_stations;
 
 // The place of any float in the order of `total_cmp`, a NaN's by the one pattern that stands for it.
+#[tactic(auto, using(float::proofs::Patterns::key_nan))]
 fn order_key_total(x: f64) -> u64
     ensures value { result ≡ order_key x }
     ensures upper_bound { result < 2 ^ 64 - 1 }
 {
-    if x != x {
+    if x.is_nan() {
         return 0xfff8_0000_0000_0000;
     }
     order_key(x)
@@ -36,6 +37,8 @@ fn seed_key(places: &[f64], s: usize) -> u64
     order_key_total(places[2 * s + 1]) + 1
 }
 
+// The key of entry x, 0 where it is no line's end.
+// `places` holds two numbers of each station: a struct of it and k would bring a k that must be equal to the count of `sub`.
 fn entry_key(net: &Network<'_>, places: &[f64], x: usize) -> u64
     requires { 2 * station_count net.now.sub.now ≤ length places.now }
     ensures { result ≡ end_key net.now.sub.now (points_in (station_count net.now.sub.now) places.now) (from_end x) (kind_of net.now.sub.now net.now.from.now net.now.to.now net.now.service.now (x / 2)) }
@@ -60,6 +63,7 @@ fn entry_key(net: &Network<'_>, places: &[f64], x: usize) -> u64
 }
 
 // The station in which entry x has a row, or a number past every station's.
+// It is written into the list of u32 that `ranking` reads, where such a number is no station's: an Option would be turned into it again.
 fn entry_station(net: &Network<'_>, x: usize) -> u32
     ensures { result ≡ end_station net.now.sub.now (from_end x) (kind_of net.now.sub.now net.now.from.now net.now.to.now net.now.service.now (x / 2)) }
 {
@@ -86,6 +90,7 @@ fn entry_station(net: &Network<'_>, x: usize) -> u32
 }
 
 // The entry that holds the row of branch e's to end: an internal branch has one row for both.
+// `Bounded` would ask for few buses too, here and in `rows`, where few branches are asked.
 fn to_entry(net: &Network<'_>, e: usize) -> usize
     requires { e ≤ 8192 }
     ensures { result ≡ to_entry (kind_of net.now.sub.now net.now.from.now net.now.to.now net.now.service.now e) e }
@@ -133,7 +138,8 @@ fn put_rows(net: &Network<'_>, rows: &[u32], ends: &mut [u32])
 }
 
 // The row of each branch's two ends, beside its branch, 0 where it has none; how many rows each of the k stations has is left in its counter, the bus counts stay. The other lists are lent for the work.
-// Lists that are written are no struct: behind `&mut` others could stand in it, so each contract would have to say that it keeps them and their lengths.
+// `stations`, `ends`, `keys`, `sorted` and `spare` are written: behind one `&mut` a struct of them could hold other lists afterwards, so its contract would have to say of each that it is as long as before.
+// k is counted once for all functions, and stands beside `stations`, which is written, so that no `Stations` holds it; it is at most 4,096, and `entry_station`'s number for none is past it.
 pub fn rows(
     net: &Network<'_>,
     places: &[f64],

@@ -9,6 +9,7 @@ use native.Mathlib.Omega.{arith}
 use lib.ListN.{length, set, length-set, length-append}
 use lib.Seq.{take-set-le}
 use lib.Ieee.{Float}
+use Rattle.measures.specs.declared.Measures.{Measures}
 use Rattle.order.specs.Order.{pick}
 use Rattle.geometry.specs.declared.Point.{Point}
 use Rattle.geometry.specs.Plane.{point_at}
@@ -22,7 +23,7 @@ use Rattle.detour.proofs.Detours.{length_detour, led_short}
 use Rattle.network.specs.declared.words.Kind.{Kind}
 use Rattle.network.specs.declared.words.Kind.TheVariants.{Undrawn, Open, Internal, Line}
 use Rattle.runs.specs.Run.{is_line}
-use Rattle.runs.specs.Stages.Views.{Lead, RunLists, open_from, internal_from, led_in, led_run, line_from, run_from, way_of, way_count, run_in, other_run, Ran}
+use Rattle.runs.specs.Stages.Views.{Lead, RunLists, lead, held, open_from, internal_from, led_in, led_run, line_from, run_from, way_of, way_count, run_in, other_run, Ran}
 
 -- a list of at least four points whose first k are ps
 pub record Front (k : ℕ) (l : List Float) (ps : List Point) : Type 0 where
@@ -176,6 +177,16 @@ run_few H e Undrawn = omega arith
 run_few H e (Open a b) = omega arith
 run_few H e (Internal a b) = omega arith
 run_few H e (Line a b) = line_few H.lead H.frames (station_of H.sub a) (station_of H.sub b) (way_of H.ends e) (way_count H.ends e) _ _ _ _
+
+-- where lines aren't led, no gap is read
+module _ (sub : List ℕ) (M : Measures) (buses ends : List ℕ) (blocks places frames : List Float) (k : ℕ) (stations : List ℕ) (ways : List Float) (g h : Float) where
+  pub run_unled : (e : ℕ) (K : Kind)
+      → run_in (held sub M buses ends blocks places frames (lead false g k stations ways)) e K ≡ run_in (held sub M buses ends blocks places frames (lead false h k stations ways)) e K
+  unfolding run_in run_from line_from led_run led_in
+  run_unled e Undrawn = refl
+  run_unled e (Open a b) = refl
+  run_unled e (Internal a b) = refl
+  run_unled e (Line a b) = refl
 
 -- a branch's buses fit 32 bits
 abbrev pub Small : Kind → Type 0

@@ -12,11 +12,10 @@ pub struct Laid<'a> {
     pub places: &'a [f64],
 }
 
-// What lines are led by: whether they are led round boxes, the gap that they keep, the boxes entered by cell, and the waypoints. No Option: the boxes are read where lines aren't led too.
+// What lines are led by: the gap that they keep where they are led round boxes, none where they aren't, the boxes entered by cell, and the waypoints.
 #[derive(Clone, Copy)]
 pub struct Guide<'a> {
-    pub led: bool,
-    pub gap: f64,
+    pub gap: Option<f64>,
     pub index: BoxIndex<'a>,
     pub ways: &'a [f64],
 }

@@ -1,10 +1,10 @@
 // The points of a branch's run.
-ghost use Rattle.std.specs.Prelude.{◌≡◌, ◌+◌, ◌*◌, ◌<◌, ◌≤◌, ◌^◌, [], ◌∷◌, ◌++◌, length};
+ghost use Rattle.std.specs.Prelude.{◌≡◌, ◌+◌, ◌*◌, ◌<◌, ◌≤◌, ◌^◌, [], ◌∷◌, ◌++◌, length, is_some, unwrap_or};
+ghost use Rattle.std.specs.Float.{nan};
 ghost use Rattle.geometry.specs.Plane.{box_at};
 ghost use Rattle.network.specs.Words.{kind_of};
-ghost use Rattle.network.proofs.Views.{put_point};
 ghost use Rattle.detour.specs.Stages.Paths.{path_in, Led};
-ghost use Rattle.runs.specs.Stages.Views.{lead, block_of, bar_of, slot_of, exit_of, first_exit, second_exit, open_from, internal_from, led_in, led_run, other_run, HasRoom, Ran};
+ghost use Rattle.runs.specs.Stages.Views.{lead_by, block_of, bar_of, slot_of, exit_of, first_exit, second_exit, open_from, internal_from, led_in, led_run, other_run, HasRoom, Ran};
 
 use crate::laid::{Guide, Laid};
 use bars::{Bar, bar_for, exit_x, position, row_y};
@@ -14,6 +14,7 @@ use measures::Measures;
 use network::lists::Network;
 use network::words::{Kind, kind_of, station_of};
 use order::at;
+use seeds::put_point;
 
 // The box s of a list of four numbers each.
 pub fn box_at(list: &[f64], s: usize) -> Box
@@ -92,7 +93,7 @@ pub fn exit_of(places: &[f64], frames: &[f64], s: usize, t: usize, y: f64) -> Po
 }
 
 // The first exit of branch e: two points for each branch, behind n points of a list.
-// n isn't how long the list is: it counts the points before the exits.
+// n isn't how long the list is: it counts the points before the exits. `point_at` asks a number below 2^32, which n + 2 * e may pass; n and e are bounded so that it doesn't overflow.
 pub fn first_exit(n: usize, places: &[f64], e: usize) -> Point
     requires { (n ≤ 2 ^ 32) × (e < 2 ^ 32) }
     ensures { result ≡ first_exit n places.now e }
@@ -116,15 +117,6 @@ pub fn second_exit(n: usize, places: &[f64], e: usize) -> Point
     }
 }
 
-// Sets point i of a list.
-pub fn put_point(list: &mut [f64], i: usize, p: Point)
-    requires { (2 * i + 1 < length list.old) × (i < 2 ^ 32) }
-    ensures { list.new ≡ put_point list.old i p.x p.y }
-{
-    list[2 * i] = p.x;
-    list[2 * i + 1] = p.y;
-}
-
 // Two points at the front of a list.
 fn put_two(path: &mut [f64], p: Point, q: Point) -> usize
     requires { 8 ≤ length path.old }
@@ -136,6 +128,7 @@ fn put_two(path: &mut [f64], p: Point, q: Point) -> usize
 }
 
 // The run of an open branch between the buses a and b.
+// a and b are usize as `kind_of` answers them, and asked to be below 2^32 as `bar_of` asks.
 #[tactic(auto, unfolding(crate::specs::Stages::Views::open_from))]
 fn run_open(
     sub: &[u32],
@@ -209,18 +202,18 @@ fn put_middle(path: &mut [f64], a: Point, ways: &[f64], w: usize, n: usize, b: P
     put_point(path, n + 2, b);
 }
 
-// Leads the path of `count` points behind the first point of a list round boxes, where there are iterations, and answers how many points it has then.
+// Leads the path of `count` points behind the first point of a list round boxes, where a gap is given, and answers how many points it has then.
 // The path grows in its list, so a slice of its `count` points would leave no room for more.
 #[tactic(auto, unfolding(crate::specs::Stages::Views::led_in), using(crate::proofs::Paths::led_round, crate::proofs::Paths::led_more))]
 fn lead(guide: &Guide<'_>, s: usize, t: usize, path: &mut [f64], count: usize) -> usize
     requires count_in_bounds { 2 * (count + 5) ≤ length path.old }
-    ensures path_after { path_in 1 result path.new ≡ led_in guide.now.led guide.now.gap guide.now.index.placed.k guide.now.index.placed.stations.now guide.now.index.placed.frames.now s t (path_in 1 count path.old) }
+    ensures path_after { path_in 1 result path.new ≡ led_in (is_some guide.now.gap) (unwrap_or guide.now.gap nan) guide.now.index.placed.k guide.now.index.placed.stations.now guide.now.index.placed.frames.now s t (path_in 1 count path.old) }
     ensures upper_bound { result ≤ count + 4 }
 {
-    if guide.led {
-        return detour(guide.gap, &guide.index, s, t, path, 1, count);
+    match guide.gap {
+        Some(gap) => detour(gap, &guide.index, s, t, path, 1, count),
+        None => count,
     }
-    count
 }
 
 // Puts p before and q behind the path of r points behind the first point of a list, and answers how many points that makes.
@@ -250,7 +243,7 @@ pub fn run_line(
     path: &mut [f64],
 ) -> usize
     requires has_room { (HasRoom n path.old) × (w + n < 2 ^ 31) }
-    ensures { Ran result path.new (led_run (lead guide.now.led guide.now.gap guide.now.index.placed.k guide.now.index.placed.stations.now guide.now.ways.now) guide.now.index.placed.frames.now s t p q x y w n) }
+    ensures { Ran result path.new (led_run (lead_by guide.now.gap guide.now.index.placed.k guide.now.index.placed.stations.now guide.now.ways.now) guide.now.index.placed.frames.now s t p q x y w n) }
 {
     put_middle(path, x, guide.ways, w, n, y);
     let r = lead(guide, s, t, path, n + 2);
@@ -258,7 +251,7 @@ pub fn run_line(
 }
 
 // Puts the run of branch e at the front of path, and answers how many points it has: none where the branch is a line.
-// Lists that are written are no struct: behind `&mut` others could stand in it, so each contract would have to say that it keeps them and their lengths.
+// The length of `path`, the one list that is written, is asked as the slice's own.
 #[tactic(auto, unfolding(crate::specs::Stages::Views::other_run, network::specs::Words::Safe, network::specs::Views::points_in, order::specs::Table::table_from))]
 pub fn run(net: &Network<'_>, laid: &Laid<'_>, frames: &[f64], e: usize, path: &mut [f64]) -> usize
     requires { (e < 2 ^ 32) × (length net.now.sub.now ≤ 2 ^ 32) × (8 ≤ length path.old) }

@@ -26,7 +26,8 @@ fn tier(o: Options, count: usize) -> f64
 }
 
 // The scales of the stations by the spacing and the points of the occupied ones. The other lists are work lists.
-// Lists that are written are no struct: behind `&mut` others could stand in it, so each contract would have to say that it keeps them and their lengths.
+// `blocks`, `keys`, `sorted` and `spare` are written: behind one `&mut` a struct of them could hold other lists afterwards, so its contract would have to say of each that it is as long as before.
+// n is asked to be below 2^32, by `neighbours`, whose `nearest_of_all` takes `Points` of any n.
 pub fn scales(
     o: Options,
     stations: &Stations<'_>,

@@ -46,9 +46,9 @@ fn clear_points(k: usize, places: &mut [f64])
 }
 
 // Adds each bus point to its station's.
-// Lists that are written are no struct: behind `&mut` others could stand in it, so each contract would have to say that it keeps them and their lengths.
+// `places` is written, so its length is asked as the slice's own; k is counted once for all functions, and the counts of a `Stations` aren't read here.
 fn add_points(sub: &[u32], xy: &[f64], k: usize, places: &mut [f64])
-    requires { (k ≡ station_count sub.now) × (length sub.now ≤ 4096) × (k ≤ 4096) × (2 * k ≤ length places.old) × (points_in k places.old ≡ table (λ s. origin) k) }
+    requires { (k ≡ station_count sub.now) × (length sub.now ≤ 4096) × (2 * k ≤ length places.old) × (points_in k places.old ≡ table (λ s. origin) k) }
     ensures { points_in k places.new ≡ table (λ s. sum_to sub.now xy.now s (length sub.now)) k }
 {
     for i in 0..sub.len() {
@@ -80,6 +80,7 @@ fn mean_of(c: u32, p: Point) -> Point
 }
 
 // Divides each station's sum by its count.
+// `Stations` is lent with any k (`sizes`, `units::coordinates`), so the bound that `point_at` asks is asked here.
 fn take_means(stations: &Stations<'_>, places: &mut [f64])
     requires { (stations.now.k ≤ 4096) × (2 * stations.now.k ≤ length places.old) }
     ensures { points_in stations.now.k places.new ≡ table (λ s. mean (get_or stations.now.counts.now (2 * s) 0) (point_at places.old s)) stations.now.k }
@@ -91,7 +92,7 @@ fn take_means(stations: &Stations<'_>, places: &mut [f64])
 }
 
 // The seeds of all stations.
-// `Bounded` would ask for few branches too, and for the other lists, which an audit doesn't have.
+// It takes `sub` and `xy`: the audit has them in a `Drawn`, layout in a `Network`.
 pub fn seeds(sub: &[u32], xy: &[f64], stations: &Stations<'_>, places: &mut [f64])
     requires { (stations.now.k ≡ station_count sub.now) × (length sub.now ≤ 4096) × (stations.now.k ≤ 4096) × (2 * stations.now.k ≤ length places.old) × (counts_in stations.now.k stations.now.counts.now ≡ bus_counts sub.now) }
     ensures { points_in stations.now.k places.new ≡ seeds sub.now xy.now }

@@ -47,6 +47,7 @@ fn sized_box(l: f64, b: Box) -> bool
 }
 
 // Whether all occupied stations' corners are.
+// It is a loop, as is `any_occupied`: tried as `all` and `any` over 0..k, whose goals stay open without an induction over the occupied stations, which the loops' invariants are.
 fn all_sized(placed: &Placed<'_>, l: f64) -> bool
     ensures { result ≡ all_sized (boxes_in placed.now.k placed.now.frames.now) l (occupied (counts_in placed.now.k placed.now.stations.now)) }
 {
@@ -61,6 +62,7 @@ fn all_sized(placed: &Placed<'_>, l: f64) -> bool
 }
 
 // Whether a station is occupied.
+// Its callers have a `Placed`: a `Stations` would be made of it for this alone, and `Placed` itself would ask for frames too.
 pub fn any_occupied(k: usize, stations: &[u32]) -> bool
     requires { 2 * k ≤ length stations.now }
     ensures { result ≡ ltb 0 (length (occupied (counts_in k stations.now))) }

@@ -37,6 +37,7 @@ pub fn sizes(g: Gaps, stations: &Stations<'_>, blocks: &mut [f64])
 }
 
 // The larger side of each occupied station at the front of frames, and how many they are.
+// `frames` is written, so its length is asked as the slice's own; a struct of k and `blocks` would bring a second k, equal to the stations' by a further clause.
 pub fn sides(stations: &Stations<'_>, blocks: &[f64], frames: &mut [f64]) -> usize
     requires { (3 * stations.now.k ≤ length blocks.now) × (stations.now.k ≤ length frames.old) }
     ensures frames_after { take result frames.new ≡ sides (sizes_in stations.now.k blocks.now) (occupied (counts_in stations.now.k stations.now.counts.now)) }

@@ -146,7 +146,7 @@ fn space_all(c: Channel, wish: &mut [f64], keys: &mut [u64], order: &mut [u32], 
     place(c, wish);
 }
 
-// The first n wishes become their places on the channel, in the order of the wishes; `order` begins with the wishes' numbers in that order. The other lists are lent for the work, and what each holds past n stays. n stands beside four lists: as slices of n, each caller would cut four lists and say itself what stays past n.
+// The first n wishes become their places on the channel, in the order of the wishes; `order` begins with the wishes' numbers in that order. The other lists are lent for the work, and what each holds past n stays. n stands beside four lists: as slices of n, two callers would each cut four lists at n.
 pub fn space_sorted(
     c: Channel,
     n: usize,

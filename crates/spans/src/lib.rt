@@ -20,7 +20,7 @@ fn first_with(first: u32, past: u32, row: u32) -> u32
     if past == 0 {
         return row;
     }
-    if first <= row { first } else { row }
+    first.min(row)
 }
 
 // One more than its last row and this row.
@@ -28,7 +28,7 @@ fn past_with(past: u32, row: u32) -> u32
     requires { row < 2 ^ 32 - 1 }
     ensures { result ≡ max past (row + 1) }
 {
-    if past <= row + 1 { row + 1 } else { past }
+    past.max(row + 1)
 }
 
 // The rows of bus i with this row.
@@ -69,6 +69,7 @@ fn include_branch(net: &Network<'_>, ends: &[u32], e: usize, buses: &mut [u32])
 
 // No rows for n buses.
 // n isn't how long the list is: each bus has three numbers in it, and it may hold more.
+// `network` and `ranking` set a number of each station to 0: other strides, and other numbers that stay, so that one function would be told both.
 fn clear_rows(n: usize, buses: &mut [u32])
     requires { 3 * n ≤ length buses.old }
     ensures buses_after { spans_in n buses.new ≡ table (λ i. bare) n }
@@ -80,23 +81,23 @@ fn clear_rows(n: usize, buses: &mut [u32])
 }
 
 // The rows of all buses, which had none, with those of every branch.
-fn include_all(net: &Network<'_>, ends: &[u32], buses: &mut [u32])
-    requires { (length net.now.from.now ≤ 8192) × (3 * length net.now.sub.now ≤ length buses.old) × ((e : ℕ) → e < length net.now.from.now → (get_or ends.now (4 * e) 0 < 2 ^ 32 - 1) × (get_or ends.now (4 * e + 1) 0 < 2 ^ 32 - 1)) × (spans_in (length net.now.sub.now) buses.old ≡ table (λ i. bare) (length net.now.sub.now)) }
-    ensures buses_after { spans_in (length net.now.sub.now) buses.new ≡ spans net.now.sub.now (kinds net.now.sub.now net.now.from.now net.now.to.now net.now.service.now) (from_rows_in (length net.now.from.now) ends.now) (to_rows_in (length net.now.from.now) ends.now) }
-    ensures buses_unchanged { columns_in (length net.now.sub.now) buses.new ≡ columns_in (length net.now.sub.now) buses.old }
+fn include_all(net: &Bounded<'_>, ends: &[u32], buses: &mut [u32])
+    requires { (3 * length net.now.lists.sub.now ≤ length buses.old) × ((e : ℕ) → e < length net.now.lists.from.now → (get_or ends.now (4 * e) 0 < 2 ^ 32 - 1) × (get_or ends.now (4 * e + 1) 0 < 2 ^ 32 - 1)) × (spans_in (length net.now.lists.sub.now) buses.old ≡ table (λ i. bare) (length net.now.lists.sub.now)) }
+    ensures buses_after { spans_in (length net.now.lists.sub.now) buses.new ≡ spans net.now.lists.sub.now (kinds net.now.lists.sub.now net.now.lists.from.now net.now.lists.to.now net.now.lists.service.now) (from_rows_in (length net.now.lists.from.now) ends.now) (to_rows_in (length net.now.lists.from.now) ends.now) }
+    ensures buses_unchanged { columns_in (length net.now.lists.sub.now) buses.new ≡ columns_in (length net.now.lists.sub.now) buses.old }
 {
-    for e in 0..net.from.len() {
-        include_branch(net, ends, e, buses);
+    for e in 0..net.lists.from.len() {
+        include_branch(&net.lists, ends, e, buses);
     }
 }
 
 // The first row of each bus, and one more than its last, 0 where it has none.
-// Lists that are written are no struct: behind `&mut` others could stand in it, so each contract would have to say that it keeps them and their lengths.
+// `buses` is written, so its length is asked as the slice's own.
 pub fn spans(net: &Bounded<'_>, ends: &[u32], buses: &mut [u32])
     requires { (3 * length net.now.lists.sub.now ≤ length buses.old) × ((e : ℕ) → e < length net.now.lists.from.now → (get_or ends.now (4 * e) 0 < 2 ^ 32 - 1) × (get_or ends.now (4 * e + 1) 0 < 2 ^ 32 - 1)) }
     ensures buses_after { spans_in (length net.now.lists.sub.now) buses.new ≡ spans net.now.lists.sub.now (kinds net.now.lists.sub.now net.now.lists.from.now net.now.lists.to.now net.now.lists.service.now) (from_rows_in (length net.now.lists.from.now) ends.now) (to_rows_in (length net.now.lists.from.now) ends.now) }
     ensures buses_unchanged { columns_in (length net.now.lists.sub.now) buses.new ≡ columns_in (length net.now.lists.sub.now) buses.old }
 {
     clear_rows(net.lists.sub.len(), buses);
-    include_all(&net.lists, ends, buses);
+    include_all(net, ends, buses);
 }

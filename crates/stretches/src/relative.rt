@@ -18,7 +18,7 @@ pub struct Stretch {
 }
 
 // Where piece j starts.
-// That piece j is in the list is asked by the four readers of one piece: a struct of the list and j would be made for each read.
+// That piece j is in the list is asked by the four readers of one piece here and by two in `through`: a struct of the list and j would be made anew for each piece.
 #[tactic(auto, unfolding(crate::specs::Relative::piece_start))]
 pub fn piece_start(pieces: &[f64], j: usize) -> Point
     requires { 4 * j + 3 < length pieces.now }

@@ -8,7 +8,7 @@ ghost use Rattle.order.specs.Over.{over};
 ghost use Rattle.network.specs.Words.{kinds};
 ghost use Rattle.runs.specs.Run.{all_pieces};
 ghost use Rattle.runs.specs.Lists.{flat, piece_numbers};
-ghost use Rattle.runs.specs.Stages.Views.{held, lead};
+ghost use Rattle.runs.specs.Stages.Views.{held, lead_by};
 ghost use Rattle.pieces.specs.Stages.Pieces.{branch_of};
 ghost use Rattle.pieces.specs.Stages.Passes.{RoomFor, Passed};
 ghost use Rattle.survey.specs.Stages.Runs.{runs_in, others_in, FitAll, HasRoom};
@@ -20,6 +20,7 @@ use runs::laid::{Guide, Laid};
 use runs::run::run;
 
 // Counts the pieces of the branches that are no lines from number `first` on, writes them where it is to write, and answers the number after the last.
+// `write` stands beside `numbers` and `branches`, here and in `lines`, as in `pieces::tally`, which says why.
 #[tactic(auto, unfolding(crate::specs::Stages::Runs::others_in))]
 fn pass_others(
     write: bool,
@@ -44,10 +45,10 @@ fn pass_others(
 }
 
 // Counts the pieces of all runs.
-// That the path is long enough for every branch is asked by the four functions that write runs into it.
+// That `path` is long enough for every branch is asked by the four functions that write runs into it: it is written, so no struct of shared lists holds it with `from` and `ends`, which the fact joins with its length.
 pub fn survey(net: &Bounded<'_>, laid: &Laid<'_>, guide: &Guide<'_>, path: &mut [f64]) -> usize
     requires fit_all { FitAll net.now.lists.from.now laid.now.ends.now path.old }
-    ensures value { result ≡ length (all_pieces (kinds net.now.lists.sub.now net.now.lists.from.now net.now.lists.to.now net.now.lists.service.now) (runs_in (held net.now.lists.sub.now laid.now.measures laid.now.buses.now laid.now.ends.now laid.now.blocks.now laid.now.places.now guide.now.index.placed.frames.now (lead guide.now.led guide.now.gap guide.now.index.placed.k guide.now.index.placed.stations.now guide.now.ways.now)) net.now.lists.from.now net.now.lists.to.now net.now.lists.service.now)) }
+    ensures value { result ≡ length (all_pieces (kinds net.now.lists.sub.now net.now.lists.from.now net.now.lists.to.now net.now.lists.service.now) (runs_in (held net.now.lists.sub.now laid.now.measures laid.now.buses.now laid.now.ends.now laid.now.blocks.now laid.now.places.now guide.now.index.placed.frames.now (lead_by guide.now.gap guide.now.index.placed.k guide.now.index.placed.stations.now guide.now.ways.now)) net.now.lists.from.now net.now.lists.to.now net.now.lists.service.now)) }
     ensures upper_bound { result ≤ 2 ^ 45 }
 {
     let mut numbers = [0.0; 1];
@@ -84,9 +85,9 @@ pub fn write_pieces(
     branches: &mut [u32],
 )
     requires fit_all { FitAll net.now.lists.from.now laid.now.ends.now path.old }
-    requires has_room { HasRoom (all_pieces (kinds net.now.lists.sub.now net.now.lists.from.now net.now.lists.to.now net.now.lists.service.now) (runs_in (held net.now.lists.sub.now laid.now.measures laid.now.buses.now laid.now.ends.now laid.now.blocks.now laid.now.places.now guide.now.index.placed.frames.now (lead guide.now.led guide.now.gap guide.now.index.placed.k guide.now.index.placed.stations.now guide.now.ways.now)) net.now.lists.from.now net.now.lists.to.now net.now.lists.service.now)) numbers.old branches.old }
-    ensures numbers_after { numbers.new ≡ over (flat piece_numbers (all_pieces (kinds net.now.lists.sub.now net.now.lists.from.now net.now.lists.to.now net.now.lists.service.now) (runs_in (held net.now.lists.sub.now laid.now.measures laid.now.buses.now laid.now.ends.now laid.now.blocks.now laid.now.places.now guide.now.index.placed.frames.now (lead guide.now.led guide.now.gap guide.now.index.placed.k guide.now.index.placed.stations.now guide.now.ways.now)) net.now.lists.from.now net.now.lists.to.now net.now.lists.service.now))) numbers.old }
-    ensures branches_after { branches.new ≡ over (map branch_of (all_pieces (kinds net.now.lists.sub.now net.now.lists.from.now net.now.lists.to.now net.now.lists.service.now) (runs_in (held net.now.lists.sub.now laid.now.measures laid.now.buses.now laid.now.ends.now laid.now.blocks.now laid.now.places.now guide.now.index.placed.frames.now (lead guide.now.led guide.now.gap guide.now.index.placed.k guide.now.index.placed.stations.now guide.now.ways.now)) net.now.lists.from.now net.now.lists.to.now net.now.lists.service.now))) branches.old }
+    requires has_room { HasRoom (all_pieces (kinds net.now.lists.sub.now net.now.lists.from.now net.now.lists.to.now net.now.lists.service.now) (runs_in (held net.now.lists.sub.now laid.now.measures laid.now.buses.now laid.now.ends.now laid.now.blocks.now laid.now.places.now guide.now.index.placed.frames.now (lead_by guide.now.gap guide.now.index.placed.k guide.now.index.placed.stations.now guide.now.ways.now)) net.now.lists.from.now net.now.lists.to.now net.now.lists.service.now)) numbers.old branches.old }
+    ensures numbers_after { numbers.new ≡ over (flat piece_numbers (all_pieces (kinds net.now.lists.sub.now net.now.lists.from.now net.now.lists.to.now net.now.lists.service.now) (runs_in (held net.now.lists.sub.now laid.now.measures laid.now.buses.now laid.now.ends.now laid.now.blocks.now laid.now.places.now guide.now.index.placed.frames.now (lead_by guide.now.gap guide.now.index.placed.k guide.now.index.placed.stations.now guide.now.ways.now)) net.now.lists.from.now net.now.lists.to.now net.now.lists.service.now))) numbers.old }
+    ensures branches_after { branches.new ≡ over (map branch_of (all_pieces (kinds net.now.lists.sub.now net.now.lists.from.now net.now.lists.to.now net.now.lists.service.now) (runs_in (held net.now.lists.sub.now laid.now.measures laid.now.buses.now laid.now.ends.now laid.now.blocks.now laid.now.places.now guide.now.index.placed.frames.now (lead_by guide.now.gap guide.now.index.placed.k guide.now.index.placed.stations.now guide.now.ways.now)) net.now.lists.from.now net.now.lists.to.now net.now.lists.service.now))) branches.old }
 {
     let next = pass_others(
         true,

@@ -1,6 +1,6 @@
 // Lines become pieces: requests read from a lent list, each led round boxes, its pieces counted and written.
 ghost use Rattle.std.specs.Prelude.{true, ◌<◌, ◌≤◌, ◌^◌, length};
-ghost use Rattle.runs.specs.Stages.Views.{held, lead};
+ghost use Rattle.runs.specs.Stages.Views.{held, lead_by};
 ghost use Rattle.survey.specs.Stages.Runs.{FitAll, pass_in, block_in};
 ghost use Rattle.pieces.specs.Stages.Passes.{RoomFor, Passed};
 ghost use Rattle.survey.specs.Stages.Lines.{request_pieces, list_pieces, Asks, AskAll};
@@ -23,8 +23,8 @@ fn lead_line(
     numbers: &mut [f64],
     branches: &mut [u32],
 ) -> usize
-    requires { (Asks ends.now path.old r) × (RoomFor write first (request_pieces (lead guide.now.led guide.now.gap guide.now.index.placed.k guide.now.index.placed.stations.now guide.now.ways.now) guide.now.index.placed.frames.now ends.now r) numbers.old branches.old) }
-    ensures { Passed write first result (request_pieces (lead guide.now.led guide.now.gap guide.now.index.placed.k guide.now.index.placed.stations.now guide.now.ways.now) guide.now.index.placed.frames.now ends.now r) numbers.old numbers.new branches.old branches.new }
+    requires { (Asks ends.now path.old r) × (RoomFor write first (request_pieces (lead_by guide.now.gap guide.now.index.placed.k guide.now.index.placed.stations.now guide.now.ways.now) guide.now.index.placed.frames.now ends.now r) numbers.old branches.old) }
+    ensures { Passed write first result (request_pieces (lead_by guide.now.gap guide.now.index.placed.k guide.now.index.placed.stations.now guide.now.ways.now) guide.now.index.placed.frames.now ends.now r) numbers.old numbers.new branches.old branches.new }
 {
     if r.sa == r.sb {
         return first;
@@ -39,6 +39,7 @@ fn lead_line(
 }
 
 // Leads the lines that a lent list of requests asks for, one after the other.
+// By index, since `request_at` reads a request by its index: what `requests` promises of a lent list is said of it.
 #[tactic(auto, unfolding(crate::specs::Stages::Lines::list_pieces))]
 fn lead_requests(
     list: &[LineRequest],
@@ -50,8 +51,8 @@ fn lead_requests(
     numbers: &mut [f64],
     branches: &mut [u32],
 ) -> usize
-    requires { (AskAll ends.now path.old list.now) × (RoomFor write first (list_pieces (lead guide.now.led guide.now.gap guide.now.index.placed.k guide.now.index.placed.stations.now guide.now.ways.now) guide.now.index.placed.frames.now ends.now list.now) numbers.old branches.old) }
-    ensures { Passed write first result (list_pieces (lead guide.now.led guide.now.gap guide.now.index.placed.k guide.now.index.placed.stations.now guide.now.ways.now) guide.now.index.placed.frames.now ends.now list.now) numbers.old numbers.new branches.old branches.new }
+    requires { (AskAll ends.now path.old list.now) × (RoomFor write first (list_pieces (lead_by guide.now.gap guide.now.index.placed.k guide.now.index.placed.stations.now guide.now.ways.now) guide.now.index.placed.frames.now ends.now list.now) numbers.old branches.old) }
+    ensures { Passed write first result (list_pieces (lead_by guide.now.gap guide.now.index.placed.k guide.now.index.placed.stations.now guide.now.ways.now) guide.now.index.placed.frames.now ends.now list.now) numbers.old numbers.new branches.old branches.new }
 {
     let mut next = first;
     for i in 0..list.len() {
@@ -72,8 +73,8 @@ fn lead_list(
     numbers: &mut [f64],
     branches: &mut [u32],
 ) -> usize
-    requires { (AskAll ends.now path.old list) × (RoomFor write first (list_pieces (lead guide.now.led guide.now.gap guide.now.index.placed.k guide.now.index.placed.stations.now guide.now.ways.now) guide.now.index.placed.frames.now ends.now list) numbers.old branches.old) }
-    ensures { Passed write first result (list_pieces (lead guide.now.led guide.now.gap guide.now.index.placed.k guide.now.index.placed.stations.now guide.now.ways.now) guide.now.index.placed.frames.now ends.now list) numbers.old numbers.new branches.old branches.new }
+    requires { (AskAll ends.now path.old list) × (RoomFor write first (list_pieces (lead_by guide.now.gap guide.now.index.placed.k guide.now.index.placed.stations.now guide.now.ways.now) guide.now.index.placed.frames.now ends.now list) numbers.old branches.old) }
+    ensures { Passed write first result (list_pieces (lead_by guide.now.gap guide.now.index.placed.k guide.now.index.placed.stations.now guide.now.ways.now) guide.now.index.placed.frames.now ends.now list) numbers.old numbers.new branches.old branches.new }
 {
     lead_requests(&list, write, first, guide, ends, path, numbers, branches)
 }
@@ -91,8 +92,8 @@ fn lead_block(
     branches: &mut [u32],
 ) -> usize
     requires fit_all { FitAll net.now.lists.from.now laid.now.ends.now path.old }
-    requires start_bound { (start < 2 ^ 31) × RoomFor write first (block_in (held net.now.lists.sub.now laid.now.measures laid.now.buses.now laid.now.ends.now laid.now.blocks.now laid.now.places.now guide.now.index.placed.frames.now (lead guide.now.led guide.now.gap guide.now.index.placed.k guide.now.index.placed.stations.now guide.now.ways.now)) net.now.lists.from.now net.now.lists.to.now net.now.lists.service.now start) numbers.old branches.old }
-    ensures { Passed write first result (block_in (held net.now.lists.sub.now laid.now.measures laid.now.buses.now laid.now.ends.now laid.now.blocks.now laid.now.places.now guide.now.index.placed.frames.now (lead guide.now.led guide.now.gap guide.now.index.placed.k guide.now.index.placed.stations.now guide.now.ways.now)) net.now.lists.from.now net.now.lists.to.now net.now.lists.service.now start) numbers.old numbers.new branches.old branches.new }
+    requires start_bound { (start < 2 ^ 31) × RoomFor write first (block_in (held net.now.lists.sub.now laid.now.measures laid.now.buses.now laid.now.ends.now laid.now.blocks.now laid.now.places.now guide.now.index.placed.frames.now (lead_by guide.now.gap guide.now.index.placed.k guide.now.index.placed.stations.now guide.now.ways.now)) net.now.lists.from.now net.now.lists.to.now net.now.lists.service.now start) numbers.old branches.old }
+    ensures { Passed write first result (block_in (held net.now.lists.sub.now laid.now.measures laid.now.buses.now laid.now.ends.now laid.now.blocks.now laid.now.places.now guide.now.index.placed.frames.now (lead_by guide.now.gap guide.now.index.placed.k guide.now.index.placed.stations.now guide.now.ways.now)) net.now.lists.from.now net.now.lists.to.now net.now.lists.service.now start) numbers.old numbers.new branches.old branches.new }
 {
     let list = requests_from(&net.lists, laid, guide.index.placed.frames, start);
     lead_list(
@@ -112,8 +113,8 @@ pub(crate) fn lead_lines(
     branches: &mut [u32],
 ) -> usize
     requires fit_all { FitAll net.now.lists.from.now laid.now.ends.now path.old }
-    requires room_for { RoomFor write first (pass_in true (held net.now.lists.sub.now laid.now.measures laid.now.buses.now laid.now.ends.now laid.now.blocks.now laid.now.places.now guide.now.index.placed.frames.now (lead guide.now.led guide.now.gap guide.now.index.placed.k guide.now.index.placed.stations.now guide.now.ways.now)) net.now.lists.from.now net.now.lists.to.now net.now.lists.service.now) numbers.old branches.old }
-    ensures { Passed write first result (pass_in true (held net.now.lists.sub.now laid.now.measures laid.now.buses.now laid.now.ends.now laid.now.blocks.now laid.now.places.now guide.now.index.placed.frames.now (lead guide.now.led guide.now.gap guide.now.index.placed.k guide.now.index.placed.stations.now guide.now.ways.now)) net.now.lists.from.now net.now.lists.to.now net.now.lists.service.now) numbers.old numbers.new branches.old branches.new }
+    requires room_for { RoomFor write first (pass_in true (held net.now.lists.sub.now laid.now.measures laid.now.buses.now laid.now.ends.now laid.now.blocks.now laid.now.places.now guide.now.index.placed.frames.now (lead_by guide.now.gap guide.now.index.placed.k guide.now.index.placed.stations.now guide.now.ways.now)) net.now.lists.from.now net.now.lists.to.now net.now.lists.service.now) numbers.old branches.old }
+    ensures { Passed write first result (pass_in true (held net.now.lists.sub.now laid.now.measures laid.now.buses.now laid.now.ends.now laid.now.blocks.now laid.now.places.now guide.now.index.placed.frames.now (lead_by guide.now.gap guide.now.index.placed.k guide.now.index.placed.stations.now guide.now.ways.now)) net.now.lists.from.now net.now.lists.to.now net.now.lists.service.now) numbers.old numbers.new branches.old branches.new }
 {
     let mut next = first;
     for start in (0..net.lists.from.len()).step_by(16) {

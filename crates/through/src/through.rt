@@ -15,6 +15,7 @@ use network::words::station_of;
 use stretches::relative::{piece_end, piece_start};
 
 // The station of a bus, and no station's number for an unknown one.
+// No Option: `first_hit` takes two numbers and compares them with those of stations. An accepted audit has no more stations than buses, so none has the number `sub.len()`.
 #[tactic(auto, unfolding(crate::specs::Through::station_at))]
 fn station_at(sub: &[u32], x: Option<usize>) -> usize
     ensures { result ≡ station_at sub.now x }
@@ -65,6 +66,7 @@ fn count_hits(index: &BoxIndex<'_>, drawing: &Drawn<'_>) -> usize
 }
 
 // How many pieces of lines hit a box that isn't one of their own stations'.
+// The bound of k is no fact of `Placed`: `sized` and `results` don't ask for at most 4,096 stations, so it would ask more of their callers.
 pub fn count_through(placed: &Placed<'_>, index: &mut [u32], drawing: &Drawn<'_>) -> usize
     requires { (placed.now.k ≤ 4096) × (length drawing.now.pieces.now ≡ 4 * length drawing.now.branches.now) }
     ensures { result ≡ through (boxes_in placed.now.k placed.now.frames.now) (occupied (counts_in placed.now.k placed.now.stations.now)) drawing.now.sub.now drawing.now.from.now drawing.now.to.now drawing.now.roles.now drawing.now.pieces.now drawing.now.branches.now }

@@ -18,6 +18,7 @@ fn falling(v: u64) -> u64
 }
 
 // Lists the occupied stations by number at the front of sorted, and gives each station its bus count's key; how many are occupied.
+// `keys` and `sorted` are written, so their lengths are asked as the slices' own; k fits a u32, as its stations' numbers are written.
 fn list_occupied(stations: &Stations<'_>, keys: &mut [u64], sorted: &mut [u32]) -> usize
     requires { (stations.now.k ≤ 2 ^ 32) × (stations.now.k ≤ length keys.old) × (stations.now.k ≤ length sorted.old) }
     ensures { Listed (counts_in stations.now.k stations.now.counts.now) stations.now.k keys.new sorted.new result }
@@ -44,15 +45,15 @@ fn fill_keys(k: usize, keys: &mut [u64])
 }
 
 // Lowers each station's key to that of its top voltage.
-// `sub` and `kv` are as long as each other; `Network` would ask for the other lists of a call.
+// `sub` and `kv` are as long as each other; they are two of the six lists of a `Network`, which doesn't ask it, and the only ones that are read here.
 fn top_keys(sub: &[u32], kv: &[u64], k: usize, keys: &mut [u64])
     requires kv_len { (length kv.now ≡ length sub.now) × (k ≤ length keys.old) }
     requires by_index { (i : ℕ) → i < length sub.now → get_or sub.now i 0 < k }
     requires by_index_2 { (s : ℕ) → s < k → get_or keys.old s 0 ≡ falling 0 }
     ensures { (s : ℕ) → s < k → get_or keys.new s 0 ≡ falling (top_to sub.now kv.now s (length sub.now)) }
 {
-    for i in 0..sub.len() {
-        let s = sub[i] as usize;
+    for (i, &station) in sub.iter().enumerate() {
+        let s = station as usize;
         let v = falling(key_of_bits(kv[i]));
         if v < keys[s] {
             keys[s] = v;
@@ -61,18 +62,19 @@ fn top_keys(sub: &[u32], kv: &[u64], k: usize, keys: &mut [u64])
 }
 
 // Copies the sorted stations to their places beside the counts.
+// `columns` copies to every third number, from the first on: the strides differ, and this keeps the counts between.
 fn put_order(sorted: &[u32], stations: &mut [u32])
     requires { 2 * length sorted.now ≤ length stations.old }
     ensures stations_after { order_in (length sorted.now) stations.new ≡ sorted.now }
     ensures by_index { (k : ℕ) → counts_in k stations.new ≡ counts_in k stations.old }
 {
-    for p in 0..sorted.len() {
-        stations[2 * p + 1] = sorted[p];
+    for (p, &s) in sorted.iter().enumerate() {
+        stations[2 * p + 1] = s;
     }
 }
 
 // The order of placement, beside the stations' bus counts; how many stations are placed.
-// Lists that are written are no struct: behind `&mut` others could stand in it, so each contract would have to say that it keeps them and their lengths.
+// `stations`, `keys`, `sorted` and `spare` are written: behind one `&mut` a struct of them could hold other lists afterwards, so its contract would have to say of each that it is as long as before.
 pub fn placement_order(
     sub: &[u32],
     kv: &[u64],

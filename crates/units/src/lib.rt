@@ -33,7 +33,8 @@ pub fn coordinates(stations: &Stations<'_>, places: &[f64], path: &mut [f64]) ->
 }
 
 // The spacing of points. The other lists are work lists.
-// Lists that are written are no struct: behind `&mut` others could stand in it, so each contract would have to say that it keeps them and their lengths.
+// `frames`, `keys`, `sorted` and `spare` are written: behind one `&mut` a struct of them could hold other lists afterwards, so its contract would have to say of each that it is as long as before.
+// n is asked to fit a u32 as in `neighbours`, whose `nearest_of_all` takes `Points` of any n.
 pub fn spacing(
     points: &Points<'_>,
     frames: &mut [f64],
@@ -49,6 +50,7 @@ pub fn spacing(
 }
 
 // The median larger side of an occupied station, at least 1.
+// `frames`, `keys`, `sorted` and `spare` are written, so their lengths are asked as the slices' own; k bounds how much of `frames` `order::median` reads, which asks for at most 2^32.
 pub fn typical(
     stations: &Stations<'_>,
     blocks: &[f64],

@@ -29,7 +29,7 @@ pub struct Fixed<'a> {
 }
 
 // A half-edge of channel c.
-// c, a channel, is counted over usize: as a `u32` it would be converted at each index.
+// c, a channel, is counted over usize, as `rounds` counts channels; `point_of` and `wish_of` read it from a list of `u32` and convert it.
 #[tactic(auto, unfolding(crate::specs::Stages::RoundLists::edge_in))]
 pub fn edge_of(m: usize, ends: &[u32], c: usize) -> u32
     requires { (m ≤ 2 ^ 32) × (c < 2 ^ 32) }

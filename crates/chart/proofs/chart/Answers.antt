@@ -5,4 +5,4 @@ pub returns-clause-charted : goal.returns-clause-charted
 returns-clause-charted c = c.route-course.ensures
 
 pub returns-clause-indexed : goal.returns-clause-indexed
-returns-clause-indexed c = c.enter.ensures
+returns-clause-indexed c = c.index_boxes.ensures

@@ -1,20 +1,13 @@
 -- Answers for `corner::cost_key`.
-use mathlib.Core.Path.{sym, ap, ◌∙◌, subst}
-use lib.Dec.{T}
-use lib.Ieee.{to_bits}
-use lib.Ieee.Compare.{differs_from_itself}
-use Rattle.float.specs.Key.{key_of}
+use mathlib.Core.Path.{sym, ap, ◌∙◌}
 use Rattle.float.specs.Ops.{order_key}
-use Rattle.float.proofs.Patterns.{no_nan}
+use Rattle.float.proofs.Patterns.{key_nan}
 use Rattle.corner.specs.Corner.{cost_key}
 use Rattle.corner.proofs.cost_key.Goals as goal
 
-pub returns-then-x : goal.returns-then-x
-unfolding cost_key key_of to_bits
-returns-then-x c = ap order_key (sym (differs_from_itself _ (subst T (sym c.if-x.true) tt)) ∙ c.cost-x.ensures)
-
-pub order_key-requires : goal.order_key-requires
-order_key-requires c = no_nan _ c.if-x.false
+pub returns-then-is_nan : goal.returns-then-is_nan
+unfolding cost_key
+returns-then-is_nan c = key_nan _ (sym c.is_nan.ensures.value ∙ c.if-is_nan.true) ∙ ap order_key c.cost-x.ensures
 
 pub returns : goal.returns
 unfolding cost_key

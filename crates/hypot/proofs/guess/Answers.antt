@@ -1,11 +1,7 @@
 -- Answers for `hypot::guess`.
 use native.Mathlib.Omega.{arith}
-use Rattle.float.proofs.Patterns.{no_nan}
 use Rattle.float.proofs.Floors.{in_float_lem, down_requires}
 use Rattle.hypot.proofs.guess.Goals as goal
-
-pub float_to_bits-p : goal.float_to_bits-p
-float_to_bits-p c = no_nan _ c.if-x.false
 
 pub size_down-requires : goal.size_down-requires
 size_down-requires c =

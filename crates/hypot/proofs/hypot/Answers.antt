@@ -1,9 +1,9 @@
 -- Answers for `hypot::hypot`.
-use mathlib.Core.Path.{sym, subst}
+use mathlib.Core.Path.{◌∙◌, sym, subst}
 use native.Mathlib.Nat.{le_of_lt}
 use lib.Dec.{T}
 use Rattle.float.proofs.Signs.{inf_no_nan}
-use Rattle.float.proofs.Whole.{at_inf, at_inf_2, at_nan, at_nan_2, no_nan_at, finite_at, bits_at, grains_back, no_nan_bits, at_last, at_last_2}
+use Rattle.float.proofs.Whole.{at_inf, at_inf_2, at_nan, at_nan_2, finite_at, bits_at, grains_back, no_nan_bits, at_last, at_last_2}
 use Rattle.hypot.proofs.hypot.Goals as goal
 
 pub float_from_bits-i : goal.float_from_bits-i
@@ -17,40 +17,32 @@ pub returns-then-b-i : goal.returns-then-b-i
 returns-then-b-i c =
     at_inf_2 c.args.x c.args.y c.abs-a.result c.abs-b.result c.abs-a.ensures c.abs-b.ensures c.if-b-i.true
 
-pub returns-then-a : goal.returns-then-a
-returns-then-a c =
-    at_nan c.args.x c.args.y c.abs-a.result c.abs-b.result c.abs-a.ensures c.abs-b.ensures c.if-b-i.false c.if-a.true
+pub returns-then-is_nan : goal.returns-then-is_nan
+returns-then-is_nan c =
+    at_nan c.args.x c.args.y c.abs-a.result c.abs-b.result c.abs-a.ensures c.abs-b.ensures c.if-b-i.false (sym c.is_nan.ensures.value ∙ c.if-is_nan.true)
 
-pub returns-then-b : goal.returns-then-b
-returns-then-b c =
-    at_nan_2 c.args.x c.args.y c.abs-a.result c.abs-b.result c.abs-a.ensures c.abs-b.ensures c.if-a-i.false c.if-b.true
-
-pub float_to_bits-p : goal.float_to_bits-p
-float_to_bits-p c =
-    no_nan_at c.args.x c.abs-a.result c.abs-a.ensures ((subst T (sym c.well_formed.0.1) tt)) c.if-a.false
-
-pub float_to_bits-q : goal.float_to_bits-q
-float_to_bits-q c =
-    no_nan_at c.args.y c.abs-b.result c.abs-b.ensures ((subst T (sym c.well_formed.1.0.1) tt)) c.if-b.false
+pub returns-then-is_nan-2 : goal.returns-then-is_nan-2
+returns-then-is_nan-2 c =
+    at_nan_2 c.args.x c.args.y c.abs-a.result c.abs-b.result c.abs-a.ensures c.abs-b.ensures c.if-a-i.false (sym c.is_nan-2.ensures.value ∙ c.if-is_nan-2.true)
 
 pub bits_of-requires : goal.bits_of-requires
 bits_of-requires c =
-    (c.if-q-p.true, bits_at c.args.x c.abs-a.result c.abs-a.ensures ((subst T (sym c.well_formed.0.1) tt)) ((finite_at c.args.x c.abs-a.result c.abs-a.ensures ((subst T (sym c.well_formed.0.1) tt)) c.if-a-i.false c.if-a.false)))
+    (c.if-q-p.true, bits_at c.args.x c.abs-a.result c.abs-a.ensures ((subst T (sym c.well_formed.0.1) tt)) ((finite_at c.args.x c.abs-a.result c.abs-a.ensures ((subst T (sym c.well_formed.0.1) tt)) c.if-a-i.false (sym c.is_nan.ensures.value ∙ c.if-is_nan.false))))
 
 pub float_from_bits-result : goal.float_from_bits-result
 float_from_bits-result c = no_nan_bits c.bits_of.result _ _ c.bits_of.ensures
 
 pub returns-then-q-p : goal.returns-then-q-p
 returns-then-q-p c =
-    at_last c.args.x c.args.y c.bits_of.result _ _ c.bits_of.ensures (grains_back c.args.x c.abs-a.result c.abs-a.ensures ((subst T (sym c.well_formed.0.1) tt))) (grains_back c.args.y c.abs-b.result c.abs-b.ensures ((subst T (sym c.well_formed.1.0.1) tt))) ((finite_at c.args.x c.abs-a.result c.abs-a.ensures ((subst T (sym c.well_formed.0.1) tt)) c.if-a-i.false c.if-a.false)) ((finite_at c.args.y c.abs-b.result c.abs-b.ensures ((subst T (sym c.well_formed.1.0.1) tt)) c.if-b-i.false c.if-b.false))
+    at_last c.args.x c.args.y c.bits_of.result _ _ c.bits_of.ensures (grains_back c.args.x c.abs-a.result c.abs-a.ensures ((subst T (sym c.well_formed.0.1) tt))) (grains_back c.args.y c.abs-b.result c.abs-b.ensures ((subst T (sym c.well_formed.1.0.1) tt))) ((finite_at c.args.x c.abs-a.result c.abs-a.ensures ((subst T (sym c.well_formed.0.1) tt)) c.if-a-i.false (sym c.is_nan.ensures.value ∙ c.if-is_nan.false))) ((finite_at c.args.y c.abs-b.result c.abs-b.ensures ((subst T (sym c.well_formed.1.0.1) tt)) c.if-b-i.false (sym c.is_nan-2.ensures.value ∙ c.if-is_nan-2.false)))
 
 pub bits_of-requires-2 : goal.bits_of-requires-2
 bits_of-requires-2 c =
-    (le_of_lt c.if-q-p.false, bits_at c.args.y c.abs-b.result c.abs-b.ensures ((subst T (sym c.well_formed.1.0.1) tt)) ((finite_at c.args.y c.abs-b.result c.abs-b.ensures ((subst T (sym c.well_formed.1.0.1) tt)) c.if-b-i.false c.if-b.false)))
+    (le_of_lt c.if-q-p.false, bits_at c.args.y c.abs-b.result c.abs-b.ensures ((subst T (sym c.well_formed.1.0.1) tt)) ((finite_at c.args.y c.abs-b.result c.abs-b.ensures ((subst T (sym c.well_formed.1.0.1) tt)) c.if-b-i.false (sym c.is_nan-2.ensures.value ∙ c.if-is_nan-2.false))))
 
 pub float_from_bits-result-2 : goal.float_from_bits-result-2
 float_from_bits-result-2 c = no_nan_bits c.bits_of-2.result _ _ c.bits_of-2.ensures
 
 pub returns : goal.returns
 returns c =
-    at_last_2 c.args.x c.args.y c.bits_of-2.result _ _ c.bits_of-2.ensures (grains_back c.args.x c.abs-a.result c.abs-a.ensures ((subst T (sym c.well_formed.0.1) tt))) (grains_back c.args.y c.abs-b.result c.abs-b.ensures ((subst T (sym c.well_formed.1.0.1) tt))) ((finite_at c.args.x c.abs-a.result c.abs-a.ensures ((subst T (sym c.well_formed.0.1) tt)) c.if-a-i.false c.if-a.false)) ((finite_at c.args.y c.abs-b.result c.abs-b.ensures ((subst T (sym c.well_formed.1.0.1) tt)) c.if-b-i.false c.if-b.false))
+    at_last_2 c.args.x c.args.y c.bits_of-2.result _ _ c.bits_of-2.ensures (grains_back c.args.x c.abs-a.result c.abs-a.ensures ((subst T (sym c.well_formed.0.1) tt))) (grains_back c.args.y c.abs-b.result c.abs-b.ensures ((subst T (sym c.well_formed.1.0.1) tt))) ((finite_at c.args.x c.abs-a.result c.abs-a.ensures ((subst T (sym c.well_formed.0.1) tt)) c.if-a-i.false (sym c.is_nan.ensures.value ∙ c.if-is_nan.false))) ((finite_at c.args.y c.abs-b.result c.abs-b.ensures ((subst T (sym c.well_formed.1.0.1) tt)) c.if-b-i.false (sym c.is_nan-2.ensures.value ∙ c.if-is_nan-2.false)))

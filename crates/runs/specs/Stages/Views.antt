@@ -1,5 +1,5 @@
 -- How the lent work lists hold what runs are drawn from. Definitions only.
-use Rattle.std.specs.Prelude.{ℕ, ◌+◌, ◌*◌, ◌^◌, ◌≤◌, ◌<◌, ◌≡◌, Bool, cond, List, [], ◌∷◌, ◌++◌, length, get_or, Float}
+use Rattle.std.specs.Prelude.{ℕ, ◌+◌, ◌*◌, ◌^◌, ◌≤◌, ◌<◌, ◌≡◌, Bool, cond, List, [], ◌∷◌, ◌++◌, length, get_or, Float, Option, is_some, unwrap_or}
 use Rattle.std.specs.Float.{nan}
 use Rattle.float.specs.Ops.{◌⊗◌}
 use Rattle.geometry.specs.declared.Point.{Point}
@@ -25,6 +25,10 @@ pub record Lead : Type 0 where
 
 abbrev pub lead : Bool → Float → ℕ → List ℕ → List Float → Lead
 lead a b c d e = record { led = a; gap = b; k = c; stations = d; ways = e }
+
+-- that by the gap which lines keep where they are led, none where they aren't
+abbrev pub lead_by : Option Float → ℕ → List ℕ → List Float → Lead
+lead_by gap k stations ways = lead (is_some gap) (unwrap_or gap nan) k stations ways
 
 -- the station numbers, the unit with the gaps, and the work lists of buses, branches' ends, blocks, places and boxes; what leads lines
 pub record RunLists : Type 0 where

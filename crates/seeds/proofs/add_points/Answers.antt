@@ -7,7 +7,7 @@ use Rattle.seeds.proofs.Seeding.{summed_none, summed_more, summed_all}
 use Rattle.seeds.proofs.add_points.Goals as goal
 
 pub loop-i-init : goal.loop-i-init
-loop-i-init c = (omega arith, refl, summed_none _ _ _ _ c.requires.4)
+loop-i-init c = (omega arith, refl, summed_none _ _ _ _ c.requires.3)
 
 pub put_point-requires : goal.put_point-requires
 put_point-requires c = omega (arith, station_below c.args.sub.now c.loop-i.i c.loop-i-test.true)

@@ -6,11 +6,11 @@ use Rattle.spans.proofs.Rows.{spanned_none, spanned_more, spanned_all}
 use Rattle.spans.proofs.include_all.Goals as goal
 
 pub loop-e-init : goal.loop-e-init
-loop-e-init c = spanned_none _ _ _ _ _ _ c.requires.3
+loop-e-init c = spanned_none _ _ _ _ _ _ c.requires.2
 
 pub loop-e-preserved : goal.loop-e-preserved
 loop-e-preserved c = spanned_more _ _ _ _ _ _ _ _ _ c.loop-e-test.true c.include_branch.ensures c.loop-e.invariant
 
 pub returns : goal.returns
 returns c =
-    let both = let e : c.loop-e.e ≡ length c.args.net.now.from.now = omega arith in spanned_all _ _ _ _ _ _ _ (rw e at c.loop-e.invariant) in record { buses_after = both.0; buses_unchanged = both.1 }
+    let both = let e : c.loop-e.e ≡ length c.args.net.now.lists.from.now = omega arith in spanned_all _ _ _ _ _ _ _ (rw e at c.loop-e.invariant) in record { buses_after = both.0; buses_unchanged = both.1 }

@@ -8,8 +8,11 @@ use Rattle.audit.proofs.quality.tx_layout_quality.Goals as goal
 pub returns-in_err-check_input : goal.returns-in_err-check_input
 returns-in_err-check_input c = let p = err_from_is_err_and c.from_residual.result c.from_residual.ensures.1 in rw (p.1, p.2) (call_refused _ _ _ _ c.in_err-check_input.ensures)
 
+pub invariant_of-drawing : goal.invariant_of-drawing
+invariant_of-drawing c = record { few_buses = (passed_of _ _ c.in_ok-check_input.ensures).few }
+
 pub audited-a-requires-clause-sub_len_bound : goal.audited-a-requires-clause-sub_len_bound
-audited-a-requires-clause-sub_len_bound c = let z = passed_of _ _ c.in_ok-check_input.ensures in (z.few, z.below, z.stations)
+audited-a-requires-clause-sub_len_bound c = let z = passed_of _ _ c.in_ok-check_input.ensures in (z.below, z.stations)
 
 pub audited-a-requires-clause-sub_in_bounds : goal.audited-a-requires-clause-sub_in_bounds
 audited-a-requires-clause-sub_in_bounds c = let z = passed_of _ _ c.in_ok-check_input.ensures in (z.displacement, z.spacing, z.relative, z.points, z.path)

@@ -9,7 +9,7 @@ survey-pieces-requires c = record { fit_all = fits _ _ _ _ _ _ _ _ _ _ _ _ _ c.r
 pub returns-in_err-check_pieces : goal.returns-in_err-check_pieces
 returns-in_err-check_pieces c =
     let p = err_from_is_err_and c.from_residual.result c.from_residual.ensures.1 in
-    rw (p.1, p.2) (judged_full _ _ _ _ _ _ _ _ _ _ _ _ _ c.requires.measured c.requires.charted _ _ c.requires.guided.1 c.requires.guided.0 _ _ c.survey-pieces.ensures.value c.bounds_of-bounds.ensures _ c.in_err-check_pieces.ensures)
+    rw (p.1, p.2) (judged_full _ _ _ _ _ _ _ _ _ _ _ _ _ c.requires.measured c.requires.charted _ c.requires.guided _ _ c.survey-pieces.ensures.value c.bounds_of-bounds.ensures _ c.in_err-check_pieces.ensures)
 
 pub returns : goal.returns
-returns c = judged _ _ _ _ _ _ _ _ _ _ _ _ _ c.requires.measured c.requires.charted _ _ c.requires.guided.1 c.requires.guided.0 _ _ c.survey-pieces.ensures.value c.bounds_of-bounds.ensures c.in_ok-check_pieces.ensures
+returns c = judged _ _ _ _ _ _ _ _ _ _ _ _ _ c.requires.measured c.requires.charted _ c.requires.guided _ _ c.survey-pieces.ensures.value c.bounds_of-bounds.ensures c.in_ok-check_pieces.ensures

@@ -10,4 +10,4 @@ use Rattle.fit.proofs.fit.all_join.Goals as goal
 
 pub returns : goal.returns
 unfolding all_join
-returns c = all_to_range _ _ _ (all_from_yields_List (joins c.args.n c.args.from.now c.args.to.now c.args.roles.now) _ _ _ c.all.ensures.ran (YieldsList-from_range 0 (length c.args.from.now) (length c.args.from.now) refl (omega arith)) (λ x b q k. search (rules, tests)))
+returns c = all_to_range _ _ _ (all_from_yields_List (joins (length c.args.drawing.now.sub.now) c.args.drawing.now.from.now c.args.drawing.now.to.now c.args.drawing.now.roles.now) _ _ _ c.all.ensures.ran (YieldsList-from_range 0 (length c.args.drawing.now.from.now) (length c.args.drawing.now.from.now) refl (omega arith)) (λ x b q k. search (rules, tests)))

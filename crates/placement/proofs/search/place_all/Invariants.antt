@@ -9,4 +9,4 @@ use Rattle.placement.proofs.Placing.{Placed}
 use Rattle.placement.proofs.search.place_all.Given as goal
 
 abbrev pub invariant-loop-p : goal.invariant-loop-p
-invariant-loop-p l = (l.p ≤ l.r) × (length l.places ≡ length l.initial.places) × (length l.boxes ≡ length l.initial.boxes) × (length l.keys ≡ length l.initial.keys) × (length l.sorted ≡ length l.initial.sorted) × Placed l.m.unit (frames_in l.m l.k l.blocks) (skipped l.tried.search (pairs_in l.tried.a.now l.tried.b.now)) (points_in l.k l.initial.places) (order_in l.r l.stations) l.k l.p l.most l.places l.boxes l.keys l.sorted
+invariant-loop-p l = (l.p ≤ l.r) × (length l.places ≡ length l.initial.places) × (length l.boxes ≡ length l.initial.boxes) × (length l.keys ≡ length l.initial.keys) × (length l.sorted ≡ length l.initial.sorted) × Placed l.m.unit (frames_in l.m l.stations.k l.blocks) (skipped l.tried.search (pairs_in l.tried.a.now l.tried.b.now)) (points_in l.stations.k l.initial.places) (order_in l.r l.stations.counts.now) l.stations.k l.p l.most l.places l.boxes l.keys l.sorted

@@ -16,13 +16,13 @@ loop-s-preserved c =
       | then-stations-s-gt0 w ↦ rw w.frames-is ((
         omega arith,
         omega (arith, w.put_box.auto, c.loop-s.invariant.1),
-        ap (boxes_in (c.loop-s.s + 1)) w.put_box.ensures ∙ boxes_yes c.args.m c.args.k c.args.stations.now c.args.blocks.now c.args.places.now c.loop-s.s c.loop-s.frames _ c.loop-s-test.true
+        ap (boxes_in (c.loop-s.s + 1)) w.put_box.ensures ∙ boxes_yes c.args.m c.args.stations.now.k c.args.stations.now.counts.now c.args.blocks.now c.args.places.now c.loop-s.s c.loop-s.frames _ c.loop-s-test.true
             (omega (arith, c.requires, c.loop-s.invariant.1)) w.if-stations-s-gt0.true w.station_box.ensures c.loop-s.invariant.2,
       ))
       | else-stations-s-gt0 w ↦ rw w.frames-is ((
         omega arith,
         omega (arith, w.put_box-else-stations-s-gt0.auto, c.loop-s.invariant.1),
-        ap (boxes_in (c.loop-s.s + 1)) w.put_box-else-stations-s-gt0.ensures ∙ boxes_no c.args.m c.args.k c.args.stations.now c.args.blocks.now c.args.places.now c.loop-s.s c.loop-s.frames c.loop-s-test.true
+        ap (boxes_in (c.loop-s.s + 1)) w.put_box-else-stations-s-gt0.ensures ∙ boxes_no c.args.m c.args.stations.now.k c.args.stations.now.counts.now c.args.blocks.now c.args.places.now c.loop-s.s c.loop-s.frames c.loop-s-test.true
             (omega (arith, c.requires, c.loop-s.invariant.1)) w.if-stations-s-gt0.false c.loop-s.invariant.2,
       ))
     ]

@@ -8,4 +8,4 @@ use Rattle.placement.proofs.Placing.{box_for}
 use Rattle.placement.proofs.search.station_boxes.Given as goal
 
 abbrev pub invariant-loop-s : goal.invariant-loop-s
-invariant-loop-s l = (l.s ≤ l.k) × (length l.frames ≡ length l.initial.frames) × (boxes_in l.s l.frames ≡ table (box_for l.m l.k l.stations l.blocks l.places) l.s)
+invariant-loop-s l = (l.s ≤ l.stations.k) × (length l.frames ≡ length l.initial.frames) × (boxes_in l.s l.frames ≡ table (box_for l.m l.stations.k l.stations.counts.now l.blocks l.places) l.s)
