@@ -1,9 +1,6 @@
 -- The whole call from its parts. Assumes nothing.
-use mathlib.Core.Path.{◌≡◌, refl, sym, ap, ◌∙◌}
-use mathlib.Core.List.{List}
-use Prim.Native.Nat.{ℕ}
+use mathlib.Core.Path.{◌≡◌, sym, ap, ◌∙◌}
 use lib.ListN.{length}
-use lib.Ieee.{Float}
 use Rattle.std.specs.Prelude.{Option, Some, None, Result, Err}
 use Rattle.refusals.specs.declared.Refusal.{Refusal}
 use Rattle.findings.specs.declared.answer.Figures.{Figures}

@@ -10,7 +10,7 @@ use figures::figure::{displacements, middles, spacings};
 use findings::answer::Figures;
 use fit::drawn::FewBuses;
 use neighbours::points::Points;
-use network::lists::{Placed, Stations};
+use network::lists::{FewPlaced, Placed, Stations};
 use overlaps::count_overlaps;
 use seeds::seeds;
 use stretches::relative::relative_lengths;
@@ -19,6 +19,7 @@ use units::coordinates;
 
 // The figures of a drawing that isn't refused.
 // What is asked of the boxes, the pieces and the lists that are written was tested by `check_input` and `fits`, which are lent a drawing that may fail it. `displacement`, `spacing`, `relative`, `index`, `spare`, `keys`, `points` and `path` are no struct: each stage writes some of them alone.
+// That pieces are four numbers for each branch number is what `fits` told. It is no fact of `Drawn`, which is lent to `fits` too; `relative_lengths` takes the lists one by one and would ask it still.
 pub fn figures_of(
     drawing: &FewBuses<'_>,
     k: usize,
@@ -49,14 +50,15 @@ pub fn figures_of(
         stations,
         frames: drawing.boxes,
     };
+    let few = FewPlaced { placed };
     seeds(drawing.sub, drawing.xy, &counted, points);
-    displacements(&placed, points, displacement);
+    displacements(&few, points, displacement);
     middles(k, drawing.boxes, points);
     let n = coordinates(&counted, points, path);
     let points = Points { n, xy: path };
-    spacings(&placed, &points, spacing, keys, index, spare);
-    let overlaps = count_overlaps(&placed, keys, index, spare);
-    let through = count_through(&placed, index, &drawing);
+    spacings(&few, &points, spacing, keys, index, spare);
+    let overlaps = count_overlaps(&few, keys, index, spare);
+    let through = count_through(&few, index, &drawing);
     let lengths = relative_lengths(drawing.roles, drawing.pieces, drawing.branches, relative);
     Figures {
         stations: n,

@@ -16,79 +16,87 @@ pub struct Bar {
     pub y1: f64,
 }
 
+// What a station's interior is drawn by: the gaps, its box, and its block, unit × scale.
+#[derive(Clone, Copy)]
+pub struct Interior {
+    pub gaps: Gaps,
+    pub frame: Box,
+    pub block: f64,
+}
+
 // The x of a bar in the column of this number.
 #[tactic(auto, unfolding(crate::specs::Bar::bar_x))]
-fn bar_x(g: Gaps, b: Box, f: f64, column: u32) -> f64
-    ensures { result ≡ bar_x g b f column }
+fn bar_x(of: Interior, column: u32) -> f64
+    ensures { result ≡ bar_x of.gaps of.frame of.block column }
 {
-    b.left + (g.pad + g.bar_gap * (column as f64)) * f
+    of.frame.left + (of.gaps.pad + of.gaps.bar_gap * (column as f64)) * of.block
 }
 
 // The y of a row.
 #[tactic(auto, unfolding(crate::specs::Bar::row_y))]
-pub fn row_y(g: Gaps, b: Box, f: f64, row: u32) -> f64
-    ensures { result ≡ row_y g b f row }
+pub fn row_y(of: Interior, row: u32) -> f64
+    ensures { result ≡ row_y of.gaps of.frame of.block row }
 {
-    b.top + (g.pad + (row as f64) + 0.5) * f
+    of.frame.top + (of.gaps.pad + (row as f64) + 0.5) * of.block
 }
 
 // A bar over its first to its last row.
 #[tactic(auto, unfolding(crate::specs::Bar::reach))]
-fn over_rows(g: Gaps, b: Box, f: f64, x: f64, first: u32, last: u32) -> Bar
-    ensures { result ≡ reach g b f x (rows first last) }
+fn over_rows(of: Interior, x: f64, first: u32, last: u32) -> Bar
+    ensures { result ≡ reach of.gaps of.frame of.block x (rows first last) }
 {
     Bar {
         x,
-        y0: row_y(g, b, f, first) - 0.5 * f,
-        y1: row_y(g, b, f, last) + 0.5 * f,
+        y0: row_y(of, first) - 0.5 * of.block,
+        y1: row_y(of, last) + 0.5 * of.block,
     }
 }
 
 // A bar without rows.
 #[tactic(auto, unfolding(crate::specs::Bar::reach))]
-fn at_top(g: Gaps, b: Box, f: f64, x: f64) -> Bar
-    ensures { result ≡ reach g b f x bare }
+fn at_top(of: Interior, x: f64) -> Bar
+    ensures { result ≡ reach of.gaps of.frame of.block x bare }
 {
     Bar {
         x,
-        y0: b.top + g.pad * f,
-        y1: b.top + (g.pad + g.min_bar) * f,
+        y0: of.frame.top + of.gaps.pad * of.block,
+        y1: of.frame.top + (of.gaps.pad + of.gaps.min_bar) * of.block,
     }
 }
 
 // A bar of at least the shortest length, about its middle.
 #[tactic(auto, unfolding(crate::specs::Bar::lengthened))]
-fn lengthened(g: Gaps, f: f64, b: Bar) -> Bar
-    ensures { result ≡ lengthened g f b }
+fn lengthened(of: Interior, b: Bar) -> Bar
+    ensures { result ≡ lengthened of.gaps of.block b }
 {
-    if b.y1 - b.y0 < g.min_bar * f {
+    if b.y1 - b.y0 < of.gaps.min_bar * of.block {
         let mid = (b.y0 + b.y1) / 2.0;
         return Bar {
             x: b.x,
-            y0: mid - g.min_bar * f / 2.0,
-            y1: mid + g.min_bar * f / 2.0,
+            y0: mid - of.gaps.min_bar * of.block / 2.0,
+            y1: mid + of.gaps.min_bar * of.block / 2.0,
         };
     }
     b
 }
 
-// A bar at x from its first row to before `past`; 0 for past: without rows.
+// A bar at x from its first row to before `past`; 0 for past: without rows. No Option: first and past come so from a lent list of numbers, three of each bus.
 #[tactic(auto, unfolding(crate::specs::Bar::span_of))]
-fn reach(g: Gaps, b: Box, f: f64, x: f64, first: u32, past: u32) -> Bar
-    ensures { result ≡ reach g b f x (span_of first past) }
+fn reach(of: Interior, x: f64, first: u32, past: u32) -> Bar
+    ensures { result ≡ reach of.gaps of.frame of.block x (span_of first past) }
 {
     if past == 0 {
-        return at_top(g, b, f, x);
+        return at_top(of, x);
     }
-    over_rows(g, b, f, x, first, past - 1)
+    over_rows(of, x, first, past - 1)
 }
 
 // The bar of a bus in this column.
 #[tactic(auto, unfolding(crate::specs::Bar::bar_for))]
-pub fn bar_for(g: Gaps, b: Box, f: f64, column: u32, first: u32, past: u32) -> Bar
-    ensures { result ≡ bar_for g b f column (span_of first past) }
+pub fn bar_for(of: Interior, column: u32, first: u32, past: u32) -> Bar
+    ensures { result ≡ bar_for of.gaps of.frame of.block column (span_of first past) }
 {
-    lengthened(g, f, reach(g, b, f, bar_x(g, b, f, column), first, past))
+    lengthened(of, reach(of, bar_x(of, column), first, past))
 }
 
 // A bar's x and middle.

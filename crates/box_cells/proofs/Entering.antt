@@ -54,9 +54,6 @@ module _ (l ys rest : List ℕ) (m n : ℕ) (room : 7 + n ≤ length l) (zeros :
     record { same = λ i h. get_or-append (take 7 l) (ys ++ rest) 0 i (omega (arith, front, h)) ∙ get_or-take 7 l i 0 h },
   )
 
-pub same_start : (l : List ℕ) → SameGrid l l
-same_start l = record { same = λ i h. refl }
-
 pub same_linked : (k c s : ℕ) (l m : List ℕ) → s < k → 7 + c < 4 * k → 5 * k ≤ length m → SameGrid l m → SameGrid l (linked k c s m)
 same_linked k c s l m h g n e = record { same = λ i j. first_other k c s m h g n i j ∙ e.same i j }
 

@@ -14,10 +14,11 @@ use crate::finite::all_finite;
 use first_box::box_in;
 use float::small::is_finite;
 use grid::{Grid, chain_of, grid_of};
-use network::lists::Placed;
+use network::lists::FewPlaced;
 
 // The needed length of a list that the boxes of n stations are entered in.
 // n is a number alone, counted before there are boxes: no `Placed` holds it, and its bound keeps 5 n within a usize.
+#[tactic(auto, unfolding(crate::specs::Length::index_length))]
 pub fn index_length(n: usize) -> usize
     requires { n ≤ 4096 }
     ensures { result ≡ index_length n }
@@ -27,6 +28,7 @@ pub fn index_length(n: usize) -> usize
 
 // Puts station s at the front of a chain.
 // `index` is written, so its length is asked as the slice's own; k is at most 4,096 so that the numbers written fit a u32.
+#[tactic(auto, using(crate::proofs::Chaining::linked_is))]
 fn link(k: usize, chain: usize, s: usize, index: &mut [u32])
     requires { (s < k) × (k ≤ 4096) × (7 + chain < 4 * k) × (5 * k ≤ length index.old) }
     ensures { index.new ≡ linked k chain s index.old }
@@ -43,22 +45,23 @@ fn clear_chains(g: Grid, index: &mut [u32])
     index[7..8 + g.columns * g.rows].fill(0);
 }
 
-// Enters the occupied stations' boxes into empty chains; a chain begins with its last station. The bound of k and the room in `index`, which changes, are asked here, in `fill` and in `grow`: a struct for them would be made once, for these three.
-fn enter(g: Grid, placed: &Placed<'_>, index: &mut [u32])
-    requires k_in_bounds { (placed.now.k ≤ 4096) × (5 * placed.now.k ≤ length index.old) }
-    requires le_columns { (1 ≤ g.columns) × (1 ≤ g.rows) × (8 + g.columns * g.rows ≤ 4 * placed.now.k) × Empty (1 + g.columns * g.rows) index.old }
-    ensures chained { Chained g (boxes_in placed.now.k placed.now.frames.now) (occupied (counts_in placed.now.k placed.now.stations.now)) placed.now.k index.new }
+// Enters the occupied stations' boxes into empty chains; a chain begins with its last station. The room in `index` is asked here, in `fill` and in `grow` as the slice's own, since it is written.
+fn enter(g: Grid, few: &FewPlaced<'_>, index: &mut [u32])
+    requires k_in_bounds { 5 * few.now.placed.k ≤ length index.old }
+    requires le_columns { (1 ≤ g.columns) × (1 ≤ g.rows) × (8 + g.columns * g.rows ≤ 4 * few.now.placed.k) × Empty (1 + g.columns * g.rows) index.old }
+    ensures chained { Chained g (boxes_in few.now.placed.k few.now.placed.frames.now) (occupied (counts_in few.now.placed.k few.now.placed.stations.now)) few.now.placed.k index.new }
     ensures same_grid { SameGrid index.old index.new }
 {
+    let placed = &few.placed;
     for s in 0..placed.k {
-        if 0 < placed.stations[2 * s] {
+        if placed.is_occupied(s) {
             let b = box_in(placed.k, placed.frames, s);
             link(placed.k, chain_of(g, b), s, index);
         }
     }
 }
 
-// Writes the grid.
+// Writes the grid. No struct: the first seven numbers of the lent list hold it and whether boxes are entered, as there is no heap to keep them from one call to the next.
 fn put_grid(e: Extent, c: Counts, index: &mut [u32])
     requires { (7 ≤ length index.old) × (e.left ≤ 4096) × (e.right ≤ 4096) × (e.top ≤ 4096) × (e.bottom ≤ 4096) × (c.columns ≤ 16384) × (c.rows ≤ 16384) }
     ensures { (get_or index.new 5 0 ≡ c.columns) × (get_or index.new 6 0 ≡ c.rows) }
@@ -72,13 +75,13 @@ fn put_grid(e: Extent, c: Counts, index: &mut [u32])
 }
 
 // Enters the occupied stations' boxes in the cells of the list's grid, if its corner is finite; else none.
-fn fill(placed: &Placed<'_>, index: &mut [u32])
-    requires k_in_bounds { (placed.now.k ≤ 4096) × (5 * placed.now.k ≤ length index.old) }
-    requires bound { (1 ≤ get_or index.old 5 0) × (1 ≤ get_or index.old 6 0) × (8 + get_or index.old 5 0 * get_or index.old 6 0 ≤ 4 * placed.now.k) }
-    requires all { All (λ s. finite_box (box_in (boxes_in placed.now.k placed.now.frames.now) s) ≡ true) (occupied (counts_in placed.now.k placed.now.stations.now)) }
-    ensures { Indexed (boxes_in placed.now.k placed.now.frames.now) (occupied (counts_in placed.now.k placed.now.stations.now)) index.new }
+fn fill(few: &FewPlaced<'_>, index: &mut [u32])
+    requires k_in_bounds { 5 * few.now.placed.k ≤ length index.old }
+    requires bound { (1 ≤ get_or index.old 5 0) × (1 ≤ get_or index.old 6 0) × (8 + get_or index.old 5 0 * get_or index.old 6 0 ≤ 4 * few.now.placed.k) }
+    requires all { All (λ s. finite_box (box_in (boxes_in few.now.placed.k few.now.placed.frames.now) s) ≡ true) (occupied (counts_in few.now.placed.k few.now.placed.stations.now)) }
+    ensures { Indexed (boxes_in few.now.placed.k few.now.placed.frames.now) (occupied (counts_in few.now.placed.k few.now.placed.stations.now)) index.new }
 {
-    let g = grid_of(placed.k, placed.frames, index);
+    let g = grid_of(few.placed.k, few.placed.frames, index);
     if !is_finite(g.left) {
         index[0] = 0;
         return;
@@ -88,17 +91,18 @@ fn fill(placed: &Placed<'_>, index: &mut [u32])
         return;
     }
     clear_chains(g, index);
-    enter(g, placed, index);
+    enter(g, few, index);
     index[0] = 1;
 }
 
 // Enters the occupied stations' boxes, if there is room for cells; else none.
-fn grow(placed: &Placed<'_>, index: &mut [u32])
-    requires k_in_bounds { (placed.now.k ≤ 4096) × (0 < length index.old) × (5 * placed.now.k ≤ length index.old) }
-    requires all { All (λ s. finite_box (box_in (boxes_in placed.now.k placed.now.frames.now) s) ≡ true) (occupied (counts_in placed.now.k placed.now.stations.now)) }
-    ensures { Indexed (boxes_in placed.now.k placed.now.frames.now) (occupied (counts_in placed.now.k placed.now.stations.now)) index.new }
+fn grow(few: &FewPlaced<'_>, index: &mut [u32])
+    requires k_in_bounds { (0 < length index.old) × (5 * few.now.placed.k ≤ length index.old) }
+    requires all { All (λ s. finite_box (box_in (boxes_in few.now.placed.k few.now.placed.frames.now) s) ≡ true) (occupied (counts_in few.now.placed.k few.now.placed.stations.now)) }
+    ensures { Indexed (boxes_in few.now.placed.k few.now.placed.frames.now) (occupied (counts_in few.now.placed.k few.now.placed.stations.now)) index.new }
 {
-    let e = extent_of(placed);
+    let placed = &few.placed;
+    let e = extent_of(few);
     let most = 2 * e.count;
     if most == 0 {
         index[0] = 0;
@@ -110,21 +114,21 @@ fn grow(placed: &Placed<'_>, index: &mut [u32])
     }
     let c = counts_for(placed, e, most);
     put_grid(e, c, index);
-    fill(placed, index);
+    fill(few, index);
 }
 
 // Enters the occupied stations' boxes where `wanted`, if the list has room and all sides are finite; else none.
-pub fn index_boxes(wanted: bool, placed: &Placed<'_>, index: &mut [u32])
-    requires { placed.now.k ≤ 4096 }
-    ensures { Indexed (boxes_in placed.now.k placed.now.frames.now) (occupied (counts_in placed.now.k placed.now.stations.now)) index.new }
+// `wanted` is handed on: where lines aren't led, the list must say too that no box is entered, and this file alone writes that.
+pub fn index_boxes(wanted: bool, few: &FewPlaced<'_>, index: &mut [u32])
+    ensures { Indexed (boxes_in few.now.placed.k few.now.placed.frames.now) (occupied (counts_in few.now.placed.k few.now.placed.stations.now)) index.new }
 {
     if index.len() == 0 {
         return;
     }
     if wanted {
-        if 5 * placed.k <= index.len() {
-            if all_finite(placed) {
-                grow(placed, index);
+        if 5 * few.placed.k <= index.len() {
+            if all_finite(&few.placed) {
+                grow(few, index);
                 return;
             }
         }

@@ -4,7 +4,7 @@ ghost use Rattle.std.specs.Prelude.{◌+◌, ◌*◌, ◌≤◌};
 use first_box::box_in;
 use float::small::max;
 use grid::cell;
-use network::lists::Placed;
+use network::lists::{FewPlaced, Placed};
 
 // The stations whose left-top corners lie farthest to each side, the sums of the boxes' sides, and how many there are.
 #[derive(Clone, Copy)]
@@ -30,6 +30,7 @@ fn lesser(before: usize, x: f64, y: f64, r: usize, s: usize) -> usize
 }
 
 // The extent with station s.
+// This and `counts_for` read no bus counts. `box_in` asks for four numbers of each station: a `Placed` says so, while k and `frames` alone would need a clause in each.
 fn extended(placed: &Placed<'_>, e: Extent, s: usize) -> Extent
     requires { (s ≤ 4095) × (e.left ≤ 4096) × (e.right ≤ 4096) × (e.top ≤ 4096) × (e.bottom ≤ 4096) × (e.count ≤ s) }
     ensures { (result.left ≤ 4096) × (result.right ≤ 4096) × (result.top ≤ 4096) × (result.bottom ≤ 4096) × (result.count ≤ s + 1) }
@@ -51,11 +52,10 @@ fn extended(placed: &Placed<'_>, e: Extent, s: usize) -> Extent
 }
 
 // The extent of the occupied stations' boxes.
-// `sized` and `results` don't ask for at most 4,096 stations: a ghost field of `Placed` would ask more of them.
-pub(crate) fn extent_of(placed: &Placed<'_>) -> Extent
-    requires { placed.now.k ≤ 4096 }
-    ensures { (result.left ≤ 4096) × (result.right ≤ 4096) × (result.top ≤ 4096) × (result.bottom ≤ 4096) × (result.count ≤ placed.now.k) }
+pub(crate) fn extent_of(few: &FewPlaced<'_>) -> Extent
+    ensures { (result.left ≤ 4096) × (result.right ≤ 4096) × (result.top ≤ 4096) × (result.bottom ≤ 4096) × (result.count ≤ few.now.placed.k) }
 {
+    let placed = &few.placed;
     let mut e = Extent {
         left: 0,
         right: 0,
@@ -66,7 +66,7 @@ pub(crate) fn extent_of(placed: &Placed<'_>) -> Extent
         count: 0,
     };
     for s in 0..placed.k {
-        if 0 < placed.stations[2 * s] {
+        if placed.is_occupied(s) {
             e = extended(placed, e, s);
         }
     }

@@ -25,7 +25,7 @@ pub(crate) fn all_finite(placed: &Placed<'_>) -> bool
     ensures { result ≡ true → All (λ s. finite_box (box_in (boxes_in placed.now.k placed.now.frames.now) s) ≡ true) (occupied (counts_in placed.now.k placed.now.stations.now)) }
 {
     for s in 0..placed.k {
-        if 0 < placed.stations[2 * s] {
+        if placed.is_occupied(s) {
             if !finite_box(box_in(placed.k, placed.frames, s)) {
                 return false;
             }

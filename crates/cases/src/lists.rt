@@ -1,22 +1,13 @@
 // Calls of functions over lists: channels and their spacing, neighbours, the median.
-ghost use Rattle.std.specs.Prelude.{◌≤◌};
-
 use crate::words::{all_same, floats, same};
 use channel::Channel;
 use channel::ends::channel;
 use geometry::Point;
 use neighbours::points::Points;
-use stored::{float_at, word_at};
+use stored::{float_at, length_at, word_at};
 
 // The most elements of a list.
 const MOST: usize = 12;
-
-// A list's length by word i, at most that.
-fn length_at(w: &[u64], i: usize) -> usize
-    ensures { result ≤ MOST }
-{
-    MOST.min(word_at(w, i) as usize)
-}
 
 pub(crate) fn channel_agrees(w: &[u64]) -> bool {
     let [ux, uy, vx, vy]: [f64; 4] = floats(w, 0);
@@ -36,7 +27,7 @@ pub(crate) fn channel_agrees(w: &[u64]) -> bool {
 
 pub(crate) fn space_agrees(w: &[u64]) -> bool {
     let [lo, hi, gap]: [f64; 3] = floats(w, 0);
-    let n = length_at(w, 3);
+    let n = length_at(w, 3, MOST);
     let mut wish: [f64; MOST] = floats(w, 4);
     let mut keys = [0; MOST];
     let mut order = [0; MOST];
@@ -57,7 +48,7 @@ pub(crate) fn space_agrees(w: &[u64]) -> bool {
 }
 
 pub(crate) fn nearest_agrees(w: &[u64]) -> bool {
-    let n = length_at(w, 0);
+    let n = length_at(w, 0, MOST);
     let points: [f64; 2 * MOST] = floats(w, 1);
     let mut out = [0.0; MOST];
     let mut keys = [0; MOST];
@@ -69,7 +60,7 @@ pub(crate) fn nearest_agrees(w: &[u64]) -> bool {
 }
 
 pub(crate) fn within_agrees(w: &[u64]) -> bool {
-    let n = length_at(w, 0);
+    let n = length_at(w, 0, MOST);
     let points: [f64; 2 * MOST] = floats(w, 2);
     let mut counts = [0; MOST];
     let mut keys = [0; MOST];
@@ -80,7 +71,7 @@ pub(crate) fn within_agrees(w: &[u64]) -> bool {
 }
 
 pub(crate) fn median_agrees(w: &[u64]) -> bool {
-    let n = length_at(w, 0);
+    let n = length_at(w, 0, MOST);
     let values: [f64; MOST] = floats(w, 1);
     let mut keys = [0; MOST];
     let mut order = [0; MOST];

@@ -57,7 +57,7 @@ pub fn channel(u: Point, w: Point, bu: &[f64], bw: &[f64], su: f64, sw: f64, gap
 {
     let ax = w.x - u.x;
     let ay = w.y - u.y;
-    let len = max(hypot(ax, ay), 2.2250738585072014e-308);
+    let len = max(hypot(ax, ay), f64::MIN_POSITIVE);
     let dx = ax / len;
     let dy = ay / len;
     let g = gap * min(su, sw);

@@ -1,14 +1,14 @@
 -- A drawing charted in the work lists: laid out, and its lines routed.
 -- Assumes nothing.
 use Prim.Native.Nat.{ℕ, ◌+◌, ◌*◌, ◌≤◌, ◌<◌, min}
-use mathlib.Core.Path.{◌≡◌, refl, sym, ap, ◌∙◌, subst}
+use mathlib.Core.Path.{◌≡◌, refl, sym, ap, ◌∙◌}
 use mathlib.Core.Bool.{Bool, true, false}
 use mathlib.Core.List.{List, []}
 use native.Mathlib.Omega.{arith}
 use lib.Dec.{ltb}
 use lib.ListN.{length, get_or}
 use lib.Ieee.{Float}
-use Rattle.std.specs.Prelude.{Option, Some, None, Result, Err}
+use Rattle.std.specs.Prelude.{Option, Some, None, Err}
 use Rattle.order.specs.Table.{table}
 use Rattle.order.proofs.Tables.{length_table, get_d_table}
 use Rattle.geometry.specs.declared.Point.{Point}
@@ -36,10 +36,6 @@ use Rattle.drawing.specs.Answer.{routed_by}
 use Rattle.chart.specs.Stages.Laid.{Laid}
 use Rattle.chart.specs.Stages.Charted.{routed_late, Charted}
 use Rattle.chart.proofs.Scenes.{bars_held, scene_by, lines_held, runs_held}
-
-routed_cong : (S S' : Scene) (a a' : List ℕ) (b b' : List Float) (c c' : Float) (d d' e e' : List ℕ)
-    → S ≡ S' → a ≡ a' → b ≡ b' → c ≡ c' → d ≡ d' → e ≡ e' → routed_scene S a b c d e ≡ routed_scene S' a' b' c' d' e'
-routed_cong S S' a a' b b' c c' d d' e e' p q r s t u = cc
 
 led_cong : (S S' : Scene) (l : Bool) (a a' : List ℕ) (b b' : Float) (w w' : List (List Point))
     → S ≡ S' → a ≡ a' → b ≡ b' → w ≡ w' → led_scene S l a b w ≡ led_scene S' l a' b' w'
@@ -156,9 +152,3 @@ module _ (o : Options) (N : Network) (k : ℕ) (unit : Float) (stations buses en
         runs = λ z. absurd (some_none (routed ∙ z));
         fits = λ z. absurd (some_none (routed ∙ z));
       }
-
--- the same with an equal room for crossings
-pub charted_at : (o : Options) (N : Network) (k x y : ℕ) (c : Result Float Refusal) (stations buses ends : List ℕ) (blocks places frames path ways : List Float)
-    → x ≡ y → Charted o N k x c stations buses ends blocks places frames path ways → Charted o N k y c stations buses ends blocks places frames path ways
-charted_at o N k x y c stations buses ends blocks places frames path ways e C =
-    subst (λ (z : ℕ). Charted o N k z c stations buses ends blocks places frames path ways) e C

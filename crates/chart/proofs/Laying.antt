@@ -6,6 +6,7 @@ use mathlib.Core.Path.{◌≡◌, sym, ap, ◌∙◌, subst}
 use mathlib.Core.List.{List, map}
 use lib.ListN.{length}
 use lib.Ieee.{Float}
+use mir.ValLaws.{to_z-of_z}
 use Rattle.order.proofs.Tables.{table_ext}
 use Rattle.geometry.specs.declared.Point.{Point}
 use Rattle.geometry.specs.Plane.{point_at}
@@ -56,8 +57,8 @@ holds_placed o N k unit buses ends blocks places places₂ frames few same H =
     }
 
 -- a bus's station is below the number of buses
-pub station_few : (sub : List ℕ) (k : ℕ) → k ≡ station_count sub → k ≤ length sub → (i : ℕ) → i < length sub → station_of sub i < length sub
-station_few sub k e few i h = let z = below_of sub k e i h in omega arith
+pub station_few : (sub : List ℕ) (k i : ℕ) → k ≡ station_count sub → k ≤ length sub → i < length sub → station_of sub i < length sub
+station_few sub k i e few h = let z = below_of sub k e i h in omega arith
 
 pub laid_joined : (o : Options) (N : Network) (k : ℕ) (unit : Float) (search : ℕ) (stations₁ stations buses₁ buses ends : List ℕ) (places₁ blocks places places₂ frames : List Float)
     → k ≡ station_count N.station
@@ -82,3 +83,6 @@ laid_joined o N k unit search stations₁ stations buses₁ buses ends places₁
       exits = E;
       counts = T.counts;
     }
+
+-- an option's search as the code reads it
+pub ruleset search_laws = to_z-of_z

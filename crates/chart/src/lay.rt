@@ -7,12 +7,13 @@ ghost use Rattle.chart.specs.Stages.Laid.{Laid};
 
 use exits::write_exits;
 use measures::Measures;
-use network::lists::Bounded;
+use network::lists::{Bounded, Buses};
 use options::{Options, search_of};
 use plan::{interiors, settle};
 use spans::spans;
 
 // The search of these options, 0 where it is below 0.
+#[tactic(auto, using(crate::proofs::Laying::search_laws))]
 fn search_in(o: Options) -> usize
     ensures { result ≡ search_of o.search }
 {
@@ -20,8 +21,9 @@ fn search_in(o: Options) -> usize
 }
 
 // Lays a drawing out: rows, sizes, places and boxes of its stations, and the exits of its lines. Answers the unit.
-// `stations`, `buses`, `ends`, `sorted`, `spare`, `keys`, `places`, `blocks`, `frames` and `path` are written: behind the `&mut` of a struct other lists could be put, so each contract would have to say that it keeps the lists and their lengths.
-// k is what the caller counted. As ghost fields of `Bounded`, `k ≡ station_count sub`, `k ≤ length sub` and `length kv ≡ length sub` would be asked of `survey`, `spans` and `route_lines` too, which need none of them.
+// `stations`, `buses`, `ends`, `sorted`, `spare`, `keys`, `places`, `blocks`, `frames` and `path` are written: behind the `&mut` of a struct other lists could be put, so each contract would have to say of each list that it is the one that was lent.
+// k is what the caller counted. As ghost fields of `Bounded`, `k ≡ station_count sub`, `k ≤ length sub` and `length kv ≡ length sub` would be asked of `survey`, `spans` and `route_lines` too, which need none of them; a struct of `Bounded` and k for the functions that ask them would put one name more before each list of their contracts. `Buses`, which says the last, is made where the buses are read alone.
+#[tactic(auto, using(crate::proofs::Laying::station_few))]
 pub(crate) fn lay(
     o: Options,
     net: &Bounded<'_>,
@@ -50,8 +52,10 @@ pub(crate) fn lay(
     let gaps = o.gaps;
     let measures = Measures { unit, gaps };
     settle(
-        net.lists.sub,
-        net.lists.kv,
+        &Buses {
+            sub: net.lists.sub,
+            kv: net.lists.kv,
+        },
         k,
         measures,
         search,

@@ -8,6 +8,7 @@ ghost use Rattle.network.specs.Views.{counts_in, columns_in};
 ghost use Rattle.columns.specs.Column.{voltage, falling, columns};
 
 use float::key::key_of_bits;
+use network::lists::Buses;
 use ranking::rank_in_stations;
 
 // A key for each bus that falls where its voltage rises.
@@ -16,7 +17,7 @@ fn falling_keys(kv: &[u64], keys: &mut [u64])
     ensures { take (length kv.now) keys.new ≡ table (λ i. falling (voltage kv.now i)) (length kv.now) }
 {
     for (i, &v) in kv.iter().enumerate() {
-        keys[i] = 0xffff_ffff_ffff_ffff - key_of_bits(v);
+        keys[i] = !key_of_bits(v);
     }
 }
 
@@ -32,12 +33,11 @@ fn put_columns(places: &[u32], buses: &mut [u32])
 }
 
 // Each bus's column, beside its bus; the counters of the k stations are used, their bus counts stay. The other lists are lent for the work.
-// `stations`, `buses`, `keys`, `sorted` and `spare` are written: behind one `&mut` a struct of them could hold other lists afterwards, so its contract would have to say of each that it is as long as before.
-// `Bounded` would ask for few branches, and a ghost field of `Network` for as many voltages as buses would ask it of the callers of `kind_of`, `rows` and `write_roles`.
+// `stations`, `buses`, `keys`, `sorted` and `spare` are written: behind one `&mut` a struct of them could hold other lists afterwards, so its contract would have to say of each that it is the one that was lent.
+// `Bounded` would ask for few branches, so the bound of the buses is asked here.
 // k is counted once for all functions, and stands beside `stations`, which is written, so that no `Stations` holds it.
 pub fn columns(
-    sub: &[u32],
-    kv: &[u64],
+    lent: &Buses<'_>,
     k: usize,
     stations: &mut [u32],
     buses: &mut [u32],
@@ -45,12 +45,13 @@ pub fn columns(
     sorted: &mut [u32],
     spare: &mut [u32],
 )
-    requires sub_len_bound { (length sub.now ≤ 4096) × (length kv.now ≡ length sub.now) × (k ≡ station_count sub.now) }
-    requires k_in_bounds { (2 * k ≤ length stations.old) × (3 * length sub.now ≤ length buses.old) × (length sub.now ≤ length keys.old) × (length sub.now ≤ length sorted.old) × (length sub.now ≤ length spare.old) }
-    ensures buses_after { columns_in (length sub.now) buses.new ≡ columns sub.now kv.now }
+    requires sub_len_bound { (length lent.now.sub.now ≤ 4096) × (k ≡ station_count lent.now.sub.now) }
+    requires k_in_bounds { (2 * k ≤ length stations.old) × (3 * length lent.now.sub.now ≤ length buses.old) × (length lent.now.sub.now ≤ length keys.old) × (length lent.now.sub.now ≤ length sorted.old) × (length lent.now.sub.now ≤ length spare.old) }
+    ensures buses_after { columns_in (length lent.now.sub.now) buses.new ≡ columns lent.now.sub.now lent.now.kv.now }
     ensures stations_unchanged { counts_in k stations.new ≡ counts_in k stations.old }
 {
-    falling_keys(kv, keys);
+    let sub = lent.sub;
+    falling_keys(lent.kv, keys);
     rank_in_stations(sub, sub.len(), k, keys, stations, sorted, spare);
     put_columns(&spare[..sub.len()], buses);
 }

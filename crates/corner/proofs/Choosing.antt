@@ -1,17 +1,17 @@
 -- The cheapest of the corners, one after the other. Assumes nothing.
 use mathlib.Core.Path.{◌≡◌, refl, sym, ap, ◌∙◌}
 use mathlib.Core.Bool.{Bool, true, false, cond}
-use mathlib.Core.List.{List, [], ◌∷◌}
-use Prim.Native.Nat.{ℕ, ◌≤◌, ◌<◌}
+use mathlib.Core.List.{List, ◌∷◌}
+use Prim.Native.Nat.{ℕ, ◌+◌, ◌≤◌, ◌<◌}
+use native.Mathlib.Numerals.{add-one}
 use borrow.Author.Tests.{lt-ltb, le-ltb}
 use lib.Dec.{ltb}
-use lib.Ieee.{Float}
-use Rattle.float.specs.Ops.{f½, ◌⊕◌, ◌⊖◌, ◌⊗◌}
+use lib.ListN.{length, get_or, drop, drop_of_length-le}
+use lib.Seq.{drop-cons}
 use Rattle.geometry.specs.declared.Point.{Point}
 use Rattle.geometry.specs.declared.Box.{Box}
-use Rattle.geometry.specs.Plane.{point}
-use Rattle.std.specs.Prelude.{Option, Some, None, unwrap_or}
-use Rattle.corner.specs.Corner.{corners_of, cost_key, clears, clearing, cheaper, cheapest, corner}
+use Rattle.std.specs.Prelude.{Option, Some}
+use Rattle.corner.specs.Corner.{cost_key, clears, clearing, cheaper, cheapest}
 
 -- one more point beside the cheapest so far, d
 module _ (p q c d : Point) (best : Option Point) (a b : ℕ) (e : best ≡ Some d) (f : a ≡ cost_key p q c) (g : b ≡ cost_key p q d) where
@@ -25,12 +25,17 @@ module _ (p q c d : Point) (best : Option Point) (a b : ℕ) (e : best ≡ Some 
   pub cheaper_old : b ≤ a → Some d ≡ cheaper p q best c
   cheaper_old h = ap (λ (t : Bool). cond t (Some c) (Some d)) (sym (le-ltb a b h)) ∙ by
 
--- the cheapest of four points
-pub four : (p q c0 c1 c2 c3 : Point) (e1 e2 e3 : Option Point) (r : Point) → e1 ≡ cheaper p q (Some c0) c1 → e2 ≡ cheaper p q e1 c2 → e3 ≡ cheaper p q e2 c3
-    → r ≡ unwrap_or e3 p → r ≡ unwrap_or (cheapest p q None (c0 ∷ c1 ∷ c2 ∷ c3 ∷ [])) p
-unfolding cheapest cheaper
-four p q c0 c1 c2 c3 e1 e2 e3 r f1 f2 f3 h =
-    h ∙ ap (λ (x : Option Point). unwrap_or x p) (f3 ∙ ap (λ (x : Option Point). cheaper p q x c3) (f2 ∙ ap (λ (x : Option Point). cheaper p q x c2) f1))
+-- the points of a list taken in turn
+pub one_more : (p q : Point) (l : List Point) (i : ℕ) (best x : Option Point) (d : Point) → i < length l → x ≡ cheaper p q best (get_or l i d)
+    → cheapest p q best (drop i l) ≡ cheapest p q x (drop (i + 1) l)
+unfolding cheapest
+one_more p q l i best x d h e =
+    ap (cheapest p q best) (drop-cons l i d h ∙ ap (λ (n : ℕ). get_or l i d ∷ drop n l) (sym (add-one i)))
+    ∙ ap (λ (z : Option Point). cheapest p q z (drop (i + 1) l)) (sym e)
+
+pub all_taken : (p q : Point) (l : List Point) (i : ℕ) (best : Option Point) → length l ≤ i → best ≡ cheapest p q best (drop i l)
+unfolding cheapest
+all_taken p q l i best h = ap (cheapest p q best) (sym (drop_of_length-le l h))
 
 module _ (p q : Point) (b : Box) where
   -- the cheapest so far after one more point, where that clears the box
@@ -45,22 +50,12 @@ module _ (p q : Point) (b : Box) where
       go true = refl
       go false = refl
 
-  four_clear : (c0 c1 c2 c3 : Point) (d0 d1 d2 d3 : Option Point) → d0 ≡ after None c0 → d1 ≡ after d0 c1 → d2 ≡ after d1 c2 → d3 ≡ after d2 c3
-      → d3 ≡ cheapest p q None (clearing p q b (c0 ∷ c1 ∷ c2 ∷ c3 ∷ []))
-  unfolding cheapest clearing
-  four_clear c0 c1 c2 c3 d0 d1 d2 d3 e0 e1 e2 e3 = sym
-      (clear_step None c0 (c1 ∷ c2 ∷ c3 ∷ []) ∙ ap (λ (x : Option Point). cheapest p q x (clearing p q b (c1 ∷ c2 ∷ c3 ∷ []))) (sym e0)
-      ∙ clear_step d0 c1 (c2 ∷ c3 ∷ []) ∙ ap (λ (x : Option Point). cheapest p q x (clearing p q b (c2 ∷ c3 ∷ []))) (sym e1)
-      ∙ clear_step d1 c2 (c3 ∷ []) ∙ ap (λ (x : Option Point). cheapest p q x (clearing p q b (c3 ∷ []))) (sym e2)
-      ∙ clear_step d2 c3 [] ∙ ap (λ (x : Option Point). cheapest p q x (clearing p q b [])) (sym e3))
+  pub clear_more : (l : List Point) (i : ℕ) (best x : Option Point) (d : Point) → i < length l → x ≡ after best (get_or l i d)
+      → cheapest p q best (clearing p q b (drop i l)) ≡ cheapest p q x (clearing p q b (drop (i + 1) l))
+  clear_more l i best x d h e =
+      ap (λ (z : List Point). cheapest p q best (clearing p q b z)) (drop-cons l i d h ∙ ap (λ (n : ℕ). get_or l i d ∷ drop n l) (sym (add-one i)))
+      ∙ clear_step best (get_or l i d) (drop (i + 1) l) ∙ ap (λ (z : Option Point). cheapest p q z (clearing p q b (drop (i + 1) l))) (sym e)
 
-  -- the four corners taken in turn: d3 is the cheapest of those that clear the box
-  module _ (gap : Float) (d0 d1 d2 d3 : Option Point) (r : Point)
-      (k0 : d0 ≡ after None (point (b.left ⊖ gap ⊗ f½) (b.top ⊖ gap ⊗ f½)))
-      (k1 : d1 ≡ after d0 (point (b.right ⊕ gap ⊗ f½) (b.top ⊖ gap ⊗ f½)))
-      (k2 : d2 ≡ after d1 (point (b.right ⊕ gap ⊗ f½) (b.bottom ⊕ gap ⊗ f½)))
-      (k3 : d3 ≡ after d2 (point (b.left ⊖ gap ⊗ f½) (b.bottom ⊕ gap ⊗ f½)))
-    where
-      pub corner_by : r ≡ unwrap_or d3 (unwrap_or (cheapest p q None (corners_of b (gap ⊗ f½))) p) → r ≡ corner p q b gap
-      unfolding corner corners_of
-      corner_by h = h ∙ ap (λ (x : Option Point). unwrap_or x (unwrap_or (cheapest p q None (corners_of b (gap ⊗ f½))) p)) (four_clear _ _ _ _ d0 d1 d2 d3 k0 k1 k2 k3)
+  pub all_clear_taken : (l : List Point) (i : ℕ) (best : Option Point) → length l ≤ i → best ≡ cheapest p q best (clearing p q b (drop i l))
+  unfolding cheapest clearing
+  all_clear_taken l i best h = ap (λ (z : List Point). cheapest p q best (clearing p q b z)) (sym (drop_of_length-le l h))

@@ -1,10 +1,10 @@
-// The point by which a piece goes round a box: a corner of it, half a gap off.
+// The point by which a piece goes round a box: a corner of it, half a gap off. A piece is its two ends p and q, for the reason that stands at `geometry::Point`.
 #![tactic(auto)]
 
-ghost use Rattle.std.specs.Prelude.{◌≡◌, cond, [], ◌∷◌, None, unwrap_or};
-ghost use Rattle.corner.specs.Corner.{cost, cost_key, clears, cheaper, cheapest, corner};
+ghost use Rattle.std.specs.Prelude.{◌≡◌, cond, None};
+ghost use Rattle.corner.specs.Corner.{cost, cost_key, clears, clearing, cheaper, cheapest, corners_of, corner};
 
-use float::key::order_key;
+use float::key::order_key_total;
 use geometry::{Box, Point, piece_hits, shrunk};
 use hypot::hypot;
 
@@ -16,14 +16,11 @@ fn cost(p: Point, q: Point, c: Point) -> f64
 }
 
 // Its place in the total order.
+#[tactic(auto, unfolding(crate::specs::Corner::cost_key))]
 fn cost_key(p: Point, q: Point, c: Point) -> u64
     ensures { result ≡ cost_key p q c }
 {
-    let x = cost(p, q, c);
-    if x.is_nan() {
-        return 0xfff8_0000_0000_0000;
-    }
-    order_key(x)
+    order_key_total(cost(p, q, c))
 }
 
 // Whether the two pieces from p over c to q clear the box, shrunk by 1e-9.
@@ -63,40 +60,53 @@ fn cheaper_clear(p: Point, q: Point, b: Box, best: Option<Point>, c: Point) -> O
     best
 }
 
-// The cheapest of four points.
-fn cheapest_of(p: Point, q: Point, c0: Point, c1: Point, c2: Point, c3: Point) -> Point
-    ensures { result ≡ unwrap_or (cheapest p q None (c0 ∷ c1 ∷ c2 ∷ c3 ∷ [])) p }
+// The cheapest of these points.
+fn cheapest(p: Point, q: Point, corners: &[Point]) -> Option<Point>
+    ensures { result ≡ cheapest p q None corners.now }
 {
-    let e1 = cheaper(p, q, Some(c0), c1);
-    let e2 = cheaper(p, q, e1, c2);
-    let e3 = cheaper(p, q, e2, c3);
-    e3.unwrap_or(p)
+    let mut best = None;
+    for &c in corners {
+        best = cheaper(p, q, best, c);
+    }
+    best
+}
+
+// The cheapest of those that clear the box.
+fn cheapest_clear(p: Point, q: Point, b: Box, corners: &[Point]) -> Option<Point>
+    ensures { result ≡ cheapest p q None (clearing p q b corners.now) }
+{
+    let mut best = None;
+    for &c in corners {
+        best = cheaper_clear(p, q, b, best, c);
+    }
+    best
+}
+
+// The four points g off a box's corners.
+#[tactic(auto, unfolding(crate::specs::Corner::corners_of))]
+fn corners_of(b: Box, g: f64) -> [Point; 4]
+    ensures { result ≡ corners_of b g }
+{
+    let left = b.left - g;
+    let top = b.top - g;
+    let right = b.right + g;
+    let bottom = b.bottom + g;
+    [
+        Point { x: left, y: top },
+        Point { x: right, y: top },
+        Point {
+            x: right,
+            y: bottom,
+        },
+        Point { x: left, y: bottom },
+    ]
 }
 
 // The point by which the piece p q goes round box b: the cheapest of the corners that clear it, else of all four.
+#[tactic(auto, unfolding(crate::specs::Corner::corner))]
 pub fn corner(p: Point, q: Point, b: Box, gap: f64) -> Point
     ensures { result ≡ corner p q b gap }
 {
-    let g = gap * 0.5;
-    let c0 = Point {
-        x: b.left - g,
-        y: b.top - g,
-    };
-    let c1 = Point {
-        x: b.right + g,
-        y: b.top - g,
-    };
-    let c2 = Point {
-        x: b.right + g,
-        y: b.bottom + g,
-    };
-    let c3 = Point {
-        x: b.left - g,
-        y: b.bottom + g,
-    };
-    let d0 = cheaper_clear(p, q, b, None, c0);
-    let d1 = cheaper_clear(p, q, b, d0, c1);
-    let d2 = cheaper_clear(p, q, b, d1, c2);
-    let d3 = cheaper_clear(p, q, b, d2, c3);
-    d3.unwrap_or_else(|| cheapest_of(p, q, c0, c1, c2, c3))
+    let corners = corners_of(b, gap * 0.5);
+    cheapest_clear(p, q, b, &corners).unwrap_or_else(|| cheapest(p, q, &corners).unwrap_or(p))
 }

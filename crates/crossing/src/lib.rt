@@ -1,4 +1,4 @@
-// Whether two segments cross, and the place where a line crosses a segment.
+// Whether two segments cross, and the place where a line crosses a segment. A segment is its two ends, for the reason that stands at `geometry::Point`.
 #![tactic(auto)]
 
 ghost use Rattle.std.specs.Prelude.{◌≡◌, true, false};
@@ -31,7 +31,7 @@ fn far_from_parallel(denom: f64, rx: f64, ry: f64, sx: f64, sy: f64) -> bool
 {
     let a = abs(rx) + abs(ry);
     let b = abs(sx) + abs(sy);
-    1e-12 * max(a * b, 2.2250738585072014e-308) <= abs(denom)
+    1e-12 * max(a * b, f64::MIN_POSITIVE) <= abs(denom)
 }
 
 // Whether the directions r and s are parallel, where denom is their cross product.
@@ -40,7 +40,7 @@ fn parallel(denom: f64, r: Point, s: Point) -> bool
     ensures { result ≡ parallel denom r s }
 {
     !far_from_parallel(denom, r.x, r.y, s.x, s.y)
-        && abs(denom) < 1e-12 * max(hypot(r.x, r.y) * hypot(s.x, s.y), 2.2250738585072014e-308)
+        && abs(denom) < 1e-12 * max(hypot(r.x, r.y) * hypot(s.x, s.y), f64::MIN_POSITIVE)
 }
 
 // Where the line through p and q crosses the segment from u to w, between its ends (0 and 1); none where they are parallel.

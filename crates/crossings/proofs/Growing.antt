@@ -161,23 +161,29 @@ module _ (m : ℕ) (corners : List ℕ) (points : List Float) (va vb e : ℕ) (t
           ∙ ap (λ (z : ℕ). cross_all (scene S) va vb e 0 (take i trail ++ (z ∷ [])) r) (sym q) ∙ cross_more (scene S) va vb e 0 h (take i trail) r
           ∙ ap (λ (n : ℕ). cross (scene S) va vb e n h (up_to i (scene S) r)) (zero-add (length (take i trail)))
 
-  -- by the number of crossings, as the loop of `store_trail` has it
-  pub trail_start : (k x : ℕ) (ends numbers : List ℕ) (places : List Float) → Grown m corners points (up_to 0) (stock k x ends numbers places) (stock k (x + 0) ends numbers places)
+  -- k channels then, as the loop of `store_trail` has it: x crossings before
+  unfoldable pub Trailed : ℕ → Stock → ℕ → ℕ → List ℕ → List ℕ → List Float → Type 0
+  Trailed i a x k ends numbers places = Grown m corners points (up_to i) a (stock k (x + i) ends numbers places)
+
+  pub trail_start : (k x : ℕ) (ends numbers : List ℕ) (places : List Float) → Trailed 0 (stock k x ends numbers places) x k ends numbers places
+  unfolding Trailed
   trail_start k x ends numbers places =
       subst (λ (n : ℕ). Grown m corners points (up_to 0) (stock k x ends numbers places) (stock k n ends numbers places)) (sym (add-zero x)) (grown_start (stock k x ends numbers places))
 
-  pub trail_more : (i h x k k' : ℕ) (a : Stock) (ends numbers ends' numbers' : List ℕ) (places places' : List Float) → i < length trail → h ≡ get_or trail i 0
-      → Grown m corners points (up_to i) a (stock k (x + i) ends numbers places)
-      → ((j : ℕ) → Grown m corners points (λ S s. cross S va vb e j h s) (stock k (x + i) ends numbers places) (stock k' (x + i + 1) ends' numbers' places'))
-      → Grown m corners points (up_to (i + 1)) a (stock k' (x + (i + 1)) ends' numbers' places')
-  trail_more i h x k k' a ends numbers ends' numbers' places places' l q p f =
+  pub trail_more : (i x k k' : ℕ) (a : Stock) (ends numbers ends' numbers' : List ℕ) (places places' : List Float) → i < length trail → Trailed i a x k ends numbers places
+      → ((j : ℕ) → Grown m corners points (λ S s. cross S va vb e j (get_or trail i 0) s) (stock k (x + i) ends numbers places) (stock k' (x + i + 1) ends' numbers' places'))
+      → Trailed (i + 1) a x k' ends' numbers' places'
+  unfolding Trailed
+  trail_more i x k k' a ends numbers ends' numbers' places places' l p f =
       let z : x + i + 1 ≡ x + (i + 1) = omega arith in
       subst (λ (n : ℕ). Grown m corners points (up_to (i + 1)) a (stock k' n ends' numbers' places')) z
-      (grown_more i h a (stock k (x + i) ends numbers places) (stock k' (x + i + 1) ends' numbers' places') l q p f)
+      (grown_more i (get_or trail i 0) a (stock k (x + i) ends numbers places) (stock k' (x + i + 1) ends' numbers' places') l refl p f)
 
-  pub trail_end : (i x k : ℕ) (a : Stock) (ends numbers : List ℕ) (places : List Float) → i ≡ length trail
-      → Grown m corners points (up_to i) a (stock k (x + i) ends numbers places)
+  pub trail_end : (i x k : ℕ) (a : Stock) (ends numbers : List ℕ) (places : List Float) → i ≡ length trail → Trailed i a x k ends numbers places
       → Grown m corners points (λ S r. cross_all S va vb e 0 trail r) a (stock k (x + length trail) ends numbers places)
+  unfolding Trailed
   trail_end i x k a ends numbers places q p =
       subst (λ (t : List ℕ). Grown m corners points (λ S r. cross_all S va vb e 0 t r) a (stock k (x + length trail) ends numbers places)) (take_all (length trail) trail (omega arith))
       (subst (λ (j : ℕ). Grown m corners points (up_to j) a (stock k (x + j) ends numbers places)) q p)
+
+pub ruleset trailed = (trail_start, trail_more)

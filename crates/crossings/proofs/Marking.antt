@@ -32,60 +32,58 @@ module _ (corners : List ℕ) (m v w mark : ℕ) where
   whole l = stamp m mark (edges_from corners v w) l
 
   -- the loop has come to place p
-  pub record Marking (before now : List ℕ) (p : ℕ) : Type 0 where
-    pub past : first_at corners v ≤ p
-    pub same : whole before ≡ stamp m mark (rest p) now
+  unfoldable pub Marking : List ℕ → List ℕ → ℕ → Type 0
+  Marking before now p = (first_at corners v ≤ p) × (whole before ≡ stamp m mark (rest p) now)
 
   pub mark_start : (l : List ℕ) (p : ℕ) → p ≡ first_at corners v → Marking l l p
-  unfolding edges_from
+  unfolding Marking edges_from
   mark_start l p e =
-      record {
-        past = omega arith;
-        same = ap (λ (hs : List ℕ). stamp m mark (keep ends_there hs) l) (around_first corners v) ∙ ap (λ (n : ℕ). stamp m mark (rest n) l) (sym e);
-      }
+      (omega arith, ap (λ (hs : List ℕ). stamp m mark (keep ends_there hs) l) (around_first corners v) ∙ ap (λ (n : ℕ). stamp m mark (rest n) l) (sym e))
 
   module _ (before now : List ℕ) (p : ℕ) (s : Marking before now p) where
     mark_none : keep (own corners v) (drop p (round_of corners)) ≡ [] → now ≡ whole before
-    unfolding stamp
-    mark_none e = sym (s.same ∙ ap (λ (hs : List ℕ). stamp m mark (keep ends_there hs) now) e ∙ ap (λ (hs : List ℕ). stamp m mark hs now) (keep_nil ends_there))
+    unfolding Marking stamp
+    mark_none e = sym (s.1 ∙ ap (λ (hs : List ℕ). stamp m mark (keep ends_there hs) now) e ∙ ap (λ (hs : List ℕ). stamp m mark hs now) (keep_nil ends_there))
 
     pub mark_end : length corners ≤ p → now ≡ whole before
     mark_end l = mark_none (round_out corners v p l)
 
-    -- by what the code read at place p of a list that begins with the half-edges by corner: h, and its corner k
-    module _ (l : List ℕ) (e : take (length corners) l ≡ round_of corners) (h k : ℕ) (inside : p < length corners) (q : h ≡ get_or l p 0) (r : k ≡ at corners h) where
+    -- the half-edge at place p of a list that begins with the half-edges by corner
+    module _ (l : List ℕ) (e : take (length corners) l ≡ round_of corners) (inside : p < length corners) where
+      abbrev h : ℕ
+      h = get_or l p 0
+
       here : h ≡ get_or (round_of corners) p 0
-      here = q ∙ round_read corners l e p inside
+      here = round_read corners l e p inside
 
-      pub mark_other : (k ≡ v → ⊥) → now ≡ whole before
-      mark_other n = mark_none (around_over corners v p inside s.past (λ c. n (r ∙ ap (at corners) here ∙ c)))
+      pub mark_other : (at corners h ≡ v → ⊥) → now ≡ whole before
+      unfolding Marking
+      mark_other n = mark_none (around_over corners v p inside s.0 (λ c. n (ap (at corners) here ∙ c)))
 
-      -- and the corner g where it ends
-      module _ (t : k ≡ v) (g : ℕ) (u : g ≡ end_at corners h) where
+      module _ (t : at corners h ≡ v) where
         one_more : keep (own corners v) (drop p (round_of corners)) ≡ h ∷ keep (own corners v) (drop (suc p) (round_of corners))
         one_more =
             ap (keep (own corners v)) (drop-cons (round_of corners) p 0 (omega (arith, length_round corners)) ∙ ap (λ (x : ℕ). x ∷ drop (suc p) (round_of corners)) (sym here))
-            ∙ keep_yes (own corners v) h (drop (suc p) (round_of corners)) (eq-eqb (at corners h) v (sym r ∙ t))
+            ∙ keep_yes (own corners v) h (drop (suc p) (round_of corners)) (eq-eqb (at corners h) v t)
 
-        pub mark_yes : (behind : List ℕ) → behind ≡ set now (4 * (m + h) + 1) mark → g ≡ w → Marking before behind (p + 1)
-        unfolding stamp
-        mark_yes behind b z =
-            record {
-              past = omega (arith, s.past);
-              same =
-                  s.same
-                  ∙ ap (λ (hs : List ℕ). stamp m mark hs now)
-                  (ap (keep ends_there) one_more ∙ keep_yes ends_there h (keep (own corners v) (drop (suc p) (round_of corners))) (eq-eqb (end_at corners h) w (sym u ∙ z)))
-                  ∙ ap (λ (x : List ℕ). stamp m mark (rest (suc p)) x) (sym b) ∙ ap (λ (n : ℕ). stamp m mark (rest n) behind) (sym (add-one p));
-            }
+        pub mark_yes : end_at corners h ≡ w → Marking before (set now (4 * (m + h) + 1) mark) (p + 1)
+        unfolding Marking stamp
+        mark_yes z = (
+          omega (arith, s.0),
+          s.1
+              ∙ ap (λ (hs : List ℕ). stamp m mark hs now)
+              (ap (keep ends_there) one_more ∙ keep_yes ends_there h (keep (own corners v) (drop (suc p) (round_of corners))) (eq-eqb (end_at corners h) w z))
+              ∙ ap (λ (n : ℕ). stamp m mark (rest n) (set now (4 * (m + h) + 1) mark)) (sym (add-one p)),
+        )
 
-        pub mark_no : (g ≡ w → ⊥) → Marking before now (p + 1)
-        mark_no n =
-            record {
-              past = omega (arith, s.past);
-              same =
-                  s.same
-                  ∙ ap (λ (hs : List ℕ). stamp m mark hs now)
-                  (ap (keep ends_there) one_more ∙ keep_no ends_there h (keep (own corners v) (drop (suc p) (round_of corners))) (ne_eqb (end_at corners h) w (λ z. n (u ∙ z))))
-                  ∙ ap (λ (n : ℕ). stamp m mark (rest n) now) (sym (add-one p));
-            }
+        pub mark_no : (end_at corners h ≡ w → ⊥) → Marking before now (p + 1)
+        unfolding Marking
+        mark_no n = (
+          omega (arith, s.0),
+          s.1
+              ∙ ap (λ (hs : List ℕ). stamp m mark hs now)
+              (ap (keep ends_there) one_more ∙ keep_no ends_there h (keep (own corners v) (drop (suc p) (round_of corners))) (ne_eqb (end_at corners h) w n))
+              ∙ ap (λ (n : ℕ). stamp m mark (rest n) now) (sym (add-one p)),
+        )
+
+pub ruleset marking = (mark_start, mark_end, mark_other, mark_yes, mark_no)

@@ -8,7 +8,7 @@ use native.Mathlib.Omega.{arith}
 use native.Mathlib.Nat.{add-zero, le_of_suc-le-suc}
 use native.Mathlib.Numerals.{add-one}
 use lib.Dec.{ltb}
-use lib.ListN.{length, get_or, set, length-set}
+use lib.ListN.{length, get_or, set}
 use borrow.Author.Tests.{eq-eqb, ne_eqb, ltb-true}
 use Rattle.order.specs.Order.{up_from}
 use Rattle.order.specs.Table.{which}
@@ -62,14 +62,12 @@ module _ (c : ℕ) (stations : List ℕ) (s : ℕ) where
   station_at j = get_or stations (2 * j + 1) 0
 
   -- lower stations stand before lo, others from hi on
-  pub record Halving (lo hi : ℕ) : Type 0 where
-    pub between : lo ≤ hi
-    pub within : hi ≤ c
-    pub below : (j : ℕ) → j < lo → station_at j < s
-    pub above : (j : ℕ) → hi ≤ j → j < c → s ≤ station_at j
+  unfoldable pub Halving : ℕ → ℕ → Type 0
+  Halving lo hi = (hi ≤ c) × ((j : ℕ) → j < lo → station_at j < s) × ((j : ℕ) → hi ≤ j → j < c → s ≤ station_at j)
 
   pub halve_start : Halving 0 c
-  halve_start = record { between = zero-le; within = omega arith; below = λ j h. absurd (omega arith); above = λ j h l. absurd (omega arith) }
+  unfolding Halving
+  halve_start = (omega arith, λ j h. absurd (omega arith), λ j h l. absurd (omega arith))
 
   module _ (r : Rising (order_in c stations)) where
     rises : (i j : ℕ) → i ≤ j → j < c → station_at i ≤ station_at j
@@ -77,33 +75,24 @@ module _ (c : ℕ) (stations : List ℕ) (s : ℕ) where
         let z = r.each i j h (subst (λ (n : ℕ). j < n) (sym (length_strided 2 1 0 c stations)) l) in
         omega (arith, z, get_d_strided 2 1 0 c i stations 0 (omega arith), get_d_strided 2 1 0 c j stations 0 l)
 
-    module _ (lo hi mid x : ℕ) (g : lo ≤ mid) (h : mid < hi) (q : x ≡ station_at mid) (v : Halving lo hi) where
-      pub halve_right : x < s → Halving (mid + 1) hi
-      halve_right z =
-          record {
-            between = omega arith;
-            within = v.within;
-            below = λ j l. omega (arith, rises j mid (omega arith) (omega (arith, v.within)));
-            above = v.above;
-          }
+    module _ (lo hi mid : ℕ) (g : lo ≤ mid) (h : mid < hi) (v : Halving lo hi) where
+      pub halve_right : station_at mid < s → Halving (mid + 1) hi
+      unfolding Halving
+      halve_right z = (v.0, λ j l. omega (arith, rises j mid (omega arith) (omega (arith, v.0))), v.2)
 
-      pub halve_left : s ≤ x → Halving lo mid
-      halve_left z =
-          record {
-            between = g;
-            within = omega (arith, v.within);
-            below = v.below;
-            above = λ j l k. omega (arith, rises mid j l k);
-          }
+      pub halve_left : s ≤ station_at mid → Halving lo mid
+      unfolding Halving
+      halve_left z = (omega (arith, v.0), v.1, λ j l k. omega (arith, rises mid j l k))
 
     module _ (lo hi : ℕ) (e : hi ≤ lo) (v : Halving lo hi) where
       read : (j : ℕ) → j < c → get_or (order_in c stations) j 0 ≡ station_at j
       read j l = get_d_strided 2 1 0 c j stations 0 l
 
-      pub halve_found : (x : ℕ) → lo < c → x ≡ station_at lo → x ≡ s → lo ≡ vertex_of s (order_in c stations)
-      halve_found x l q z =
+      pub halve_found : lo < c → station_at lo ≡ s → lo ≡ vertex_of s (order_in c stations)
+      unfolding Halving
+      halve_found l z =
           sym (place_is s (order_in c stations) lo (subst (λ (n : ℕ). lo < n) (sym (length_strided 2 1 0 c stations)) l)
-          (λ j k w. omega (arith, v.below j k, read j (omega arith))) (read lo l ∙ sym q ∙ z))
+          (λ j k w. omega (arith, v.1 j k, read j (omega arith))) (read lo l ∙ z))
 
       none : ((j : ℕ) → j < c → station_at j ≡ s → ⊥) → c ≡ vertex_of s (order_in c stations)
       none f =
@@ -111,35 +100,39 @@ module _ (c : ℕ) (stations : List ℕ) (s : ℕ) where
           ∙ length_strided 2 1 0 c stations)
 
       pub halve_past : c ≤ lo → c ≡ vertex_of s (order_in c stations)
-      halve_past l = none (λ j k w. omega (arith, v.below j (omega arith)))
+      unfolding Halving
+      halve_past l = none (λ j k w. omega (arith, v.1 j (omega arith)))
 
-      pub halve_missed : (x : ℕ) → lo < c → x ≡ station_at lo → (x ≡ s → ⊥) → c ≡ vertex_of s (order_in c stations)
-      halve_missed x l q n =
+      pub halve_missed : lo < c → (station_at lo ≡ s → ⊥) → c ≡ vertex_of s (order_in c stations)
+      unfolding Halving
+      halve_missed l n =
           none
           (λ j k w.
           ⊎_elim
-          (λ (t : lo ≤ j). n (omega (arith, rises lo j t k, v.above lo (omega arith) l)))
-          (λ (t : j < lo). omega (arith, v.below j t))
+          (λ (t : lo ≤ j). n (omega (arith, rises lo j t k, v.2 lo (omega arith) l)))
+          (λ (t : j < lo). omega (arith, v.1 j t))
           (le_or_lt lo j))
+
+pub ruleset halving = (halve_start, halve_right, halve_left, halve_found, halve_past, halve_missed)
 
 -- ---- the occupied stations written
 
 module _ (k : ℕ) (first : List ℕ) where
   -- those of the first s stations, r of them, are written
-  pub record Noted (s : ℕ) (now : List ℕ) (r : ℕ) : Type 0 where
-    pub upto : s ≤ k
+  pub record Written (s : ℕ) (now : List ℕ) (r : ℕ) : Type 0 where
     pub few : r ≤ s
-    pub long : length now ≡ length first
     pub counts : (j : ℕ) → get_or now (2 * j) 0 ≡ get_or first (2 * j) 0
     pub order : order_in r now ≡ passed k first s
     pub many : r ≡ passed_count k first s
 
+  unfoldable pub Noted : ℕ → List ℕ → ℕ → Type 0
+  Noted s now r = Written s now r
+
   pub note_start : Noted 0 first 0
+  unfolding Noted
   note_start =
       record {
-        upto = zero-le;
         few = zero-le;
-        long = refl;
         counts = λ j. refl;
         order = strided_zero 2 1 0 first ∙ sym (which_zero (is_occupied (counts_in k first)));
         many = sym (how_many_zero (is_occupied (counts_in k first)));
@@ -147,13 +140,12 @@ module _ (k : ℕ) (first : List ℕ) where
 
   module _ (s : ℕ) (now : List ℕ) (r : ℕ) (h : s < k) (v : Noted s now r) where
     pub note_yes : 2 * k ≤ length now → 0 < get_or now (2 * s) 0 → Noted (s + 1) (set now (2 * r + 1) s) (r + 1)
+    unfolding Noted
     note_yes l g =
         let q : 0 < get_or first (2 * s) 0 = omega (arith, v.counts s) in
         let i : 2 * r + 1 < length now = omega (arith, v.few) in
         record {
-          upto = omega arith;
           few = omega (arith, v.few);
-          long = length-set now (2 * r + 1) s ∙ v.long;
           counts = λ j. beside j ∙ v.counts j;
           order =
               ap (λ (n : ℕ). order_in n (set now (2 * r + 1) s)) (add-one r)
@@ -167,26 +159,23 @@ module _ (k : ℕ) (first : List ℕ) where
             (read_other 2 r j 0 1 now s 0 (omega arith) (omega arith) (λ e z. omega arith))
 
     pub note_no : get_or now (2 * s) 0 ≤ 0 → Noted (s + 1) now r
+    unfolding Noted
     note_no g =
         let q : get_or first (2 * s) 0 ≤ 0 = omega (arith, v.counts s) in
         record {
-          upto = omega arith;
           few = omega (arith, v.few);
-          long = v.long;
           counts = v.counts;
           order = v.order ∙ passed_no k first s h q;
           many = count_no k first s h r q v.many;
         }
 
-  module _ (s : ℕ) (now : List ℕ) (r : ℕ) (e : s ≡ k) (v : Noted s now r) where
+  module _ (now : List ℕ) (r : ℕ) (v : Noted k now r) where
     pub note_counts : counts_in k now ≡ counts_in k first
+    unfolding Noted
     note_counts = strided_ext 2 0 0 k now first (λ j l. subst (λ (n : ℕ). get_or now n 0 ≡ get_or first n 0) (sym (add-zero (2 * j))) (v.counts j))
 
     pub note_order : order_in (length (occupied (counts_in k first))) now ≡ occupied (counts_in k first)
-    note_order =
-        ap (λ (n : ℕ). order_in n now) (sym (count_all k first) ∙ ap (passed_count k first) (sym e) ∙ sym v.many)
-        ∙ v.order ∙ ap (passed k first) e ∙ passed_all k first
+    unfolding Noted
+    note_order = ap (λ (n : ℕ). order_in n now) (sym (count_all k first) ∙ sym v.many) ∙ v.order ∙ passed_all k first
 
--- what `occupied_corners` writes rises
-pub order_rises : (c : ℕ) (stations counts : List ℕ) → order_in c stations ≡ occupied counts → Rising (order_in c stations)
-order_rises c stations counts e = subst Rising (sym e) (occupied_rises counts)
+pub ruleset noted = (note_start, note_yes, note_no, note_counts, note_order)

@@ -1,34 +1,15 @@
 -- What one store or one call leaves, over plain lists: a channel's number and marks, the ways of branches, a branch's path. Assumes nothing.
-use mathlib.Core.Path.{◌≡◌, refl, sym, ap, ◌∙◌, subst}
+use mathlib.Core.Path.{◌≡◌, refl, ap, ◌∙◌}
 use mathlib.Core.Logic.{⊎_elim}
 use mathlib.Core.List.{List}
-use Prim.Native.Nat.{ℕ, zero, suc, ◌+◌, ◌*◌, ◌-◌, ◌≤◌, ◌<◌}
+use Prim.Native.Nat.{ℕ, ◌+◌, ◌*◌, ◌-◌, ◌≤◌, ◌<◌}
 use native.Mathlib.Omega.{arith}
-use native.Mathlib.Numerals.{add-one}
-use lib.IntN.{ℤ}
 use lib.ListN.{length, get_or, set, length-set}
 use lib.Seq.{get_or-set_same}
 use Rattle.order.proofs.Merging.{le_or_lt}
 use Rattle.order.proofs.Strides.{read_other, strided_other}
-use Rattle.mesh.specs.Mesh.{at, end_at}
-use Rattle.network.specs.declared.words.Kind.{Kind}
-use Rattle.network.specs.declared.words.Kind.TheVariants.{Undrawn, Open, Internal}
-use Rattle.network.specs.Words.{kind_of}
-use Rattle.crossings.specs.Stages.Store.{edges_from, stamp, with_marks, number_for, marks_for, way, way_for, way_of, SameRows, Wayed}
+use Rattle.crossings.specs.Stages.Store.{SameRows, Wayed}
 use Rattle.crossings.specs.declared.ways.Way.{Way}
-
--- ---- channels
-
-module _ (corners : List ℕ) (m h k : ℕ) where
-  pub channel_new : (x y : ℕ) (l behind : List ℕ) → x ≡ y → x ≡ 0 → behind ≡ with_marks corners m h k l → (k ≡ number_for k y) × (behind ≡ marks_for corners m h k y l)
-  unfolding number_for marks_for
-  channel_new x zero l behind e z b = (refl, b)
-  channel_new x (suc c) l behind e z b = absurd (omega arith)
-
-  pub channel_old : (x y : ℕ) (l : List ℕ) → x ≡ y → (x ≡ 0 → ⊥) → (x - 1 ≡ number_for k y) × (l ≡ marks_for corners m h k y l)
-  unfolding number_for marks_for
-  channel_old x zero l e n = absurd (n e)
-  channel_old x (suc c) l e n = (omega arith, refl)
 
 -- ---- ways
 
@@ -64,9 +45,6 @@ pub rows_same : (m : ℕ) (a : List ℕ) → SameRows m a a
 rows_same m a = record { from = refl; to = refl }
 
 module _ (ways : ℕ → Way) (m : ℕ) (before : List ℕ) where
-  pub ways_start : Wayed ways m 0 before before
-  ways_start = record { rows = rows_same m before; starts = λ j h. absurd (omega arith); ends = λ j h. absurd (omega arith) }
-
   pub ways_more : (n : ℕ) (now : List ℕ) (w : Way) → 4 * n + 3 < length now → w ≡ ways n → Wayed ways m n before now
       → Wayed ways m (n + 1) before (put_pair now n w.start w.end)
   ways_more n now w l q v =
@@ -75,6 +53,3 @@ module _ (ways : ℕ → Way) (m : ℕ) (before : List ℕ) where
         starts = λ j h. ⊎_elim (λ (g : n ≤ j). let z : j ≡ n = omega arith in rw z (pair_first now n w.start w.end l ∙ ap (λ (x : Way). x.start) q)) (λ (g : j < n). pair_other now n w.start w.end j 2 (omega arith) (λ z. omega arith) ∙ v.starts j g) (le_or_lt n j);
         ends = λ j h. ⊎_elim (λ (g : n ≤ j). let z : j ≡ n = omega arith in rw z (pair_second now n w.start w.end l ∙ ap (λ (x : Way). x.end) q)) (λ (g : j < n). pair_other now n w.start w.end j 3 (omega arith) (λ z. omega arith) ∙ v.ends j g) (le_or_lt n j);
       }
-
-  pub ways_end : (n : ℕ) (now : List ℕ) → n ≡ m → Wayed ways m n before now → Wayed ways m m before now
-  ways_end n now e v = subst (λ (k : ℕ). Wayed ways m k before now) e v

@@ -6,7 +6,7 @@ use half_edges::{Turned, first_at};
 use mesh::end_at;
 use order::at;
 
-// Stores a number at i, nothing past the end.
+// Stores a number at i, nothing past the end. (`replay` `put` does so for lists of any type: neither crate names the other.)
 fn put(list: &mut [u32], i: usize, v: u32)
     ensures { list.new ≡ set list.old i v }
 {
@@ -16,6 +16,7 @@ fn put(list: &mut [u32], i: usize, v: u32)
 }
 
 // Marks the half-edges that run from corner v to corner w, among those that start at v.
+#[tactic(auto, using(crate::proofs::Marking::marking))]
 fn mark_from(turned: &Turned<'_>, m: u32, v: usize, w: usize, mark: u32, ends: &mut [u32])
     ensures { ends.new ≡ stamp m mark (edges_from turned.now.mesh.corners.now v w) ends.old }
 {
@@ -47,6 +48,7 @@ fn make_channel(turned: &Turned<'_>, m: u32, h: u32, k: usize, ends: &mut [u32])
 
 // The number of half-edge h's channel, of k channels; a new one is made with number k.
 // k, how many channels there are, must leave a number for none: a type of its own would say no more.
+#[tactic(auto, unfolding(crate::specs::Stages::Store::number_for, crate::specs::Stages::Store::marks_for))]
 pub fn channel_for(turned: &Turned<'_>, m: u32, h: u32, k: usize, ends: &mut [u32]) -> usize
     requires { k < 0xffff_ffff }
     ensures value { result ≡ number_for k (get_or ends.old (4 * (m + h) + 1) 0) }
@@ -61,7 +63,7 @@ pub fn channel_for(turned: &Turned<'_>, m: u32, h: u32, k: usize, ends: &mut [u3
     mark - 1
 }
 
-// How many channels there are when channel c has been crossed, k before.
+// How many channels there are when channel c has been crossed, k before. A new channel has the number k, so c alone tells whether one was made: a pair or an Option would say it twice.
 #[tactic(auto, unfolding(crate::specs::Stages::Store::count_with))]
 pub fn count_with(k: usize, c: usize) -> usize
     requires { k < 0xffff_ffff }

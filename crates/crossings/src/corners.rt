@@ -18,7 +18,8 @@ pub struct Vertices<'a> {
     pub ghost rising: { Rising (order_in c stations.now) },
 }
 
-// Writes the occupied stations, in order, as the second of two numbers each. The bounds of k are asked here and in the functions that lend `stations` on to be written: behind the `&mut` of a struct another list could be put, so each contract would have to say that it keeps its length.
+// Writes the occupied stations, in order, as the second of two numbers each. The bounds of k are asked here and in the functions that lend `stations` on to be written: behind the `&mut` of a struct another list could be put, so each contract would have to say that it is the one that was lent.
+#[tactic(auto, using(crate::proofs::Occupied::noted))]
 fn note_occupied(k: usize, stations: &mut [u32])
     requires { (k ≤ 4096) × (2 * k ≤ length stations.old) }
     ensures stations_unchanged { counts_in k stations.new ≡ counts_in k stations.old }
@@ -55,7 +56,8 @@ pub fn occupied_corners(k: usize, stations: &mut [u32], places: &[f64], path: &m
     c
 }
 
-// Where station s stands among the occupied ones, by halving; their number where it isn't one.
+// Where station s stands among the occupied ones, by halving; their number where it isn't one, as `vertex_of` says. No Option: the stations that `way_between` asks for are occupied, and `write_ways` writes the numbers into a list.
+#[tactic(auto, using(crate::proofs::Occupied::halving))]
 pub fn corner_of(vertices: &Vertices<'_>, s: usize) -> usize
     ensures value { result ≡ vertex_of s (order_in vertices.now.c vertices.now.stations.now) }
     ensures upper_bound { result ≤ vertices.now.c }

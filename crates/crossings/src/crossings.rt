@@ -77,6 +77,7 @@ fn store_crossing(
 }
 
 // Stores the crossings of branch e's line with the half-edges of a trail, from number x on; how many channels there are then, k before.
+#[tactic(auto, using(crate::proofs::Growing::trailed))]
 pub fn store_trail(
     line: &Line<'_>,
     m: u32,

@@ -3,10 +3,11 @@
 use mathlib.Core.Path.{◌≡◌, refl, sym, ap, ◌∙◌, subst}
 use mathlib.Core.Bool.{Bool, true, false, cond}
 use mathlib.Core.List.{List, []}
-use Prim.Native.Nat.{ℕ, ◌*◌, ◌-◌, ◌≤◌}
+use Prim.Native.Nat.{ℕ, ◌*◌, ◌≤◌}
 use native.Mathlib.Omega.{arith}
 use lib.IntN.{ℤ}
-use lib.ListN.{length, take, drop}
+use lib.ListN.{length, take}
+use lib.Seq.{length-take-le}
 use lib.Ieee.{Float}
 use Rattle.options.specs.declared.Options.{Options}
 use Rattle.drawing.specs.declared.answer.Plot.{Plot}
@@ -96,17 +97,16 @@ output_malformed t h = malformed (parsed t).well_formed refl h
     malformed false e k = rw e
 
 -- as many buses and branches as the lists hold
-pub few_read : (t : List ℕ) (n : Counts) → answer (parsed t) ≡ Some n → (n.buses ≤ 64) × (n.branches ≤ 64)
+few_read : (t : List ℕ) (n : Counts) → answer (parsed t) ≡ Some n → (n.buses ≤ 64) × (n.branches ≤ 64)
 few_read t n h =
     let w = answered (parsed t) n h in
     let s = parsed_shape t in
     (omega (arith, w.1, s.0.few), omega (arith, w.2, s.1.few))
 
-whole : {A : Type 0} (n : ℕ) (l : List A) → take (n - 0) (drop 0 l) ≡ take n l
-whole n l = let e : n - 0 ≡ n = omega arith in ap (λ (k : ℕ). take k l) e
+pub few_buses : (t : List ℕ) (n : Counts) → Some n ≡ answer (parsed t) → n.buses ≤ 64
+few_buses t n h = (few_read t n (sym h)).0
 
--- the parts from 0 on are the fronts
-pub fronts : (n m : ℕ) (a b : List ℕ) (c d : List ℤ) (e : List ℕ) (f : List Float)
-    → text_of (network (take (n - 0) (drop 0 a)) (take (n - 0) (drop 0 b)) (take (m - 0) (drop 0 c)) (take (m - 0) (drop 0 d)) (take (m - 0) (drop 0 e)) (take (2 * n - 0) (drop 0 f)) [] [])
-    ≡ text_of (network (take n a) (take n b) (take m c) (take m d) (take m e) (take (2 * n) f) [] [])
-fronts n m a b c d e f = ap text_of (same_network (whole n a) (whole n b) (whole m c) (whole m d) (whole m e) (whole (2 * n) f))
+pub few_branches : (t : List ℕ) (n : Counts) → Some n ≡ answer (parsed t) → n.branches ≤ 64
+few_branches t n h = (few_read t n (sym h)).1
+
+pub ruleset read_laws = (few_buses, few_branches, length-take-le)

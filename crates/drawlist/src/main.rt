@@ -4,11 +4,11 @@
 mod draw;
 mod plot;
 
-ghost use Rattle.std.specs.Prelude.{◌≡◌, ◌≤◌, length, take, OnOk, IfOk, IfSome};
+ghost use Rattle.std.specs.Prelude.{◌≡◌, take, OnOk, IfOk, IfSome};
 ghost use Rattle.std.specs.Io.KnownBytes.{Appends};
 ghost use Rattle.listed.specs.Output.{output_of};
 
-use draw::list_of;
+use draw::{ROOM, list_of};
 use std::alloc::Global;
 use std::io;
 use std::io::{Read, Write};
@@ -27,8 +27,7 @@ fn read_text<R: Read + Drop>(alloc: Global, input: R) -> io::Result<Vec<u8>>
 
 // Writes what comes of a text.
 #[tactic(auto, using(listing::proofs::Writing::front_laws))]
-fn write_list<W: Write>(text: &[u8], output: &mut W, out: &mut [u8]) -> io::Result<()>
-    requires { 15960 ≤ length out.old }
+fn write_list<W: Write>(text: &[u8], output: &mut W, out: &mut [u8; ROOM]) -> io::Result<()>
     ensures { OnOk result (Appends (W.contents output.old) (W.contents output.new) (output_of text.now)) }
 {
     let count = list_of(text, out);
@@ -40,9 +39,8 @@ fn run<R: Read + Drop, W: Write>(
     alloc: Global,
     input: R,
     output: &mut W,
-    out: &mut [u8],
+    out: &mut [u8; ROOM],
 ) -> io::Result<()>
-    requires { 15960 ≤ length out.old }
     ensures { OnOk result (IfSome (R.remaining input) (λ bytes. Appends (W.contents output.old) (W.contents output.new) (output_of (take 6937 bytes)))) }
 {
     let text = read_text(alloc, input)?;
@@ -50,7 +48,6 @@ fn run<R: Read + Drop, W: Write>(
 }
 
 fn main(rt: HostRuntime) -> io::Result<()> {
-    // the text that is written has at most 15,960 bytes, so a buffer on the stack will do
-    let mut out = [0u8; 16384];
+    let mut out = [0u8; ROOM];
     run(rt.alloc(), rt.reader(), &mut io::writer(&rt), &mut out)
 }

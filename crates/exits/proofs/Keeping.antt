@@ -7,7 +7,7 @@ use Prim.Native.Nat.{ℕ, ◌+◌, ◌*◌, ◌≤◌, ◌<◌}
 use native.Mathlib.Omega.{arith}
 use lib.IntN.{ℤ}
 use lib.ListN.{length, get_or, length-set}
-use lib.Ieee.{Float}
+use lib.Ieee.{Float, nan, binary64, of_bits}
 use Rattle.order.proofs.Merging.{le_or_lt}
 use Rattle.order.proofs.Strides.{get_d_first, get_d_strided}
 use Rattle.geometry.specs.Plane.{point_at}
@@ -22,28 +22,11 @@ use Rattle.runs.specs.Stages.Views.{exit_of, first_exit, second_exit}
 use Rattle.crossings.specs.Route as Route
 use Rattle.crossings.specs.Stages.Views.{Grid, grid, exit_at, line_between, line_for, line_in}
 use Rattle.exits.specs.declared.Exits.{Exits}
-use Rattle.exits.specs.Stages.Exits.{no_exits, exit_from, line_exits, exits_of, exits_in, Exited}
+use Rattle.exits.specs.Stages.Exits.{exits_of, exits_in, Exited}
 
--- ---- a branch's exits, by its kind
-
-module _ (G : Grid) (e ra rb : ℕ) (K : Kind) (r : Exits) (k : kind_of G.sub G.from G.to G.service e ≡ K) (p : ra ≡ get_or G.ends (4 * e) 0) (q : rb ≡ get_or G.ends (4 * e + 1) 0) where
-  exits_by : r ≡ exits_of (line_for G ra rb K) → r ≡ exits_in G e
-  unfolding exits_in line_in
-  exits_by h = h ∙ cc
-
-  pub exits_other : ((a b : ℕ) → K ≡ Line a b → ⊥) → r ≡ no_exits → r ≡ exits_in G e
-  unfolding exits_of line_for
-  exits_other n h = go K refl
-    where
-      go : (x : Kind) → K ≡ x → r ≡ exits_in G e
-      go Undrawn z = exits_by (h ∙ ap (λ (t : Kind). exits_of (line_for G ra rb t)) (sym z))
-      go (Open a b) z = exits_by (h ∙ ap (λ (t : Kind). exits_of (line_for G ra rb t)) (sym z))
-      go (Internal a b) z = exits_by (h ∙ ap (λ (t : Kind). exits_of (line_for G ra rb t)) (sym z))
-      go (Line a b) z = absurd (n a b z)
-
-  pub exits_line : (a b : ℕ) → K ≡ Line a b → r ≡ line_exits G.sub G.measures G.blocks G.places G.frames a b ra rb → r ≡ exits_in G e
-  unfolding exits_of line_for line_between exit_at line_exits exit_from
-  exits_line a b z h = exits_by (h ∙ ap (λ (t : Kind). exits_of (line_for G ra rb t)) (sym z))
+pub not_a_number : of_bits binary64 0x7FF8_0000_0000_0000 ≡ nan
+unfolding of_bits
+not_a_number = refl
 
 -- ---- in a list, from branch to branch
 
@@ -52,11 +35,21 @@ module _ (sub : List ℕ) (from to : List ℤ) (service : List ℕ) (measures : 
   grid_by places = grid sub from to service measures ends blocks places frames
 
   -- the first e branches' exits stand in the list l, which was l₀
-  pub record ExitedTo (l₀ l : List Float) (e : ℕ) : Type 0 where
-    pub long : length l ≡ length l₀
+  pub record Standing (l₀ l : List Float) (e : ℕ) : Type 0 where
     pub kept : (s : ℕ) → s < length sub → point_at l s ≡ point_at l₀ s
     pub first : (i : ℕ) → i < e → first_exit (length sub) l i ≡ (exits_in (grid_by l₀) i).first
     pub second : (i : ℕ) → i < e → second_exit (length sub) l i ≡ (exits_in (grid_by l₀) i).second
+
+  unfoldable pub ExitedTo : List Float → List Float → ℕ → Type 0
+  ExitedTo l₀ l e = Standing l₀ l e
+
+  pub exited_none : (l₀ : List Float) → ExitedTo l₀ l₀ 0
+  unfolding ExitedTo
+  exited_none l₀ = record { kept = λ s h. refl; first = λ i h. absurd (omega arith); second = λ i h. absurd (omega arith) }
+
+  pub exited_kept : (l₀ l : List Float) (e s : ℕ) → ExitedTo l₀ l e → s < length sub → point_at l s ≡ point_at l₀ s
+  unfolding ExitedTo
+  exited_kept l₀ l e s E h = E.kept s h
 
   module _ (below : (i : ℕ) → i < length sub → station_of sub i < length sub) where
     -- branches are the same to routing where the stations' places are
@@ -72,57 +65,53 @@ module _ (sub : List ℕ) (from to : List ℤ) (service : List ℕ) (measures : 
       unfolding exits_in line_in
       exits_kept e = ap exits_of (line_kept (get_or ends (4 * e) 0) (get_or ends (4 * e + 1) 0) (kind_of sub from to service e) (kind_safe sub from to service e))
 
-    pub exited_none : (l₀ : List Float) → ExitedTo l₀ l₀ 0
-    exited_none l₀ = record { long = refl; kept = λ s h. refl; first = λ i h. absurd (omega arith); second = λ i h. absurd (omega arith) }
+    module _ (l₀ l : List Float) (e : ℕ) (x : Exits) (room : 2 * length sub + 4 * e + 4 ≤ length l) (E : ExitedTo l₀ l e) (is : x ≡ exits_in (grid_by l) e) where
+      abbrev l₁ : List Float
+      l₁ = put_point l (length sub + 2 * e) x.first.x x.first.y
 
-    module _ (l₀ l l₁ l₂ : List Float) (e : ℕ) (x : Exits) (room : 2 * length sub + 4 * e + 4 ≤ length l₀) (E : ExitedTo l₀ l e) (is : x ≡ exits_in (grid_by l) e)
-        (one : l₁ ≡ put_point l (length sub + 2 * e) x.first.x x.first.y) (two : l₂ ≡ put_point l₁ (length sub + 2 * e + 1) x.second.x x.second.y) where
-      long_one : length l₁ ≡ length l₀
-      long_one = ap length one ∙ simp length-set E.long
-
-      long_two : length l₂ ≡ length l₀
-      long_two = ap length two ∙ simp length-set long_one
+      abbrev l₂ : List Float
+      l₂ = put_point l₁ (length sub + 2 * e + 1) x.second.x x.second.y
 
       is_first : x ≡ exits_in (grid_by l₀) e
+      unfolding ExitedTo
       is_first = is ∙ exits_kept l l₀ E.kept e
 
       -- a point before the two, the first and the second
       at_before : (j : ℕ) → j < length sub + 2 * e → point_at l₂ j ≡ point_at l j
       at_before j h =
-          ap (λ (t : List Float). point_at t j) two
-          ∙ point_other l₁ (length sub + 2 * e + 1) j x.second.x x.second.y (λ z. omega arith)
-          ∙ ap (λ (t : List Float). point_at t j) one
+          point_other l₁ (length sub + 2 * e + 1) j x.second.x x.second.y (λ z. omega arith)
           ∙ point_other l (length sub + 2 * e) j x.first.x x.first.y (λ z. omega arith)
 
       at_first : first_exit (length sub) l₂ e ≡ (exits_in (grid_by l₀) e).first
       at_first =
-          ap (λ (t : List Float). point_at t (length sub + 2 * e)) two
-          ∙ point_other l₁ (length sub + 2 * e + 1) (length sub + 2 * e) x.second.x x.second.y (λ z. omega arith)
-          ∙ ap (λ (t : List Float). point_at t (length sub + 2 * e)) one
-          ∙ point_same l (length sub + 2 * e) x.first.x x.first.y (omega (arith, E.long))
+          point_other l₁ (length sub + 2 * e + 1) (length sub + 2 * e) x.second.x x.second.y (λ z. omega arith)
+          ∙ point_same l (length sub + 2 * e) x.first.x x.first.y (omega arith)
           ∙ ap (λ (t : Exits). t.first) is_first
 
       at_second : second_exit (length sub) l₂ e ≡ (exits_in (grid_by l₀) e).second
       at_second =
-          ap (λ (t : List Float). point_at t (length sub + 2 * e + 1)) two
-          ∙ point_same l₁ (length sub + 2 * e + 1) x.second.x x.second.y (omega (arith, long_one))
-          ∙ ap (λ (t : Exits). t.second) is_first
+          let long : length l₁ ≡ length l = simp length-set refl in
+          point_same l₁ (length sub + 2 * e + 1) x.second.x x.second.y (omega arith) ∙ ap (λ (t : Exits). t.second) is_first
 
       pub exited_more : ExitedTo l₀ l₂ (e + 1)
+      unfolding ExitedTo
       exited_more =
           record {
-            long = long_two;
             kept = λ s h. at_before s (omega arith) ∙ E.kept s h;
             first = λ i h. ⊎_elim (λ (z : e ≤ i). let y : e ≡ i = omega arith in subst (λ (t : ℕ). first_exit (length sub) l₂ t ≡ (exits_in (grid_by l₀) t).first) y at_first) (λ (z : i < e). at_before (length sub + 2 * i) (omega arith) ∙ E.first i z) (le_or_lt e i);
             second = λ i h. ⊎_elim (λ (z : e ≤ i). let y : e ≡ i = omega arith in subst (λ (t : ℕ). second_exit (length sub) l₂ t ≡ (exits_in (grid_by l₀) t).second) y at_second) (λ (z : i < e). at_before (length sub + 2 * i + 1) (omega arith) ∙ E.second i z) (le_or_lt e i);
           }
 
-    pub exited_all : (l₀ l : List Float) (e : ℕ) → length from ≤ e → ExitedTo l₀ l e → Exited (grid_by l)
-    exited_all l₀ l e h E =
-        record {
-          first = λ i g. E.first i (omega arith) ∙ ap (λ (t : Exits). t.first) (sym (exits_kept l l₀ E.kept i));
-          second = λ i g. E.second i (omega arith) ∙ ap (λ (t : Exits). t.second) (sym (exits_kept l l₀ E.kept i));
-        }
+    module _ (l₀ l : List Float) (e : ℕ) (E : ExitedTo l₀ l e) (i : ℕ) (h : i < e) where
+      pub exited_first : first_exit (length sub) l i ≡ (exits_in (grid_by l) i).first
+      unfolding ExitedTo
+      exited_first = E.first i h ∙ ap (λ (t : Exits). t.first) (sym (exits_kept l l₀ E.kept i))
+
+      pub exited_second : second_exit (length sub) l i ≡ (exits_in (grid_by l) i).second
+      unfolding ExitedTo
+      exited_second = E.second i h ∙ ap (λ (t : Exits). t.second) (sym (exits_kept l l₀ E.kept i))
+
+pub ruleset exited = (exited_none, exited_kept, exited_more, exited_first, exited_second)
 
 -- ---- by rows alone: whatever routes are written beside them
 

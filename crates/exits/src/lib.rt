@@ -7,7 +7,7 @@ ghost use Rattle.network.specs.Words.{station_of};
 ghost use Rattle.crossings.specs.Stages.Views.{grid};
 ghost use Rattle.exits.specs.Stages.Exits.{no_exits, exit_from, line_exits, exits_in, Exited};
 
-use bars::row_y;
+use bars::{Interior, row_y};
 use geometry::{Point, number_at};
 use measures::Measures;
 use network::lists::{Bounded, Network};
@@ -25,6 +25,7 @@ pub struct Exits {
 
 // The exit of station s towards t, at the height of a row.
 // The lists come one by one and not as `Laid`: `places` is written between two branches, so the struct would be made anew for each, and it wants `buses`, which `write_exits` lacks.
+// s and t are usize as `station_of` answers them; `exit_of` asks their bound.
 #[tactic(auto, unfolding(crate::specs::Stages::Exits::exit_from, runs::specs::Stages::Views::block_of))]
 fn exit_at(
     measures: Measures,
@@ -39,9 +40,11 @@ fn exit_at(
     ensures { result ≡ exit_from measures blocks.now places.now frames.now s t row }
 {
     let y = row_y(
-        measures.gaps,
-        box_at(frames, s),
-        measures.unit * number_at(blocks, 3 * s + 2),
+        Interior {
+            gaps: measures.gaps,
+            frame: box_at(frames, s),
+            block: measures.unit * number_at(blocks, 3 * s + 2),
+        },
         row,
     );
     exit_of(places, frames, s, t, y)
@@ -70,6 +73,7 @@ fn line_exits(
 }
 
 // Those of a branch that is no line: no points.
+#[tactic(auto, using(crate::proofs::Keeping::not_a_number))]
 fn no_exits() -> Exits
     ensures { result ≡ no_exits }
 {
@@ -85,6 +89,7 @@ fn no_exits() -> Exits
 
 // The exits of branch e.
 // e is counted over usize, and asked to be below 2^32 so that 4 * e can't overflow: a `u32` would be converted at each index.
+#[tactic(auto, unfolding(crate::specs::Stages::Exits::exits_in, crate::specs::Stages::Exits::exits_of, crate::specs::Stages::Exits::line_exits, crate::specs::Stages::Exits::exit_from, crossings::specs::Stages::Views::line_in, crossings::specs::Stages::Views::line_for, crossings::specs::Stages::Views::line_between, crossings::specs::Stages::Views::exit_at))]
 fn exits_of(
     net: &Network<'_>,
     measures: Measures,
@@ -107,6 +112,7 @@ fn exits_of(
 
 // Writes every branch's exits behind the places of as many stations as there are buses.
 // The length of `places`, the one list that is written, is asked as the slice's own.
+#[tactic(auto, using(crate::proofs::Keeping::exited))]
 pub fn write_exits(
     net: &Bounded<'_>,
     measures: Measures,

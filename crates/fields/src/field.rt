@@ -1,4 +1,4 @@
-// A field at a place of a text.
+// A field at a place of a text. Each reader here and in `listing` takes the text and the place: with the rest of the text alone it couldn't tell at which place it ends, as its contract does.
 ghost use Rattle.std.specs.Prelude.{◌≡◌, ◌-◌, ◌^◌, ◌≤◌, drop};
 ghost use Rattle.fields.specs.Field.{digit as digit_of, closed as closed_by, digits_to, limited, positive as positive_to, whole as whole_to, pattern as pattern_to, bus_number};
 ghost use Rattle.fields.specs.Stages.Places.{field_of};
@@ -10,7 +10,7 @@ pub struct Parsed<T> {
     pub next: usize,
 }
 
-// What a digit stands for, 16 for any other byte.
+// What a digit stands for, 16 for any other byte: one test, 9 < d or 15 < d, then refuses that byte and the digits of a larger base. Of an Option it would be `?` and the test.
 #[tactic(auto, unfolding(crate::specs::Field::digit))]
 fn digit(c: u8) -> u64
     ensures { result ≡ digit_of c }

@@ -23,6 +23,7 @@ fn spell(n: u64, base: u64, k: usize, at: usize, out: &mut [u8])
     ensures { out.new ≡ put_at out.old at (digits base k n) }
 {
     let mut rest = n;
+    // no `out[at..at + k].iter_mut().rev()`: after it a proof knows nothing of the list's elements (tried in `spacing`)
     for i in (0..k).rev() {
         out[at + i] = glyph(rest % base);
         rest /= base;

@@ -9,7 +9,6 @@ use Rattle.std.specs.Prelude.{Option, Some, None, Ok}
 use Rattle.refusals.specs.declared.Refusal.{Refusal}
 use Rattle.refusals.proofs.Unless as Unless
 use Rattle.network.specs.Words.{bus_counts, is_occupied}
-use Rattle.overlaps.specs.Overlaps.{overlaps}
 use Rattle.overlaps.proofs.NoOverlapping.{no_overlapping}
 use Rattle.findings.specs.declared.answer.Figures.{Figures}
 use Rattle.findings.specs.Drawn.{Drawn, Lists, Work, room_of}

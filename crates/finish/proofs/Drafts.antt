@@ -1,6 +1,6 @@
 -- What is judged of a charted drawing, and what is written of it.
 -- Assumes nothing.
-use Prim.Native.Nat.{ℕ, ◌*◌, ◌≤◌, ◌<◌}
+use Prim.Native.Nat.{ℕ, ◌*◌, ◌≤◌}
 use mathlib.Core.Path.{◌≡◌, refl, sym, ap, ◌∙◌, subst}
 use mathlib.Core.Bool.{Bool, true, false, cond}
 use mathlib.Core.List.{List, map}
@@ -23,7 +23,7 @@ use Rattle.bars.specs.Bar.{position}
 use Rattle.runs.specs.Run.{Piece, all_pieces, role}
 use Rattle.runs.proofs.Paths.{run_unled}
 use Rattle.runs.specs.Lists.{flat, point_numbers, box_numbers, bar_numbers, piece_numbers, after}
-use Rattle.runs.specs.Stages.Views.{RunLists, held, lead, lead_by, Fits}
+use Rattle.runs.specs.Stages.Views.{RunLists, held, lead, lead_by}
 use Rattle.pieces.specs.Stages.Pieces.{branch_of}
 use Rattle.survey.specs.Stages.Runs.{runs_in}
 use Rattle.results.specs.Stages.Bars.{bars_in}
@@ -72,9 +72,6 @@ module _ (o : Options) (N : Network) (k : ℕ) (R : Room) (stations buses ends :
 
     bars_are : bars_in N.station M buses blocks frames ≡ (drawing o N).bars
     bars_are = ap (λ (m : Measures). bars_in N.station m buses blocks frames) measured ∙ C.bars
-
-    pub fits : (e : ℕ) → e < length N.from → Fits ends path e
-    fits = C.fits (sym passed.0)
 
     -- 11 by the number of pieces
     late_is : (pieces : ℕ) → pieces ≡ length (drawing o N).pieces → late_by None pieces R.pieces R.branches ≡ late (drawing o N) R

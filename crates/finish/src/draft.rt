@@ -21,17 +21,15 @@ use runs::laid::{Guide, Laid};
 use survey::survey;
 
 // The gap that lines keep where they are led: where there are iterations.
+#[tactic(auto, using(order::proofs::Choices::some_if))]
 pub(crate) fn gap_led(o: Options, unit: f64) -> Option<f64>
     ensures { result ≡ cond (ltb 0 o.route_iterations) (Some (gap_of unit)) None }
 {
-    if 0 < o.route_iterations {
-        Some(gap_of(unit))
-    } else {
-        None
-    }
+    (0 < o.route_iterations).then_some(gap_of(unit))
 }
 
 // Judges the drawing that the work lists hold, which nothing refuses so far, with lists of these lengths; `guide` enters its boxes.
+#[tactic(auto, using(refusals::proofs::Unless::accepted))]
 pub(crate) fn judge(
     o: Options,
     net: &Bounded<'_>,

@@ -19,7 +19,7 @@ use drawing::answer::Plot;
 use drawing::room::Room;
 use grid::index::BoxIndex;
 use measures::Measures;
-use network::lists::{Bounded, Placed};
+use network::lists::{Bounded, FewPlaced};
 use options::Options;
 use refusals::Refusal;
 use results::buses::write_buses;
@@ -29,6 +29,7 @@ use survey::write_pieces;
 
 // Judges a drawing that nothing refuses so far, and writes it where nothing does.
 // That `blocks` holds three numbers of each of k stations is asked here and in `finish`: `Laid` has no k, and `survey` doesn't ask it. The lengths of the lists from `path` on are asked as the slices' own, since they are written.
+#[tactic(auto, using(refusals::proofs::Unless::accepted, std::proofs::lemmas::Result::err_from_is_err_and, crate::proofs::Drafts::refused))]
 fn write(
     o: Options,
     net: &Bounded<'_>,
@@ -69,14 +70,13 @@ fn write(
 }
 
 // Writes a charted drawing where nothing refuses it; `sorted` enters its boxes.
-// `path` and the lists from `positions` to `branches` are written: behind the `&mut` of a struct other lists could be put, so each contract would have to say that it keeps the lists and their lengths.
-// k, `stations`, `frames` and `sorted` come one by one: the caller writes these lists before this call and after it, so it would make a `BoxIndex` for this call alone. The bounds of k are what `Placed` and `BoxIndex`, made here, ask; `blocks` is bounded by k since `Laid` has no k.
+// `path` and the lists from `positions` to `branches` are written: behind the `&mut` of a struct other lists could be put, so each contract would have to say of each list that it is the one that was lent.
+// `few` and `sorted` are no `BoxIndex`: tried, and the borrow check covers no such struct in the caller, which writes these lists before this call and after it. `blocks` is bounded by k since `Laid` has none.
+#[tactic(auto, using(std::proofs::lemmas::Result::err_from_is_err_and))]
 pub fn finish<'a>(
     o: Options,
     net: &Bounded<'_>,
-    k: usize,
-    stations: &'a [u32],
-    frames: &'a [f64],
+    few: &FewPlaced<'a>,
     sorted: &'a [u32],
     room: Room,
     course: Result<f64, Refusal>,
@@ -94,10 +94,10 @@ pub fn finish<'a>(
     pieces: &mut [f64],
     branches: &mut [u32],
 ) -> Result<Plot, Refusal>
-    requires k_in_bounds { (k ≤ 4096) × (2 * k ≤ length stations.now) × (4 * k ≤ length frames.now) × (3 * k ≤ length blocks.now) }
-    requires indexed { Indexed (boxes_in k frames.now) (occupied (counts_in k stations.now)) sorted.now }
-    requires sub_in_bounds { (2 * length net.now.lists.sub.now ≤ length positions.old) × (4 * length net.now.lists.sub.now ≤ length bars.old) × (4 * k ≤ length boxes.old) × (k ≤ length scales.old) × (length net.now.lists.from.now ≤ length roles.old) × (room.pieces ≡ length pieces.old) × (room.branches ≡ length branches.old) }
-    requires charted { Charted o (network net.now.lists.sub.now net.now.lists.kv.now net.now.lists.from.now net.now.lists.to.now net.now.lists.service.now net.now.lists.xy.now net.now.lists.mesh.corners.now net.now.lists.mesh.twins.now) k (crossing_room room) course stations.now buses.now ends.now blocks.now places.now frames.now path.old ways.now }
+    requires k_in_bounds { 3 * few.now.placed.k ≤ length blocks.now }
+    requires indexed { Indexed (boxes_in few.now.placed.k few.now.placed.frames.now) (occupied (counts_in few.now.placed.k few.now.placed.stations.now)) sorted.now }
+    requires sub_in_bounds { (2 * length net.now.lists.sub.now ≤ length positions.old) × (4 * length net.now.lists.sub.now ≤ length bars.old) × (4 * few.now.placed.k ≤ length boxes.old) × (few.now.placed.k ≤ length scales.old) × (length net.now.lists.from.now ≤ length roles.old) × (room.pieces ≡ length pieces.old) × (room.branches ≡ length branches.old) }
+    requires charted { Charted o (network net.now.lists.sub.now net.now.lists.kv.now net.now.lists.from.now net.now.lists.to.now net.now.lists.service.now net.now.lists.xy.now net.now.lists.mesh.corners.now net.now.lists.mesh.twins.now) few.now.placed.k (crossing_room room) course few.now.placed.stations.now buses.now ends.now blocks.now places.now few.now.placed.frames.now path.old ways.now }
     ensures { Drew o (network net.now.lists.sub.now net.now.lists.kv.now net.now.lists.from.now net.now.lists.to.now net.now.lists.service.now net.now.lists.xy.now net.now.lists.mesh.corners.now net.now.lists.mesh.twins.now) (late (drawing o (network net.now.lists.sub.now net.now.lists.kv.now net.now.lists.from.now net.now.lists.to.now net.now.lists.service.now net.now.lists.xy.now net.now.lists.mesh.corners.now net.now.lists.mesh.twins.now)) room) (record { positions = positions.old; bars = bars.old; boxes = boxes.old; scales = scales.old; roles = roles.old; pieces = pieces.old; branches = branches.old }) result (record { positions = positions.new; bars = bars.new; boxes = boxes.new; scales = scales.new; roles = roles.new; pieces = pieces.new; branches = branches.new }) }
 {
     let unit = course?;
@@ -110,11 +110,7 @@ pub fn finish<'a>(
         blocks,
         places,
     };
-    let placed = Placed {
-        k,
-        stations,
-        frames,
-    };
+    let placed = few.placed;
     let index = BoxIndex {
         placed,
         cells: sorted,

@@ -1,4 +1,4 @@
-// The box that a piece enters first (02, change 9), by a look at every station.
+// The box that a piece enters first (02, change 9), by a look at every station. A piece is its two ends p and q, for the reason that stands at `geometry::Point`.
 #![tactic(auto)]
 
 ghost use Rattle.std.specs.Prelude.{◌≡◌, ◌+◌, ◌*◌, ◌≤◌, ◌<◌, length, None};
@@ -82,7 +82,7 @@ pub fn scan(placed: &Placed<'_>, p: Point, q: Point, a: usize, b: usize) -> Opti
 {
     let mut best = None;
     for s in 0..placed.k {
-        if 0 < placed.stations[2 * s] {
+        if placed.is_occupied(s) {
             best = sooner(s, entry_at(placed.k, placed.frames, p, q, a, b, s), best);
         }
     }

@@ -50,18 +50,15 @@ fn closer(s: usize, e: Option<f64>, n: Near) -> Near
 }
 
 // The station of the box entered first.
+#[tactic(auto, using(order::proofs::Choices::some_if), unfolding(crate::specs::Stages::Looks::hit_of))]
 fn hit_of(n: Near) -> Option<usize>
     ensures { result ≡ hit_of n }
 {
-    if n.place <= 1.0 {
-        Some(n.station)
-    } else {
-        None
-    }
+    (n.place <= 1.0).then_some(n.station)
 }
 
 // One more than the station behind station s in its chain, 0 for none; never above s.
-// s is below 2^32 as a number of a chain; it is counted over usize, and a `u32` would be converted at each index.
+// s is read from a list of u32 and is an index from there on: as a `u32` it would be converted at each.
 #[tactic(auto, unfolding(grid::specs::Stages::Cells::next_at))]
 fn behind(index: &BoxIndex<'_>, s: usize) -> usize
     requires { s < 2 ^ 32 }
@@ -178,7 +175,7 @@ fn march(g: Grid, index: &BoxIndex<'_>, piece: &Piece) -> Option<Near>
         station: 0,
     };
     let mut t = 0.0;
-    for i in 0..8192usize {
+    for _ in 0..8192usize {
         let u = step_end(t, s);
         let w = window_of(piece.p, piece.q, m, t, u);
         if holds(piece.p, piece.q, t, u, w) {

@@ -1,5 +1,5 @@
 -- Refusal 13: whether the audited drawing fits its network. Definitions only.
-use Rattle.std.specs.Prelude.{ℕ, ◌*◌, Bool, true, false, not, ◌&&◌, ◌||◌, List, eqb, ltb, ℤ, negsuc, length, get_or, Float, Option, is_some}
+use Rattle.std.specs.Prelude.{ℕ, ◌*◌, Bool, not, ◌&&◌, ◌||◌, List, eqb, ltb, ℤ, negsuc, length, get_or, Float, Option, is_some}
 use Rattle.std.specs.Float.{nan, binary64}
 use Rattle.std.specs.Float.Ieee.{lt, le, of_bits}
 use Rattle.float.specs.Small.{abs_of}

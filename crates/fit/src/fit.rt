@@ -1,11 +1,11 @@
 // Refusal 13: whether the audited drawing fits its network.
 ghost use Rattle.std.specs.Prelude.{◌≡◌, ◌*◌, ◌≤◌, eqb, length, get_or};
-ghost use Rattle.fit.specs.Fit.{all_named, is_line, end_at, joins, all_join, moderate, all_moderate, ordered, all_ordered, fits};
+ghost use Rattle.fit.specs.Fit.{all_named, is_line, joins, all_join, moderate, all_moderate, ordered, all_ordered, fits};
 
 use crate::drawn::{Drawn, FewBuses};
 use float::small::abs;
 use geometry::{Box, box_at};
-use network::words::{known_bus, station_count, station_of};
+use network::words::{end_of, station_count, station_of};
 
 // The branch that piece j names, 0 past the list's end.
 pub fn branch_of(branches: &[u32], j: usize) -> usize
@@ -21,30 +21,22 @@ fn all_named(m: usize, branches: &[u32]) -> bool
     branches.iter().all(|&b| (b as usize) < m)
 }
 
-// Whether branch e has line role.
+// Whether branch e has line role: 0, a u8 as C's list holds it.
 #[tactic(auto, unfolding(crate::specs::Fit::is_line))]
 pub fn is_line(roles: &[u8], e: usize) -> bool
     ensures { result ≡ is_line roles.now e }
 {
-    e < roles.len() && roles[e] == 0
-}
-
-// The bus at the end of branch e, of n; unknown past the list's end.
-// n is how many buses there are: the list has an element for each branch. The rule is that of `network::words::end_of`, which is private there and reads the lists of the layout call.
-pub fn end_at(n: usize, ends: &[i64], e: usize) -> Option<usize>
-    ensures { result ≡ end_at n ends.now e }
-{
-    known_bus(n, *ends.get(e)?)
+    roles.get(e) == Some(&0)
 }
 
 // Whether branch e has no line role or two known ends.
-#[tactic(auto, unfolding(crate::specs::Fit::joins))]
+#[tactic(auto, unfolding(crate::specs::Fit::joins, crate::specs::Fit::end_at))]
 fn joins(drawing: &Drawn<'_>, e: usize) -> bool
     ensures { result ≡ joins (length drawing.now.sub.now) drawing.now.from.now drawing.now.to.now drawing.now.roles.now e }
 {
     let n = drawing.sub.len();
     !is_line(drawing.roles, e)
-        || end_at(n, drawing.from, e).is_some() && end_at(n, drawing.to, e).is_some()
+        || end_of(n, drawing.from, e).is_some() && end_of(n, drawing.to, e).is_some()
 }
 
 // Whether no line-role branch has an unknown end.

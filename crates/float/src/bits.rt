@@ -7,7 +7,7 @@ pub fn of_bits(p: u64) -> f64
     ensures { result ≡ from_bits binary64 p }
 {
     if 0x7FF0_0000_0000_0000 < p % 0x8000_0000_0000_0000 {
-        return 0.0 / 0.0;
+        return f64::NAN;
     }
     f64::from_bits(p)
 }

@@ -1,4 +1,4 @@
-// Functions on f64 that std has not, each equal to a definition in specs/.
+// Functions on f64, each equal to a definition in specs/ on every input that it takes, NaNs, zeros of either sign and infinities too unless a clause bars them.
 #![tactic(auto)]
 
 pub mod bits;

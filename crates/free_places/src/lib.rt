@@ -5,8 +5,9 @@ ghost use Rattle.std.specs.Prelude.{◌≡◌, ◌+◌, ◌*◌, ◌≤◌, ◌<
 ghost use Rattle.order.proofs.Laws.{All};
 ghost use Rattle.free_places.specs.Search as Place;
 ghost use Rattle.free_places.specs.Search.{free, box_on, buffered, first_free, place_for};
-ghost use Rattle.free_places.specs.Stages.Among.{half, frame, kept_boxes, boxes_among, column_of, Holds};
+ghost use Rattle.free_places.specs.Stages.Among.{half, frame_of, kept_boxes, boxes_among, column_of, Holds};
 ghost use Rattle.offset_rule.specs.Table.{skipped, pairs_in};
+ghost use Rattle.free_places.specs.Stages.OneProof.{holds_prop};
 
 use box_order::kept::{Stretch, stretch_of};
 use cells::shifted;
@@ -15,6 +16,26 @@ use geometry::{Box, Point, box_at};
 use offset_table::{is_inside, pair_at};
 use offsets::offset::Offset;
 use proximity::overlaps;
+
+// What a station's place is looked for with: half its width and height, its block, unit × scale, and the buffer in blocks.
+#[derive(Clone, Copy)]
+pub struct Outline {
+    pub w: f64,
+    pub h: f64,
+    pub block: f64,
+    pub buffer: f64,
+}
+
+// The boxes of earlier stations, kept by their left cells of side unit; `most` is the most cells that one of them spans.
+#[derive(Clone, Copy)]
+pub struct Earlier<'a> {
+    pub unit: f64,
+    pub boxes: &'a [f64],
+    pub keys: &'a [u64],
+    pub sorted: &'a [u32],
+    pub most: u64,
+    pub ghost holds: { Holds unit boxes.now most keys.now sorted.now } by { holds_prop unit boxes.now most keys.now sorted.now },
+}
 
 // Whether p strictly overlaps none of the boxes of a stretch of the kept stations.
 fn is_free(p: Box, boxes: &[f64], sorted: &[u32], t: Stretch) -> bool
@@ -32,6 +53,7 @@ fn is_free(p: Box, boxes: &[f64], sorted: &[u32], t: Stretch) -> bool
 }
 
 // The box of these half sides at a place.
+#[tactic(auto, unfolding(crate::specs::Search::box_on))]
 pub fn box_on(c: Point, w: f64, h: f64) -> Box
     ensures { result ≡ box_on c (half w h) }
 {
@@ -44,15 +66,16 @@ pub fn box_on(c: Point, w: f64, h: f64) -> Box
 }
 
 // That box with its buffer.
-fn buffered(c: Point, w: f64, h: f64, f: f64, buffer: f64) -> Box
-    ensures { result ≡ buffered c (frame w h f buffer) }
+#[tactic(auto, unfolding(crate::specs::Search::buffered))]
+fn buffered(c: Point, outline: Outline) -> Box
+    ensures { result ≡ buffered c (frame_of outline) }
 {
-    let g = f * buffer;
+    let g = outline.block * outline.buffer;
     Box {
-        left: c.x - w - g,
-        top: c.y - h - g,
-        right: c.x + w + g,
-        bottom: c.y + h + g,
+        left: c.x - outline.w - g,
+        top: c.y - outline.h - g,
+        right: c.x + outline.w + g,
+        bottom: c.y + outline.h + g,
     }
 }
 
@@ -67,7 +90,7 @@ fn place(seed: Point, w: f64, h: f64, widening: f64, o: Offset) -> Point
     }
 }
 
-// The offsets that a search tries, by the pairs of two lists: those outside the search are skipped.
+// The offsets that a search tries, by the pairs of two lists, as the table has them: those outside the search are skipped.
 #[derive(Clone, Copy)]
 pub struct Tried<'a> {
     pub a: &'a [i32],
@@ -87,20 +110,12 @@ fn column(o: Offset) -> usize
 // The first free place at one widening.
 fn first_free(
     seed: Point,
-    w: f64,
-    h: f64,
-    f: f64,
-    buffer: f64,
+    outline: Outline,
     widening: f64,
     tried: &Tried<'_>,
-    unit: f64,
-    boxes: &[f64],
-    keys: &[u64],
-    sorted: &[u32],
-    most: u64,
+    earlier: &Earlier<'_>,
 ) -> Option<Point>
-    requires { Holds unit boxes.now most keys.now sorted.now }
-    ensures { result ≡ first_free seed (frame w h f buffer) (kept_boxes boxes.now sorted.now) widening (skipped tried.now.search (pairs_in tried.now.a.now tried.now.b.now)) }
+    ensures { result ≡ first_free seed (frame_of outline) (kept_boxes earlier.now.boxes.now earlier.now.sorted.now) widening (skipped tried.now.search (pairs_in tried.now.a.now tried.now.b.now)) }
 {
     // by column, an end of 0 where no stretch is known yet: an Option of one would be a third word to copy at each offset
     let mut firsts = [0; 41];
@@ -108,17 +123,24 @@ fn first_free(
     for j in 0..tried.a.len() {
         let o = pair_at(tried.a, tried.b, j);
         if is_inside(o, tried.search) {
-            let c = place(seed, w, h, widening, o);
-            let p = buffered(c, w, h, f, buffer);
+            let c = place(seed, outline.w, outline.h, widening, o);
+            let p = buffered(c, outline);
             let i = column(o);
             let known = Stretch {
                 first: firsts[i],
                 end: ends[i],
             };
-            let t = stretch_of(known, unit, p.left, p.right, keys, most);
+            let t = stretch_of(
+                known,
+                earlier.unit,
+                p.left,
+                p.right,
+                earlier.keys,
+                earlier.most,
+            );
             firsts[i] = t.first;
             ends[i] = t.end;
-            if is_free(p, boxes, sorted, t) {
+            if is_free(p, earlier.boxes, earlier.sorted, t) {
                 return Some(c);
             }
         }
@@ -127,36 +149,14 @@ fn first_free(
 }
 
 // The first free place at widening 1, 2, 4, else the seed.
-pub fn place_for(
-    seed: Point,
-    w: f64,
-    h: f64,
-    f: f64,
-    buffer: f64,
-    tried: &Tried<'_>,
-    unit: f64,
-    boxes: &[f64],
-    keys: &[u64],
-    sorted: &[u32],
-    most: u64,
-) -> Point
-    requires { Holds unit boxes.now most keys.now sorted.now }
-    ensures { result ≡ place_for seed (frame w h f buffer) (kept_boxes boxes.now sorted.now) (skipped tried.now.search (pairs_in tried.now.a.now tried.now.b.now)) }
+pub fn place_for(seed: Point, outline: Outline, tried: &Tried<'_>, earlier: &Earlier<'_>) -> Point
+    ensures { result ≡ place_for seed (frame_of outline) (kept_boxes earlier.now.boxes.now earlier.now.sorted.now) (skipped tried.now.search (pairs_in tried.now.a.now tried.now.b.now)) }
 {
-    let near = first_free(
-        seed, w, h, f, buffer, 1.0, tried, unit, boxes, keys, sorted, most,
-    );
-    if let Some(c) = near {
+    if let Some(c) = first_free(seed, outline, 1.0, tried, earlier) {
         return c;
     }
-    let wide = first_free(
-        seed, w, h, f, buffer, 2.0, tried, unit, boxes, keys, sorted, most,
-    );
-    if let Some(c) = wide {
+    if let Some(c) = first_free(seed, outline, 2.0, tried, earlier) {
         return c;
     }
-    let widest = first_free(
-        seed, w, h, f, buffer, 4.0, tried, unit, boxes, keys, sorted, most,
-    );
-    widest.unwrap_or(seed)
+    first_free(seed, outline, 4.0, tried, earlier).unwrap_or(seed)
 }

@@ -11,6 +11,7 @@ use float::small::{max, min};
 pub mod entry;
 
 // A point of the drawing.
+// A piece is its two ends p and q where it is handed on, as 01's sentences and the definitions take it: a struct of the two would be made for each call and taken apart in each contract. (The `Piece` of `first_hit` has two stations too.)
 #[derive(Clone, Copy)]
 pub struct Point {
     pub x: f64,
@@ -52,9 +53,11 @@ pub fn shrunk(b: Box) -> Box
 }
 
 // The part from t0 to t1, unless it is turned round.
+#[tactic(auto, unfolding(crate::specs::Clip::part))]
 fn part(t0: f64, t1: f64) -> Option<(f64, f64)>
     ensures { result ≡ part t0 t1 }
 {
+    // no `then_some`: of a NaN both t1 < t0 and t0 <= t1 are false, so it would be asked of `!(t1 < t0)`
     if t1 < t0 { None } else { Some((t0, t1)) }
 }
 
@@ -76,6 +79,7 @@ fn clip_by(p: f64, q: f64, c: Option<(f64, f64)>) -> Option<(f64, f64)>
 }
 
 // What a box leaves of the piece from p to q: the part between two places on it, or nothing.
+#[tactic(auto, unfolding(crate::specs::Clip::clipped))]
 fn clipped(p: Point, q: Point, b: Box) -> Option<(f64, f64)>
     ensures { result ≡ clipped p q b }
 {
@@ -88,6 +92,7 @@ fn clipped(p: Point, q: Point, b: Box) -> Option<(f64, f64)>
 }
 
 // Whether the piece from p to q meets the box.
+#[tactic(auto, unfolding(crate::specs::Clip::hits))]
 pub fn piece_hits(p: Point, q: Point, b: Box) -> bool
     ensures { result ≡ hits p q b }
 {
@@ -111,7 +116,7 @@ pub fn segment_hits_box(p: Point, q: Point, b: &[f64]) -> bool
     )
 }
 
-// The element i, a NaN past the end.
+// The element i, a NaN past the end. (`order` `at` says why it is no generic function.)
 pub fn number_at(list: &[f64], i: usize) -> f64
     ensures { result ≡ get_or list.now i nan }
 {

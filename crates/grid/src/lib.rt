@@ -65,7 +65,7 @@ pub fn chain_of(g: Grid, b: Box) -> usize
     1 + r * g.columns + c
 }
 
-// The grid that the list holds.
+// The grid that the list holds: the numbers 1 to 6 of a lent list, as `box_cells` `put_grid` writes them.
 #[tactic(auto, unfolding(crate::specs::Stages::Cells::grid_in))]
 pub fn grid_of(k: usize, frames: &[f64], index: &[u32]) -> Grid
     requires { 4 * k ≤ length frames.now }

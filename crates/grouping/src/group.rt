@@ -7,6 +7,7 @@ ghost use Rattle.grouping.specs.Stages.Grouped.{Started, Copied, Grouped};
 use order::{at, key_at, number, sort_by_key};
 
 // The channel of each crossing, as its key.
+#[tactic(auto, using(crate::proofs::Tabling::table_start, crate::proofs::Tabling::table_end), unfolding(order::specs::Table::strided))]
 fn channel_keys(numbers: &[u32], keys: &mut [u64])
     requires { length keys.old ≤ 2 ^ 32 }
     ensures { keys.new ≡ strided 3 0 0 (length keys.old) numbers.now }
@@ -35,6 +36,7 @@ fn start_of(keys: &[u64], order: &[u32], c: usize) -> usize
 }
 
 // Where each channel's crossings begin in the order by channel, one past the last channel included.
+// `ends` is written, here, in `group_all` and in `group`, so its room is asked as the slice's own.
 fn put_starts(m: usize, channels: usize, keys: &[u64], order: &[u32], ends: &mut [u32])
     requires m_bound { (length order.now < 2 ^ 32) × (4 * (m + channels) + 4 ≤ length ends.old) }
     requires order_value { order.now ≡ round_of keys.now }
@@ -45,7 +47,7 @@ fn put_starts(m: usize, channels: usize, keys: &[u64], order: &[u32], ends: &mut
     }
 }
 
-// Groups all crossings by channel; the last three lists are as long as there are crossings. That `sorted` and `spare` are as long as `keys` is asked and no struct's fact: behind its `&mut` lists of other lengths could be put.
+// Groups all crossings by channel; the last three lists are as long as there are crossings. `sorted` and `spare` are written, so that they are as long as `keys` is asked as the slices' own.
 fn group_all(
     m: usize,
     channels: usize,
@@ -66,7 +68,7 @@ fn group_all(
 }
 
 // Groups as many crossings as `keys` is long by channel: the third number of each, and behind the branches where each channel's begin; the last three are work lists.
-// `ends`, `numbers`, `sorted`, `spare` and `keys` are written: behind the `&mut` of a struct other lists could be put, so each contract would have to say that it keeps the lists and their lengths.
+// `ends`, `numbers`, `sorted`, `spare` and `keys` are written: behind the `&mut` of a struct other lists could be put, so each contract would have to say of each list that it is the one that was lent.
 pub fn group(
     m: usize,
     channels: usize,

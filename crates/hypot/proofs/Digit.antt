@@ -1,11 +1,10 @@
 -- A square root, one digit at a time. Assumes nothing.
 use mathlib.Core.Path.{◌≡◌, sym, ap, ◌∙◌, subst}
 use Prim.Native.Nat.{ℕ, ◌+◌, ◌-◌, ◌*◌, ◌/◌, ◌%◌, ◌^◌, ◌≤◌, ◌<◌}
-use native.Mathlib.Nat.{le_trans, le_of_eq, lt_of_lt_of_le, mul-le-mul_right, le-mul_of_pos_right, le_refl, div-eq_of_lt, div-one, sub_self}
+use native.Mathlib.Nat.{le_trans, le_of_eq, lt_of_lt_of_le, mul-le-mul_right, le-mul_of_pos_right, le_refl, div-eq_of_lt, sub_self}
 use native.Mathlib.Omega.{arith}
 use native.Mathlib.Decide.{dec_le}
 use lib.Pow.{pow_pos, pow-add, shr-shr}
-use Rattle.float.specs.Stages.Steps.{IsRoot}
 
 -- 1 where 4 * root + 1 is at most 4 * rest + d
 abbrev pub bit : ℕ → ℕ → ℕ → ℕ
@@ -67,9 +66,6 @@ abbrev pub digit_at : ℕ → ℕ → ℕ
 digit_at w i = w / 2 ^ (2 * (i - 1)) % 4
 
 module _ (w n root₀ rest₀ root rest i : ℕ) (v : Inv w n root₀ rest₀ root rest i) (P : 0 < i) where
-  back : i ≡ i - 1 + 1
-  back = omega arith
-
   pub turn : Step root rest (digit_at w i) (bit root rest (digit_at w i))
   turn = step root rest (digit_at w i) (below (w / 2 ^ (2 * (i - 1)))) v.left (lt_of_lt_of_le (in_range w n root₀ rest₀ root rest i v) wide)
     where
@@ -123,15 +119,3 @@ module _ (w n root₀ rest₀ root rest i : ℕ) (v : Inv w n root₀ rest₀ ro
         where
           flat : (v a p u u' : ℕ) → v ≡ a * p + u → u ≡ u' / 4 → 4 * v + u' % 4 ≡ a * (p * 4) + u'
           flat v a p u u' h f = omega arith
-
-pub at_end : (w n root₀ rest₀ root rest i : ℕ) → Inv w n root₀ rest₀ root rest i → i ≤ 0 → IsRoot root rest ((root₀ * root₀ + rest₀) * 2 ^ (2 * n) + w)
-at_end w n root₀ rest₀ root rest i v h = record {
-  sum = v.sum ∙ ap (λ (k : ℕ). (root₀ * root₀ + rest₀) * 2 ^ (2 * (n - k)) + w / 2 ^ (2 * k)) (none i h) ∙ ap (λ (k : ℕ). (root₀ * root₀ + rest₀) * 2 ^ (2 * k) + w / 1) (all n) ∙ ap (λ (k : ℕ). (root₀ * root₀ + rest₀) * 2 ^ (2 * n) + k) (div-one w);
-  left = v.left;
-}
-  where
-    none : (i : ℕ) → i ≤ 0 → i ≡ 0
-    none i h = omega arith
-
-    all : (n : ℕ) → n - 0 ≡ n
-    all n = omega arith

@@ -8,6 +8,7 @@ use lib.Pow.{pow_pos, pow-add, pow_mono}
 use Rattle.float.specs.Stages.Steps.{Close}
 use Rattle.hypot.proofs.Words.{square_lt, cut_le}
 use Rattle.float.proofs.Rounding.{sq_lt_back}
+use Rattle.float.proofs.Whole.{at_inf, at_inf_2, at_nan, at_nan_2, no_nan_bits}
 
 -- `Close` with the number in place of the power
 abbrev Near : ℕ → ℕ → ℕ → ℕ → Type 0
@@ -151,3 +152,6 @@ cut_lt n d h = lt_of_lt_of_le (mod-lt n (pow_pos (2 * d))) (pow_mono (less d h))
   where
     less : (d : ℕ) → d < 27 → 2 * d ≤ 54
     less d h = omega arith
+
+-- an argument that is infinite or NaN, and that a length of bits is a number
+pub ruleset special_laws = (at_inf, at_inf_2, at_nan, at_nan_2, no_nan_bits)

@@ -1,7 +1,8 @@
 -- The bits of the nearest f64 to a root. Assumes nothing.
 use mathlib.Core.Path.{◌≡◌, sym, ap, ◌∙◌, subst}
-use Prim.Native.Nat.{ℕ, ◌+◌, ◌*◌, ◌/◌, ◌%◌, ◌^◌, ◌≤◌, ◌<◌}
-use native.Mathlib.Nat.{le_of_lt, le_refl}
+use Prim.Native.Nat.{ℕ, min, ◌+◌, ◌*◌, ◌/◌, ◌%◌, ◌^◌, ◌≤◌, ◌<◌}
+use native.Mathlib.Decide.{dec_le}
+use native.Mathlib.Nat.{le_of_lt, le_refl, min-eq_left, min-eq_right}
 use native.Mathlib.Omega.{arith}
 use mathlib.Core.Bool.{Bool, true, false, cond}
 use lib.Dec.{eqb}
@@ -35,17 +36,24 @@ module _ (r x e u : ℕ) (small : r < 2 ^ 54) (normal : 0 < e → 2 ^ 53 ≤ r) 
   is : (n : ℕ) → Close n r x e → units binary64 false (r / 2 + u) e ≡ nearest_root n
   is n c = ap (λ (a : ℕ). units binary64 false (r / 2 + a) e) up ∙ sym (nearest_is n r x e c small normal)
 
-  pub packed_under : e * 2 ^ 52 + (r / 2 + u) < 0x7ff0_0000_0000_0000 → Nearest (e * 2 ^ 52 + (r / 2 + u)) r x e
+  packed_under : e * 2 ^ 52 + (r / 2 + u) < 0x7ff0_0000_0000_0000 → Nearest (e * 2 ^ 52 + (r / 2 + u)) r x e
   packed_under h = record {
     number = le_of_lt h;
     value = λ n c. bits_under (r / 2 + u) e kept_le kept_ge h ∙ is n c;
   }
 
-  pub packed_over : 0x7ff0_0000_0000_0000 ≤ e * 2 ^ 52 + (r / 2 + u) → Nearest 0x7ff0_0000_0000_0000 r x e
+  packed_over : 0x7ff0_0000_0000_0000 ≤ e * 2 ^ 52 + (r / 2 + u) → Nearest 0x7ff0_0000_0000_0000 r x e
   packed_over h = record {
     number = le_refl 0x7ff0_0000_0000_0000;
     value = λ n c. bits_over (r / 2 + u) e kept_le kept_ge h ∙ is n c;
   }
+
+  pub packed_held : (b : ℕ) → b ≡ min (e * 2 ^ 52 + (r / 2 + u)) 0x7ff0_0000_0000_0000 → Nearest b r x e
+  packed_held b h = go (dec_le 0x7ff0_0000_0000_0000 (e * 2 ^ 52 + (r / 2 + u)))
+    where
+      go : Dec (0x7ff0_0000_0000_0000 ≤ e * 2 ^ 52 + (r / 2 + u)) → Nearest b r x e
+      go (yes k) = subst (λ (z : ℕ). Nearest z r x e) (sym (h ∙ min-eq_right k)) (packed_over k)
+      go (no f) = let k : e * 2 ^ 52 + (r / 2 + u) < 0x7ff0_0000_0000_0000 = omega arith in subst (λ (z : ℕ). Nearest z r x e) (sym (h ∙ min-eq_left (le_of_lt k))) (packed_under k)
 
 pub nearest_halved : (b r x e : ℕ) → Nearest b (r / 2) (x + r % 2) (e + 1) → Nearest b r x e
 nearest_halved b r x e h = record {

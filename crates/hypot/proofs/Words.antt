@@ -35,9 +35,6 @@ module _ (hi lo s : ℕ) (H : hi < 2 ^ 54) (L : lo < 2 ^ 54) (S : s ≤ 54) wher
   pub top_back : hi / 2 ^ s * 2 ^ s % 2 ^ 64 ≡ hi / 2 ^ s * 2 ^ s
   top_back = mod-eq_of_lt (lt_of_le_of_lt (div-mul-le_self hi (2 ^ s)) (lt_of_lt_of_le H (lit≤ tt)))
 
-  low_part : ℕ
-  low_part = hi % 2 ^ s * 2 ^ (54 - s)
-
   gap : (a b p q m : ℕ) → a < p → p * q ≡ m → b < q → a * q + b < m
   gap a b p q m h e k = lt_of_lt_of_le (near a b q k) (le_trans (mul-le-mul_right q h) (le_of_eq e))
     where

@@ -24,6 +24,7 @@ pub struct Part {
 pub struct Wide {
     pub hi: u64,
     pub lo: u64,
+    pub ghost low: { lo < 2 ^ 54 },
 }
 
 // A square root's whole part, and what is left of the number.
@@ -50,6 +51,7 @@ fn unpacked(p: u64) -> Part
 }
 
 // v * v.
+#[tactic(auto, using(crate::proofs::Words::square_is))]
 fn square(v: u64) -> Wide
     requires { v < 2 ^ 54 }
     ensures { IsWide result.hi result.lo (v * v) }
@@ -65,9 +67,8 @@ fn square(v: u64) -> Wide
 }
 
 // w / 2 ^ s.
-// The bound is that of one sum's low word: the three functions hand it on, and a type of its own would say no more.
 fn shifted(w: Wide, s: u64) -> Wide
-    requires { (w.hi < 2 ^ 54) × (w.lo < 2 ^ 54) × (s ≤ 54) }
+    requires { (w.hi < 2 ^ 54) × (s ≤ 54) }
     ensures { IsWide result.hi result.lo ((w.hi * 2 ^ 54 + w.lo) / 2 ^ s) }
 {
     let hi = w.hi;
@@ -81,7 +82,7 @@ fn shifted(w: Wide, s: u64) -> Wide
 
 // v + w.
 fn sum(v: Wide, w: Wide) -> Wide
-    requires { (v.hi < 2 ^ 54) × (v.lo < 2 ^ 54) × (w.hi < 2 ^ 54) × (w.lo < 2 ^ 54) }
+    requires { (v.hi < 2 ^ 54) × (w.hi < 2 ^ 54) }
     ensures { IsWide result.hi result.lo (v.hi * 2 ^ 54 + v.lo + (w.hi * 2 ^ 54 + w.lo)) }
 {
     let l = v.lo + w.lo;
@@ -130,10 +131,7 @@ fn packed(r: u64, x: u64, e: u64) -> u64
     let q = r / 2;
     let n = q + up(q, r % 2, x);
     let b = e * 0x10_0000_0000_0000 + n;
-    if b < 0x7ff0_0000_0000_0000 {
-        return b;
-    }
-    0x7ff0_0000_0000_0000
+    b.min(0x7ff0_0000_0000_0000)
 }
 
 // The same for an r of one or two digits more.
@@ -265,7 +263,7 @@ fn word_root(w: u64) -> Root
 
 // The root of w: by quotients, or digit by digit where w is so small that its sides are subnormal.
 fn wide_root(w: Wide) -> Root
-    requires { (w.hi < 2 ^ 56) × (w.lo < 2 ^ 54) }
+    requires { w.hi < 2 ^ 56 }
     ensures { IsRoot result.root result.rest (w.hi * 2 ^ 54 + w.lo) }
 {
     let lo = w.lo;
@@ -282,6 +280,7 @@ fn wide_root(w: Wide) -> Root
 }
 
 // The bits of the hypotenuse of sides whose exponents are less than 27 apart.
+#[tactic(auto, using(crate::proofs::Words::root_lt, crate::proofs::Lengths::squares_lt, crate::proofs::Lengths::root_ge, crate::proofs::Lengths::cut_lt))]
 fn near(x: Part, y: Part) -> u64
     requires sides { Sides x.m x.e y.m y.e }
     requires e_bound { x.e < y.e + 27 }
@@ -293,6 +292,7 @@ fn near(x: Part, y: Part) -> u64
 }
 
 // The same of exponents that are further apart, where the shorter side adds less than half a digit to the longer.
+#[tactic(auto, using(crate::proofs::Lengths::far_close))]
 fn far(x: Part, y: Part) -> u64
     requires sides { Sides x.m x.e y.m y.e }
     requires e_bound { y.e + 27 ≤ x.e }
@@ -302,6 +302,7 @@ fn far(x: Part, y: Part) -> u64
 }
 
 // The bits of the hypotenuse, from the bits of the sides, p the longer.
+#[tactic(auto, using(float::proofs::Whole::exponents, float::proofs::Whole::sides, float::proofs::Whole::length_at))]
 fn bits_of(p: u64, q: u64) -> u64
     requires { (q ≤ p) × (p < 0x7ff0_0000_0000_0000) }
     ensures { Length result (grains (of_bits binary64 p)) (grains (of_bits binary64 q)) }
@@ -314,10 +315,11 @@ fn bits_of(p: u64, q: u64) -> u64
     far(x, y)
 }
 
+#[tactic(auto, using(crate::proofs::Lengths::special_laws))]
 pub fn hypot(x: f64, y: f64) -> f64
     ensures { result ≡ hypot_of x y }
 {
-    let i = f64::from_bits(0x7ff0_0000_0000_0000);
+    let i = f64::INFINITY;
     let a = abs(x);
     let b = abs(y);
     if a == i {

@@ -1,6 +1,8 @@
 -- The whole call from its parts: the answer and every lent list.
 -- Assumes nothing.
 use mathlib.Core.Path.{◌≡◌, sym, ◌∙◌}
+use Prim.Native.Nat.{ℕ, min}
+use native.Mathlib.Omega.{arith}
 use lib.ListN.{length}
 use Rattle.options.specs.declared.Options.{Options}
 use Rattle.std.specs.Prelude.{Some, None, Result, Err}
@@ -56,3 +58,10 @@ call_late_lem o N L L' W U W' X Y X' a e D w A x B =
     let y : X' ≡ cleared_crossings X = x ∙ cleared_level Y X B in
     let h : call a L' W' X' ≡ layout_of o N L W X = rw (sym e, D.answer_is, D.lists_are, v, y) in
     answered o N L W X (call a L' W' X') h
+
+-- the least of six, by pairs
+pub least : (a b c d e f : ℕ) → min (min (min a b) c) (min (min d e) f) ≡ min a (min b (min c (min d (min e f))))
+least a b c d e f = simp assoc
+  where
+    assoc : (a b c : ℕ) → min (min a b) c ≡ min a (min b c)
+    assoc a b c = omega arith

@@ -11,12 +11,13 @@ use drawing::room::Room;
 use finish::finish;
 use layout_limits::refuse::check_input;
 use mesh::Mesh;
-use network::lists::{Bounded, Network};
+use network::lists::{Bounded, FewPlaced, Network, Placed};
 use network::words::station_count;
 use options::Options;
 use refusals::Refusal;
 
 // How many crossings the crossing list holds: as many as each of its six lists.
+#[tactic(auto, using(crate::proofs::Calls::least), unfolding(drawing::specs::Answer::crossing_room))]
 fn crossing_room(room: Room) -> usize
     ensures { result ≡ crossing_room room }
 {
@@ -29,6 +30,7 @@ fn crossing_room(room: Room) -> usize
 
 // Draws the network into the lent lists.
 // The lists stand as C hands them over, each with its length.
+#[tactic(auto, using(drawing::proofs::Fitting::fits_of, drawing::proofs::Fitting::room_parts))]
 pub fn tx_schematic_layout<'a>(
     positions: &mut [f64],
     bars: &mut [f64],
@@ -127,9 +129,13 @@ pub fn tx_schematic_layout<'a>(
     let a = finish(
         o,
         &net,
-        k,
-        stations,
-        frames,
+        &FewPlaced {
+            placed: Placed {
+                k,
+                stations,
+                frames,
+            },
+        },
         sorted,
         room,
         course,

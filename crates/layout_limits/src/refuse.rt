@@ -25,7 +25,7 @@ fn short_results(n: usize, m: usize, k: usize, room: Room) -> bool
 }
 
 // Whether a work list is too short for n buses, m branches and the mesh length.
-// n, m and the mesh length are bounded by what `check_shape` passed: a struct of them would be made for two tests.
+// n and m are bounded by what `check_shape` passed, the mesh length by `mesh_length`; here and in `short_results` a struct of them would be made for these two tests.
 #[tactic(auto, unfolding(drawing::specs::Answer::short_work))]
 fn short_work(n: usize, m: usize, mesh: usize, room: Room) -> bool
     requires { (n ≤ 4096) × (m ≤ 8192) × (mesh ≤ 24576) }
@@ -53,6 +53,7 @@ fn mesh_length(corners: &[u32]) -> usize
 }
 
 // 1 to 7 and 15.
+#[tactic(auto, using(refusals::proofs::Shapes::shape_fits, std::proofs::lemmas::Result::err_from_is_err_and), unfolding(drawing::specs::Answer::early))]
 pub fn check_input(o: Options, net: &Network<'_>, room: Room) -> Result<(), Refusal>
     ensures { result_err result ≡ early o (network net.now.sub.now net.now.kv.now net.now.from.now net.now.to.now net.now.service.now net.now.xy.now net.now.mesh.corners.now net.now.mesh.twins.now) room }
 {

@@ -1,9 +1,10 @@
 // A call of layout with lists that are just long enough for 4,096 buses of one station, without branches and mesh.
 use layout::call::tx_schematic_layout;
 use options::Options;
+use refusals::Refusal;
 
-// The answer's number of these buses.
-pub(crate) fn number_of(o: Options, sub: &[u32], kv: &[u64], xy: &[f64]) -> u32 {
+// Whether these buses are drawn, or why they aren't.
+pub(crate) fn answer_of(o: Options, sub: &[u32], kv: &[u64], xy: &[f64]) -> Result<(), Refusal> {
     let mut positions = [0.0; 8192];
     let mut bars = [0.0; 16384];
     let mut boxes = [0.0; 8];
@@ -24,7 +25,7 @@ pub(crate) fn number_of(o: Options, sub: &[u32], kv: &[u64], xy: &[f64]) -> u32 
     let mut crossing_numbers = [0; 1];
     let mut crossing_places = [0.0; 1];
     let mut crossing_ways = [0.0; 1];
-    let answer = tx_schematic_layout(
+    tx_schematic_layout(
         &mut positions,
         &mut bars,
         &mut boxes,
@@ -54,9 +55,6 @@ pub(crate) fn number_of(o: Options, sub: &[u32], kv: &[u64], xy: &[f64]) -> u32 
         xy,
         &[],
         &[],
-    );
-    match answer {
-        Ok(_) => 0,
-        Err(r) => r.number(),
-    }
+    )
+    .map(|_| ())
 }

@@ -7,27 +7,28 @@ ghost use Rattle.std.specs.Prelude.{◌≤◌};
 
 mod call;
 
-use call::number_of;
+use call::answer_of;
 use options::{Gaps, Options};
+use refusals::Refusal;
 use std::io;
 
-// The answer's number of n buses of one station at (0, 0).
-fn of_buses(n: usize) -> u32
+// The answer for n buses of one station at (0, 0).
+fn of_buses(n: usize) -> Result<(), Refusal>
     requires { n ≤ 4097 }
 {
     let sub = [0; 4097];
     let kv = [1; 4097];
     let xy = [0.0; 8194];
-    number_of(Options::default(), &sub[..n], &kv[..n], &xy[..2 * n])
+    answer_of(Options::default(), &sub[..n], &kv[..n], &xy[..2 * n])
 }
 
-// The answer's number of two stations, at (0, 0) and (x, 0), by these options.
-fn of_two(o: Options, x: f64) -> u32 {
-    number_of(o, &[0, 1], &[1, 1], &[0.0, 0.0, x, 0.0])
+// The answer for two stations, at (0, 0) and (x, 0), by these options.
+fn of_two(o: Options, x: f64) -> Result<(), Refusal> {
+    answer_of(o, &[0, 1], &[1, 1], &[0.0, 0.0, x, 0.0])
 }
 
 // That of two stations on one seed, by their search, bar gap and buffer.
-fn of_settings(search: i32, bar_gap: f64, buffer: f64) -> u32 {
+fn of_settings(search: i32, bar_gap: f64, buffer: f64) -> Result<(), Refusal> {
     let d = Options::default();
     let gaps = Gaps {
         bar_gap,
@@ -38,7 +39,7 @@ fn of_settings(search: i32, bar_gap: f64, buffer: f64) -> u32 {
 }
 
 // That of two stations so far apart.
-fn of_distance(x: f64) -> u32 {
+fn of_distance(x: f64) -> Result<(), Refusal> {
     of_two(Options::default(), x)
 }
 
@@ -61,7 +62,12 @@ fn main(rt: HostRuntime) -> io::Result<()> {
             of_settings(10, 2.0, 8.000000000000002),
         ),
     ];
-    for (name, number) in tried {
+    for (name, answer) in tried {
+        // 0 where it is drawn, else the refusal's number
+        let number = match answer {
+            Ok(()) => 0,
+            Err(r) => r.number(),
+        };
         println!(rt; "{name}: {number}")?;
     }
     Ok(())

@@ -8,8 +8,7 @@ use native.Mathlib.Omega.{arith}
 use native.Mathlib.Nat.{pow-suc, mul-suc, mul-le-mul_right}
 use lib.Dec.{T, eqb, ltb, lit<}
 use lib.IntN.{ℤ}
-use lib.ListN.{length, drop, take, length-append, length-drop}
-use lib.Seq.{take-append_seam}
+use lib.ListN.{length, drop, length-append, length-drop}
 use borrow.Author.Tests.{ltb-true}
 use Rattle.listing.specs.declared.input.Counts.{Counts}
 use Rattle.std.specs.Prelude.{Some}
@@ -19,7 +18,6 @@ use Rattle.listing.specs.declared.line.Branch.{Branch}
 use Rattle.fields.specs.Field.{Read, got, wrong, digit, closed, digits_to, positive, whole, hexadecimal, pattern, minus, plus, bus_number}
 use Rattle.listing.specs.Line.{begins, bus_names, branch_names, and_then, bus_line, branch_line}
 use Rattle.listing.specs.Input.{Lines, lines, broken, lines_to, Buses, Branches, no_buses, no_branches, add_bus, add_branch, bus_lines, branch_lines, at_end, Input, with_buses, with_branches, parsed, read}
-use Rattle.order.specs.Over.{over}
 use Rattle.listing.specs.LinePlaces.{answer}
 use Rattle.fields.proofs.Fields.{on_test}
 use Rattle.fields.proofs.Bounds.{not_got, limited_got, digits_least}

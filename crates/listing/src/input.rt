@@ -85,17 +85,14 @@ fn bus_lines(
         put_bus(n, bus.value, sub, kv, xy);
         i = bus.next;
     }
-    if at_names(text, i) {
-        Some(Parsed {
-            value: BUSES,
-            next: i + 13,
-        })
-    } else {
-        None
-    }
+    at_names(text, i).then(|| Parsed {
+        value: BUSES,
+        next: i + 13,
+    })
 }
 
 // The branch lines from `at` on, to the end of the text: how many there are, and that end.
+// The lengths are asked as in `bus_lines`.
 #[tactic(auto, using(crate::proofs::Reading::branch_laws), unfolding(fields::specs::Stages::Places::field_of, crate::specs::Input::read, crate::specs::Input::counted))]
 fn branch_lines(
     text: &[u8],
@@ -119,14 +116,10 @@ fn branch_lines(
         put_branch(n, branch.value, from, to, live);
         i = branch.next;
     }
-    if text.len() <= i {
-        Some(Parsed {
-            value: BRANCHES,
-            next: i,
-        })
-    } else {
-        None
-    }
+    (text.len() <= i).then_some(Parsed {
+        value: BRANCHES,
+        next: i,
+    })
 }
 
 // The text's network, or, where the text is malformed, what stands before the first malformed line.

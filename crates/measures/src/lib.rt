@@ -11,6 +11,7 @@ ghost use Rattle.sizes.specs.Stages.Views.{sizes_in, scales_in, row_counts_in};
 use neighbours::points::Points;
 use network::lists::Stations;
 use options::{Gaps, Options};
+use sizes::Measured;
 
 // What interiors are measured by: the unit, and the gaps in blocks.
 #[derive(Clone, Copy)]
@@ -21,8 +22,9 @@ pub struct Measures {
 
 // The unit of the first k stations, and the size and scale of each in blocks. `stations` has the bus count and the row count of each,
 // `places` the seeds. The other lists are work lists.
-// `blocks`, `frames`, `path`, `keys`, `sorted` and `spare` are written: behind one `&mut` a struct of them could hold other lists afterwards, so its contract would have to say of each that it is as long as before.
+// `blocks`, `frames`, `path`, `keys`, `sorted` and `spare` are written: behind one `&mut` a struct of them could hold other lists afterwards, so its contract would have to say of each that it is the one that was lent.
 // The bound of k is no ghost field of `Stations`: `sizes`, `units::coordinates` and `scales` take one of any k.
+// `places` is asked to hold two numbers of each station, as in `units::coordinates`, for the reason that stands there.
 pub fn units(
     o: Options,
     stations: &Stations<'_>,
@@ -43,7 +45,12 @@ pub fn units(
     let n = units::coordinates(stations, places, path);
     let points = Points { n, xy: path };
     let spacing = units::spacing(&points, frames, keys, sorted, spare);
-    let side = units::typical(stations, blocks, frames, keys, sorted, spare);
+    let measured = Measured {
+        k: stations.k,
+        counts: stations.counts,
+        blocks,
+    };
+    let side = units::typical(&measured, frames, keys, sorted, spare);
     scales::scales(o, stations, &points, spacing, blocks, keys, sorted, spare);
     units::unit_for(o.fill, spacing, side)
 }

@@ -1,5 +1,5 @@
 -- What follows from a test of two parts. Assumes nothing.
-use mathlib.Core.Path.{◌≡◌, sym}
+use mathlib.Core.Path.{◌≡◌}
 use mathlib.Core.Bool.{Bool, true, false, ◌||◌, true≢false}
 pub use Rattle.order.proofs.AllTo.{both}
 

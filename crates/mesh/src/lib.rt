@@ -74,7 +74,7 @@ fn twin_ok(mesh: &Mesh<'_>, h: u32) -> bool
     ensures { result ≡ twin_ok mesh.now.corners.now mesh.now.twins.now h }
 {
     let g = at(mesh.twins, h as usize);
-    if g == 4294967295 {
+    if g == u32::MAX {
         return true;
     }
     pairs(mesh, h, g)

@@ -59,3 +59,6 @@ module _ {A : Type 0} (f : ℕ → A) (o : List ℕ) (n : ℕ) (d₀ : List A) w
           at i h =
               let q = p i h in
               get_or-take n d i (f 0) h ∙ ap (λ (t : ℕ). get_or d t (f 0)) (sym q.2) ∙ k.done (f 0) q.0 q.1 ∙ ap f q.2 ∙ sym (get_d_table f n i (f 0) h)
+
+-- a list filled from its front
+pub ruleset fill_laws = (fill_none, fill_more)

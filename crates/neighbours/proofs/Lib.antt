@@ -2,7 +2,7 @@
 pub mod Scans
 pub mod Fills
 mod Leasts
-mod Places
+pub mod Places
 mod Stops
 mod Sweeps
 mod Numbers

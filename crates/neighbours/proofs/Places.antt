@@ -1,12 +1,12 @@
 -- The numbers of points by rising x: each stands at one place, and x does not fall. Assumes nothing.
 use mathlib.Core.Path.{◌≡◌, refl, sym, ap, ◌∙◌, subst}
 use mathlib.Core.Bool.{Bool}
-use mathlib.Core.List.{List, [], ◌∷◌}
-use Prim.Native.Nat.{ℕ, zero, suc, ◌-◌, ◌≤◌, ◌<◌}
+use mathlib.Core.List.{List, [], ◌∷◌, ◌++◌}
+use Prim.Native.Nat.{ℕ, zero, suc, ◌+◌, ◌-◌, ◌≤◌, ◌<◌}
 use native.Mathlib.Omega.{arith}
 use lib.Dec.{T}
-use lib.ListN.{length, get_or}
-use lib.Seq.{get_or-take}
+use lib.ListN.{length, get_or, take, drop, length-append}
+use lib.Seq.{get_or-take, get_or-drop, get_or_at, take_at, take-take}
 use lib.Ieee.{Float, le}
 use Rattle.order.specs.Order.{pick, sort_by, up_from, count, rank}
 use Rattle.order.specs.Table.{how_many}
@@ -14,6 +14,24 @@ use Rattle.order.proofs.Merging.{length_sort}
 use Rattle.order.proofs.Laws.{length_up, sorted, below_sort, place_law, rank_found, count_sort}
 use Rattle.order.proofs.Tables.{how_many_ext}
 use Rattle.neighbours.specs.Stages.Sweep.{x_at, x_key, Swept}
+
+-- the elements from place a to before n, lent as a part of a list
+pub in_part : (o : List ℕ) (a n i : ℕ) → i < n - a → get_or (take (n - a) (drop a o)) i 0 ≡ get_or o (a + i) 0
+in_part o a n i h = get_or-take (n - a) (drop a o) i 0 h ∙ get_or-drop a o i 0
+
+-- what is left, r, of the front of a list that is read from its end: the last element read, j, and what is left after it
+module _ (r s : List ℕ) (j : ℕ) (f : r ≡ s ++ j ∷ []) where
+  pub back_length : length r ≡ length s + 1
+  back_length = ap length f ∙ length-append s (j ∷ [])
+
+  module _ (o : List ℕ) (e : r ≡ take (length r) o) where
+    pub back_rest : s ≡ take (length s) o
+    back_rest =
+        sym (take_at s (j ∷ []) (length s) refl) ∙ ap (take (length s)) (sym f ∙ e) ∙ take-take (length s) (length r) o (omega (arith, back_length))
+
+    pub back_item : j ≡ get_or o (length s) 0
+    back_item =
+        sym (get_or_at s j [] 0 (length s) refl) ∙ ap (λ (l : List ℕ). get_or l (length s) 0) (sym f ∙ e) ∙ get_or-take (length r) o (length s) 0 (omega (arith, back_length))
 
 -- a count by places
 count_later : (p : ℕ → Bool) (a n : ℕ) → count p (up_from (suc a) n) ≡ count (λ q. p (suc q)) (up_from a n)
@@ -35,6 +53,10 @@ module _ (ps : List Float) (n : ℕ) (o : List ℕ) (S : Swept ps n o) where
 
   pub place_below : (q : ℕ) → q < n → get_or o q 0 < n
   place_below q h = subst (λ (j : ℕ). j < n) (sym (at_place q h)) (below_sort (x_key ps) n q h)
+
+  -- the last element of what is left of their front
+  pub back_below : (r s : List ℕ) (j : ℕ) → r ≡ s ++ j ∷ [] → r ≡ take (length r) o → length r ≤ n → j < n
+  back_below r s j f e h = subst (λ (i : ℕ). i < n) (sym (back_item r s j f o e)) (place_below (length s) (omega (arith, back_length r s j f)))
 
   pub place_rising : (i j : ℕ) → i ≤ j → j < n → T (le (x_at ps (get_or o i 0)) (x_at ps (get_or o j 0)))
   place_rising i j h k =

@@ -11,8 +11,9 @@ use Rattle.float.specs.Hypot.{hypot_of}
 use Rattle.float.specs.Ops.{◌⊖◌, f0}
 use Rattle.order.specs.Order.{pick}
 use Rattle.order.specs.Table.{how_many}
-use Rattle.order.proofs.Tables.{how_many_yes, how_many_no, how_many_le}
+use Rattle.order.proofs.Tables.{how_many_yes, how_many_no, how_many_le, how_many_zero}
 use Rattle.proximity.specs.Near.{distance, nearer, nearest_to, near, within, neighbours}
+use Rattle.float.proofs.Signs.{inf_bits}
 
 module _ (ps : List Float) (i : ℕ) where
   -- the distance to point j, as the code has it
@@ -62,3 +63,9 @@ module _ (ps : List Float) (n : ℕ) (radius : Float) (i : ℕ) where
       go : (b : Bool) → pick b (within ps n radius i) 0 ≤ n
       go true = within_le
       go false = zero-le
+
+-- points near point i, one more each time
+pub ruleset near_laws = (how_many_zero, near_same, near_more, near_less)
+
+-- the nearest distance, one point more each time
+pub ruleset nearest_laws = (inf_bits, nearest_same, nearest_other)

@@ -3,7 +3,7 @@ use mathlib.Core.Path.{◌≡◌, refl, sym, ap, ◌∙◌, subst}
 use mathlib.Core.Logic.{◌⊎◌, inl, inr, ⊎_elim}
 use mathlib.Core.Bool.{Bool, true, false, not, ◌&&◌}
 use mathlib.Core.List.{List}
-use Prim.Native.Nat.{ℕ, zero, suc, ◌+◌, ◌-◌, ◌*◌, ◌^◌, ◌≤◌, ◌<◌}
+use Prim.Native.Nat.{ℕ, zero, suc, ◌+◌, ◌*◌, ◌^◌, ◌≤◌, ◌<◌}
 use native.Mathlib.Omega.{arith}
 use native.Mathlib.Nat.{eq-or-lt_of_le}
 use native.Mathlib.Numerals.{add-one}
@@ -48,49 +48,71 @@ module _ (c : ℕ) where
       under : q < h + 1 → q ≤ h
       under l = omega arith
 
-  first_or : (l hi q : ℕ) → 0 < l → Others c (l - 1) hi q → Others c l hi q ⊎ (q ≡ l - 1)
-  first_or l hi q p z = ⊎_elim (λ e. inr (sym e)) (λ k. inl (over k, z.1, z.2)) (eq-or-lt_of_le z.0)
+  first_or : (l hi q : ℕ) → Others c l hi q → Others c (l + 1) hi q ⊎ (q ≡ l)
+  first_or l hi q z = ⊎_elim (λ e. inr (sym e)) (λ k. inl (over k, z.1, z.2)) (eq-or-lt_of_le z.0)
     where
-      over : l - 1 < q → l ≤ q
+      over : l < q → l + 1 ≤ q
       over k = omega arith
+
+-- whether a point is in reach, by the number j that the scan reads at place h
+pub reach_by : (ps : List Float) (o : List ℕ) (x y radius : Float) (h j : ℕ) (v : Bool) → j ≡ get_or o h 0
+    → v ≡ le (hypot_of (get_or ps (2 * j) nan ⊖ x) (get_or ps (2 * j + 1) nan ⊖ y)) radius → v ≡ in_reach ps o x y radius h
+reach_by ps o x y radius h j v e m = m ∙ ap (λ (i : ℕ). le (hypot_of (get_or ps (2 * i) nan ⊖ x) (get_or ps (2 * i + 1) nan ⊖ y)) radius) e
 
 -- ---- the least distance along the order
 module _ (ps : List Float) (n : ℕ) (o : List ℕ) (x y : Float) (c : ℕ) where
   fit : (q : ℕ) → T (fits binary64 (away ps o x y q))
   fit q = hypot_fits (get_or ps (2 * get_or o q 0) nan ⊖ x) (get_or ps (2 * get_or o q 0 + 1) nan ⊖ y)
 
-  pub least_start : Least (away ps o x y) (Others c c (c + 1)) (inf false)
-  least_start = least_none (away ps o x y) fit (Others c c (c + 1)) (λ q z. z.2 (omega (arith, z.0, z.1)))
+  pub least_start : (h : ℕ) → h ≡ c + 1 → Least (away ps o x y) (Others c c h) (inf false)
+  least_start h e = least_none (away ps o x y) fit (Others c c h) (λ q z. z.2 (omega (arith, z.0, z.1)))
 
-  pub least_right : (h : ℕ) (b : Float) → c < h → Least (away ps o x y) (Others c c h) b → Least (away ps o x y) (Others c c (h + 1)) (nearer b (away ps o x y h))
+  least_right : (h : ℕ) (b : Float) → c < h → Least (away ps o x y) (Others c c h) b → Least (away ps o x y) (Others c c (h + 1)) (nearer b (away ps o x y h))
   least_right h b l k =
       least_more (away ps o x y) fit (Others c c h) (Others c c (h + 1)) b k (λ q z. (z.0, omega (arith, z.1), z.2)) h
       (omega arith, omega arith, λ e. omega arith) (last_or c c h)
 
-  pub least_left : (l : ℕ) (b : Float) → 0 < l → l ≤ c → c < n → Least (away ps o x y) (Others c l n) b → Least (away ps o x y) (Others c (l - 1) n) (nearer b (away ps o x y (l - 1)))
-  least_left l b p m u k =
-      least_more (away ps o x y) fit (Others c l n) (Others c (l - 1) n) b k (λ q z. (omega (arith, z.0), z.1, z.2)) (l - 1)
-      (omega arith, omega arith, λ e. omega arith) (λ q z. first_or c l n q p z)
+  -- by the number j that the scan reads at place h
+  pub right_by : (h q j : ℕ) (b v : Float) → j ≡ get_or o h 0 → q ≡ h + 1 → v ≡ nearer b (hypot_of (get_or ps (2 * j) nan ⊖ x) (get_or ps (2 * j + 1) nan ⊖ y)) → c < h
+      → Least (away ps o x y) (Others c c h) b → Least (away ps o x y) (Others c c q) v
+  right_by h q j b v e f g p k =
+      let z : v ≡ nearer b (away ps o x y h) = g ∙ ap (λ (i : ℕ). nearer b (hypot_of (get_or ps (2 * i) nan ⊖ x) (get_or ps (2 * i + 1) nan ⊖ y))) e in
+      subst (λ (t : ℕ). Least (away ps o x y) (Others c c t) v) (sym f) (subst (Least (away ps o x y) (Others c c (h + 1))) (sym z) (least_right h b p k))
+
+  least_left : (q : ℕ) (b : Float) → q < c → c < n → Least (away ps o x y) (Others c (q + 1) n) b → Least (away ps o x y) (Others c q n) (nearer b (away ps o x y q))
+  least_left q b m u k =
+      least_more (away ps o x y) fit (Others c (q + 1) n) (Others c q n) b k (λ i z. (omega (arith, z.0), z.1, z.2)) q
+      (omega arith, omega arith, λ e. omega arith) (first_or c q n)
+
+  -- by the number j that the scan reads at place q
+  pub left_by : (l q j : ℕ) (b v : Float) → j ≡ get_or o q 0 → l ≡ q + 1 → v ≡ nearer b (hypot_of (get_or ps (2 * j) nan ⊖ x) (get_or ps (2 * j + 1) nan ⊖ y)) → l ≤ c → c < n
+      → Least (away ps o x y) (Others c l n) b → Least (away ps o x y) (Others c q n) v
+  left_by l q j b v e f g m u k =
+      let z : v ≡ nearer b (away ps o x y q) = g ∙ ap (λ (i : ℕ). nearer b (hypot_of (get_or ps (2 * i) nan ⊖ x) (get_or ps (2 * i + 1) nan ⊖ y))) e in
+      subst (Least (away ps o x y) (Others c q n)) (sym z) (least_left q b (omega (arith, f)) u (subst (λ (t : ℕ). Least (away ps o x y) (Others c t n) b) f k))
 
   module _ (S : Swept ps n o) (X : is_finite x ≡ true) where
-    pub least_stop_right : (h : ℕ) (b : Float) → h ≤ n → Least (away ps o x y) (Others c c h) b → lt b (x_at ps (get_or o h 0) ⊖ x) ≡ true → Least (away ps o x y) (Others c c n) b
-    least_stop_right h b m k s =
+    pub least_stop_right : (h j : ℕ) (b : Float) → j ≡ get_or o h 0 → h ≤ n → Least (away ps o x y) (Others c c h) b → lt b (x_at ps j ⊖ x) ≡ true → Least (away ps o x y) (Others c c n) b
+    least_stop_right h j b e m k t =
         least_same (away ps o x y) fit (Others c c h) (Others c c n) b k (λ q z. (z.0, omega (arith, z.1, m), z.2)) (λ q z. go q z (le_or_lt h q))
       where
+        s : lt b (x_at ps (get_or o h 0) ⊖ x) ≡ true
+        s = subst (λ (i : ℕ). lt b (x_at ps i ⊖ x) ≡ true) e t
+
         go : (q : ℕ) → Others c c n q → (h ≤ q) ⊎ (q < h) → Others c c h q ⊎ (le (away ps o x y q) b ≡ false)
         go q z (inr g) = inl (z.0, g, z.2)
         go q z (inl g) = inr (stop_right ps n o S x y b X (least_above (away ps o x y) fit (Others c c h) b k) h s q g z.1)
 
-    pub least_stop_left : (l : ℕ) (b : Float) → 0 < l → l ≤ n → Least (away ps o x y) (Others c l n) b → lt b (neg (x_at ps (get_or o (l - 1) 0) ⊖ x)) ≡ true → Least (away ps o x y) (Others c 0 n) b
-    least_stop_left l b p m k s =
+    pub least_stop_left : (l h j : ℕ) (b : Float) → j ≡ get_or o h 0 → l ≡ h + 1 → l ≤ n → Least (away ps o x y) (Others c l n) b → lt b (neg (x_at ps j ⊖ x)) ≡ true → Least (away ps o x y) (Others c 0 n) b
+    least_stop_left l h j b e f m k t =
         least_same (away ps o x y) fit (Others c l n) (Others c 0 n) b k (λ q z. (omega arith, z.1, z.2)) (λ q z. go q z (le_or_lt l q))
       where
+        s : lt b (neg (x_at ps (get_or o h 0) ⊖ x)) ≡ true
+        s = subst (λ (i : ℕ). lt b (neg (x_at ps i ⊖ x)) ≡ true) e t
+
         go : (q : ℕ) → Others c 0 n q → (l ≤ q) ⊎ (q < l) → Others c l n q ⊎ (le (away ps o x y q) b ≡ false)
         go q z (inl g) = inl (g, z.1, z.2)
-        go q z (inr g) =
-            let u : l - 1 < n = omega arith in
-            let v : q ≤ l - 1 = omega arith in
-            inr (stop_left ps n o S x y b X (least_above (away ps o x y) fit (Others c l n) b k) (l - 1) u s q v)
+        go q z (inr g) = inr (stop_left ps n o S x y b X (least_above (away ps o x y) fit (Others c l n) b k) h (omega (arith, f, m)) s q (omega (arith, f, g)))
 
 -- ---- the least distance by the points' numbers
 module _ (ps : List Float) (i : ℕ) where
@@ -167,32 +189,30 @@ module _ (f : ℕ → Bool) where
 
 -- one place more to the right, and to the left
 module _ (f : ℕ → Bool) where
-  pub many_right : (a h k : ℕ) (v : Bool) → k + a ≡ how_many f h → v ≡ f h → v ≡ true → k + 1 + a ≡ how_many f (h + 1)
-  many_right a h k v e m y = rw (add-one h) (omega (arith, e, how_many_yes f h (sym m ∙ y)))
+  pub many_right : (a h q k : ℕ) (v : Bool) → q ≡ h + 1 → k + a ≡ how_many f h → v ≡ f h → v ≡ true → k + 1 + a ≡ how_many f q
+  many_right a h q k v g e m y = rw (g, add-one h) (omega (arith, e, how_many_yes f h (sym m ∙ y)))
 
-  pub none_right : (a h k : ℕ) (v : Bool) → k + a ≡ how_many f h → v ≡ f h → v ≡ false → k + a ≡ how_many f (h + 1)
-  none_right a h k v e m y = rw (add-one h) (e ∙ sym (how_many_no f h (sym m ∙ y)))
+  pub none_right : (a h q k : ℕ) (v : Bool) → q ≡ h + 1 → k + a ≡ how_many f h → v ≡ f h → v ≡ false → k + a ≡ how_many f q
+  none_right a h q k v g e m y = rw (g, add-one h) (e ∙ sym (how_many_no f h (sym m ∙ y)))
 
-  back : (l : ℕ) → 0 < l → how_many f l ≡ how_many f (suc (l - 1))
-  back l p = ap (how_many f) (omega arith)
+  pub many_left : (a l q k : ℕ) (v : Bool) → l ≡ q + 1 → k + how_many f l ≡ a → v ≡ f q → v ≡ true → k + 1 + how_many f q ≡ a
+  many_left a l q k v g e m y = omega (arith, e, ap (how_many f) (g ∙ add-one q), how_many_yes f q (sym m ∙ y))
 
-  pub many_left : (a l k : ℕ) (v : Bool) → 0 < l → k + how_many f l ≡ a → v ≡ f (l - 1) → v ≡ true → k + 1 + how_many f (l - 1) ≡ a
-  many_left a l k v p e m y = omega (arith, e, back l p, how_many_yes f (l - 1) (sym m ∙ y))
-
-  pub none_left : (a l k : ℕ) (v : Bool) → 0 < l → k + how_many f l ≡ a → v ≡ f (l - 1) → v ≡ false → k + how_many f (l - 1) ≡ a
-  none_left a l k v p e m y = omega (arith, e, back l p, how_many_no f (l - 1) (sym m ∙ y))
+  pub none_left : (a l q k : ℕ) (v : Bool) → l ≡ q + 1 → k + how_many f l ≡ a → v ≡ f q → v ≡ false → k + how_many f q ≡ a
+  none_left a l q k v g e m y = omega (arith, e, ap (how_many f) (g ∙ add-one q), how_many_no f q (sym m ∙ y))
 
   -- where none is left, all are counted
   pub all_left : (a l k : ℕ) → k + how_many f l ≡ a → how_many f l ≡ 0 → k ≡ a
   all_left a l k e m = omega (arith, e, m)
 
 module _ (ps : List Float) (n : ℕ) (o : List ℕ) (x y radius : Float) (S : Swept ps n o) (X : is_finite x ≡ true) (R : lt f0 radius ≡ true) where
-  pub many_stop_right : (h : ℕ) → h ≤ n → lt radius (x_at ps (get_or o h 0) ⊖ x) ≡ true → how_many (in_reach ps o x y radius) h ≡ how_many (in_reach ps o x y radius) n
-  many_stop_right h m s = many_none (in_reach ps o x y radius) h n m (λ q a b. stop_right ps n o S x y radius X R h s q a b)
+  pub many_stop_right : (h j : ℕ) → j ≡ get_or o h 0 → h ≤ n → lt radius (x_at ps j ⊖ x) ≡ true → how_many (in_reach ps o x y radius) h ≡ how_many (in_reach ps o x y radius) n
+  many_stop_right h j e m t = many_none (in_reach ps o x y radius) h n m (λ q a b. stop_right ps n o S x y radius X R h (subst (λ (i : ℕ). lt radius (x_at ps i ⊖ x) ≡ true) e t) q a b)
 
-  pub many_stop_left : (l : ℕ) → 0 < l → l ≤ n → lt radius (neg (x_at ps (get_or o (l - 1) 0) ⊖ x)) ≡ true → how_many (in_reach ps o x y radius) l ≡ 0
-  many_stop_left l p m s =
-      sym (many_none (in_reach ps o x y radius) 0 l (omega arith) (λ q a b. stop_left ps n o S x y radius X R (l - 1) (omega arith) s q (omega arith)))
+  pub many_stop_left : (l h j : ℕ) → j ≡ get_or o h 0 → l ≡ h + 1 → l ≤ n → lt radius (neg (x_at ps j ⊖ x)) ≡ true → how_many (in_reach ps o x y radius) l ≡ 0
+  many_stop_left l h j e f m t =
+      let s : lt radius (neg (x_at ps (get_or o h 0) ⊖ x)) ≡ true = subst (λ (i : ℕ). lt radius (neg (x_at ps i ⊖ x)) ≡ true) e t in
+      sym (many_none (in_reach ps o x y radius) 0 l (omega arith) (λ q a b. stop_left ps n o S x y radius X R h (omega (arith, f, m)) s q (omega (arith, f, b))))
       ∙ how_many_zero (in_reach ps o x y radius)
 
 module _ (ps : List Float) (n : ℕ) (o : List ℕ) (radius : Float) (S : Swept ps n o) (c : ℕ) (h : c < n) where

@@ -13,7 +13,8 @@ pub mod points;
 mod sweep;
 
 // The least positive distance from point i to another, infinity if none.
-// The number of a point is asked to be below n: a type of such a number would be made anew at each turn of a loop.
+// The number of a point is asked to be below n, in this file and in `sweep`: a type of such a number would be made anew at each turn of a loop and unwrapped at its one use.
+#[tactic(auto, using(crate::proofs::Scans::nearest_laws), unfolding(proximity::specs::Near::nearest_to, proximity::specs::Near::nearest))]
 fn nearest_distance(points: &Points<'_>, i: usize) -> f64
     requires { i < points.now.n }
     ensures { result ≡ nearest points.now.xy.now points.now.n i }
@@ -31,6 +32,7 @@ fn nearest_distance(points: &Points<'_>, i: usize) -> f64
 }
 
 // The nearest distances of the points, in order, at the front of out, over all pairs.
+#[tactic(auto, using(crate::proofs::Fills::fill_laws))]
 pub fn nearest_of_all(points: &Points<'_>, out: &mut [f64])
     requires { points.now.n ≤ length out.old }
     ensures { out.new ≡ table (nearest points.now.xy.now points.now.n) points.now.n ++ drop points.now.n out.old }
@@ -42,6 +44,7 @@ pub fn nearest_of_all(points: &Points<'_>, out: &mut [f64])
 
 // The same along the order of x where every x is finite. The other lists are work lists.
 // n is asked to fit a u32 where the points' numbers or counts are written: `nearest_of_all`, which writes none, takes `Points` of any n.
+// The lists are written, here, in `neighbour_counts` and in `keys_by_x`, so their lengths are asked as the slices' own.
 pub fn nearest_neighbour_distances(
     points: &Points<'_>,
     out: &mut [f64],
@@ -62,6 +65,7 @@ pub fn nearest_neighbour_distances(
 }
 
 // How many other points are at most radius away from point i.
+#[tactic(auto, using(crate::proofs::Scans::near_laws), unfolding(proximity::specs::Near::within))]
 fn count_near(points: &Points<'_>, radius: f64, i: usize) -> usize
     requires { i < points.now.n }
     ensures { result ≡ within points.now.xy.now points.now.n radius i }
@@ -91,6 +95,7 @@ fn count_within(points: &Points<'_>, radius: f64, i: usize) -> usize
 }
 
 // These counts of the points, in order, at the front of counts, over all pairs.
+#[tactic(auto, using(crate::proofs::Fills::fill_laws, crate::proofs::Scans::neighbours_le))]
 fn counts_of_all(points: &Points<'_>, radius: f64, counts: &mut [u32])
     requires { (points.now.n < 2 ^ 32) × (points.now.n ≤ length counts.old) }
     ensures { counts.new ≡ table (neighbours points.now.xy.now points.now.n radius) points.now.n ++ drop points.now.n counts.old }

@@ -40,7 +40,7 @@ fn keys_by_x(points: &Points<'_>, keys: &mut [u64], order: &mut [u32]) -> usize
 }
 
 // Those points' numbers by rising x at the front of order, and how many they are: all where every x is finite.
-// `keys`, `order` and `spare` are written: behind one `&mut` a struct of them could hold other lists afterwards, so its contract would have to say of each that it is as long as before.
+// `keys`, `order` and `spare` are written: behind one `&mut` a struct of them could hold other lists afterwards, so its contract would have to say of each that it is the one that was lent.
 pub(crate) fn by_x(
     points: &Points<'_>,
     keys: &mut [u64],
@@ -59,15 +59,15 @@ pub(crate) fn by_x(
 
 // The least positive distance from (x, y), the point at place c, to a point right of it in the order, infinity if none.
 // x is handed on beside its place, so that a scan needn't read it; that it is finite is asked by the four scans.
+#[tactic(auto, using(crate::proofs::Places::place_below))]
 fn nearest_right(sweep: &Sweep<'_>, c: usize, x: f64, y: f64) -> f64
     requires { (c < sweep.now.points.n) × (is_finite x ≡ true) }
     ensures { Least (away sweep.now.points.xy.now sweep.now.order.now x y) (Others c c sweep.now.points.n) result }
 {
     let xy = sweep.points.xy;
-    let order = sweep.order;
     let mut best = f64::INFINITY;
-    for q in c + 1..sweep.points.n {
-        let j = order[q] as usize;
+    for &i in &sweep.order[c + 1..sweep.points.n] {
+        let j = i as usize;
         let d = xy[2 * j] - x;
         if best < d {
             return best;
@@ -78,15 +78,15 @@ fn nearest_right(sweep: &Sweep<'_>, c: usize, x: f64, y: f64) -> f64
 }
 
 // The lesser of that and the least positive distance to a point left of it.
+#[tactic(auto, using(crate::proofs::Places::back_below))]
 fn nearest_left(sweep: &Sweep<'_>, c: usize, x: f64, y: f64, right: f64) -> f64
     requires { (c < sweep.now.points.n) × (is_finite x ≡ true) × Least (away sweep.now.points.xy.now sweep.now.order.now x y) (Others c c sweep.now.points.n) right }
     ensures { Least (away sweep.now.points.xy.now sweep.now.order.now x y) (Others c 0 sweep.now.points.n) result }
 {
     let xy = sweep.points.xy;
-    let order = sweep.order;
     let mut best = right;
-    for q in (0..c).rev() {
-        let j = order[q] as usize;
+    for &i in sweep.order[..c].iter().rev() {
+        let j = i as usize;
         let d = xy[2 * j] - x;
         if best < -d {
             return best;
@@ -97,7 +97,7 @@ fn nearest_left(sweep: &Sweep<'_>, c: usize, x: f64, y: f64, right: f64) -> f64
 }
 
 // The least positive distance from the point at place c of the order to another, infinity if none.
-// A place is asked to be in the order: a type of a number below n would be made anew at each turn of a loop.
+#[tactic(auto, using(crate::proofs::Places::place_below))]
 fn nearest_at(sweep: &Sweep<'_>, c: usize) -> f64
     requires { c < sweep.now.points.n }
     ensures { result ≡ nearest sweep.now.points.xy.now sweep.now.points.n (get_or sweep.now.order.now c 0) }
@@ -110,6 +110,7 @@ fn nearest_at(sweep: &Sweep<'_>, c: usize) -> f64
 }
 
 // The nearest distances of the points at the front of out, each at its point's number.
+#[tactic(auto, using(crate::proofs::Places::place_below))]
 pub(crate) fn nearest_in_order(sweep: &Sweep<'_>, out: &mut [f64])
     requires { sweep.now.points.n ≤ length out.old }
     ensures { out.new ≡ table (nearest sweep.now.points.xy.now sweep.now.points.n) sweep.now.points.n ++ drop sweep.now.points.n out.old }
@@ -121,15 +122,15 @@ pub(crate) fn nearest_in_order(sweep: &Sweep<'_>, out: &mut [f64])
 }
 
 // How many points right of place c are at most radius away from (x, y), the point there.
+#[tactic(auto, using(crate::proofs::Places::place_below))]
 fn count_right(sweep: &Sweep<'_>, c: usize, x: f64, y: f64, radius: f64) -> usize
     requires { (c < sweep.now.points.n) × (is_finite x ≡ true) × (lt f0 radius ≡ true) }
     ensures { result + how_many (in_reach sweep.now.points.xy.now sweep.now.order.now x y radius) (c + 1) ≡ how_many (in_reach sweep.now.points.xy.now sweep.now.order.now x y radius) sweep.now.points.n }
 {
     let xy = sweep.points.xy;
-    let order = sweep.order;
     let mut count = 0;
-    for q in c + 1..sweep.points.n {
-        let j = order[q] as usize;
+    for &i in &sweep.order[c + 1..sweep.points.n] {
+        let j = i as usize;
         let d = xy[2 * j] - x;
         if radius < d {
             return count;
@@ -142,15 +143,15 @@ fn count_right(sweep: &Sweep<'_>, c: usize, x: f64, y: f64, radius: f64) -> usiz
 }
 
 // How many points left of it are.
+#[tactic(auto, using(crate::proofs::Places::back_below, order::proofs::Tables::how_many_zero))]
 fn count_left(sweep: &Sweep<'_>, c: usize, x: f64, y: f64, radius: f64) -> usize
     requires { (c < sweep.now.points.n) × (is_finite x ≡ true) × (lt f0 radius ≡ true) }
     ensures { result ≡ how_many (in_reach sweep.now.points.xy.now sweep.now.order.now x y radius) c }
 {
     let xy = sweep.points.xy;
-    let order = sweep.order;
     let mut count = 0;
-    for q in (0..c).rev() {
-        let j = order[q] as usize;
+    for &i in sweep.order[..c].iter().rev() {
+        let j = i as usize;
         let d = xy[2 * j] - x;
         if radius < -d {
             return count;
@@ -163,7 +164,7 @@ fn count_left(sweep: &Sweep<'_>, c: usize, x: f64, y: f64, radius: f64) -> usize
 }
 
 // How many others are at most radius away from the point at place c of the order, none where the radius is not above 0.
-#[tactic(auto, unfolding(proximity::specs::Near::neighbours))]
+#[tactic(auto, using(crate::proofs::Places::place_below), unfolding(proximity::specs::Near::neighbours))]
 fn count_at(sweep: &Sweep<'_>, radius: f64, c: usize) -> usize
     requires { c < sweep.now.points.n }
     ensures { result ≡ neighbours sweep.now.points.xy.now sweep.now.points.n radius (get_or sweep.now.order.now c 0) }
@@ -180,6 +181,7 @@ fn count_at(sweep: &Sweep<'_>, radius: f64, c: usize) -> usize
 }
 
 // These counts of the points at the front of counts, each at its point's number.
+#[tactic(auto, using(crate::proofs::Places::place_below))]
 pub(crate) fn counts_in_order(sweep: &Sweep<'_>, radius: f64, counts: &mut [u32])
     requires { (sweep.now.points.n < 2 ^ 32) × (sweep.now.points.n ≤ length counts.old) }
     ensures { counts.new ≡ table (neighbours sweep.now.points.xy.now sweep.now.points.n radius) sweep.now.points.n ++ drop sweep.now.points.n counts.old }

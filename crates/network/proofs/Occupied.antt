@@ -1,12 +1,13 @@
 -- The occupied stations passed so far, in a loop over all: which they are, and how many.
 -- Assumes nothing.
 use mathlib.Core.Path.{◌≡◌, sym, ap, ◌∙◌}
-use mathlib.Core.Bool.{true, false}
+use mathlib.Core.Bool.{Bool, true, false}
 use mathlib.Core.List.{List, [], ◌∷◌, ◌++◌}
 use Prim.Native.Nat.{ℕ, suc, ◌+◌, ◌*◌, ◌≤◌, ◌<◌}
 use native.Mathlib.Nat.{add-zero}
 use native.Mathlib.Numerals.{add-one}
-use borrow.Author.Tests.{lt-ltb, le-ltb}
+use borrow.Author.Tests.{ltb-true, ltb-false, lt-ltb, le-ltb}
+use lib.Dec.{ltb}
 use lib.ListN.{length, get_or}
 use Rattle.order.specs.Table.{how_many, which}
 use Rattle.order.proofs.Tables.{how_many_yes, how_many_no, which_yes, which_no, length_which}
@@ -23,6 +24,14 @@ passed k st s = which (is_occupied (counts_in k st)) s
 
 abbrev pub passed_count : ℕ → List ℕ → ℕ → ℕ
 passed_count k st s = how_many (is_occupied (counts_in k st)) s
+
+-- what `is_occupied` says of a station with n buses
+module _ (n : ℕ) (b : Bool) (e : b ≡ ltb 0 n) where
+  pub has_buses : b ≡ true → 0 < n
+  has_buses t = ltb-true 0 n (sym e ∙ t)
+
+  pub has_none : b ≡ false → n ≤ 0
+  has_none t = ltb-false 0 n (sym e ∙ t)
 
 pub is_occupied_lem : (k s : ℕ) (st : List ℕ) → s < k → 0 < get_or st (2 * s) 0 → is_occupied (counts_in k st) s ≡ true
 is_occupied_lem k s st h g = lt-ltb 0 (get_or (counts_in k st) s 0) (rw (count_at k s st h) g)

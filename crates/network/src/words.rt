@@ -40,11 +40,8 @@ pub fn station_of(sub: &[u32], i: usize) -> usize
 pub fn known_bus(n: usize, x: i64) -> Option<usize>
     ensures { result ≡ known n x }
 {
-    if x < 0 {
-        return None;
-    }
-    let i = x as usize;
-    if i < n { Some(i) } else { None }
+    let i = usize::try_from(x).ok()?;
+    (i < n).then_some(i)
 }
 
 // Whether branch e is live: its service flag is absent or not 0.
@@ -55,8 +52,9 @@ pub(crate) fn live(service: &[u8], e: usize) -> bool
     service.get(e).copied().unwrap_or(1) != 0
 }
 
-// The bus at the end of branch e; none past the list's end. There are n buses: n isn't the length of this list of branch ends.
-fn end_of(n: usize, list: &[i64], e: usize) -> Option<usize>
+// The bus at the end of branch e, of n; none past the list's end. n is how many buses there are: the list has an element for each branch.
+#[tactic(auto, unfolding(crate::specs::Words::known))]
+pub fn end_of(n: usize, list: &[i64], e: usize) -> Option<usize>
     ensures { result ≡ known n (get_or list.now e (negsuc 0)) }
 {
     known_bus(n, *list.get(e)?)
@@ -118,7 +116,7 @@ fn count_buses(sub: &[u32], k: usize, stations: &mut [u32])
 
 // The bus counts of the k stations.
 // `stations` is written, so its length is asked as the slice's own; k is counted once for all functions.
-// `Bounded` would ask for service flags and a mesh, which an audit, that counts too, doesn't have.
+// `Bounded` would ask for few branches, of which this reads none.
 pub fn bus_counts(sub: &[u32], k: usize, stations: &mut [u32])
     requires { (k ≡ station_count sub.now) × (length sub.now ≤ 4096) × (2 * k ≤ length stations.old) }
     ensures { counts_in k stations.new ≡ bus_counts sub.now }

@@ -41,7 +41,7 @@ fn offset_lines(count: usize, keys: &[u64], sorted: &[u32], at: usize, out: &mut
 }
 
 // Writes the offsets of a search over the front of `out`, and returns the text's length. The other lists are work room.
-// `keys`, `sorted` and `spare` are no struct: behind `&mut` other lists could stand in it, so the contracts here and of `offset_order` would have to say that it keeps the three and their lengths.
+// `keys`, `sorted` and `spare` are no struct: behind `&mut` other lists could stand in it, so the contracts here and of `offset_order` would have to say that the three are those that were lent.
 // The bound of `search` is asked here as by the functions of `offsets` that make the pairs: a struct of one number is no plainer.
 #[tactic(auto, using(crate::proofs::Lines::text_laws), unfolding(crate::specs::Stages::Text::offset_names))]
 pub fn print(

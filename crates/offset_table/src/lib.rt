@@ -6,7 +6,7 @@ ghost use Rattle.offset_rule.specs.Table.{inside, pair_at, table_pair};
 
 use offsets::offset::Offset;
 
-// The first numbers of the pairs.
+// The first numbers of the pairs. The pairs stand in two lists: a list of `Offset` would have a struct literal for each of its 1,681.
 pub const OFFSET_A: [i32; 1681] = [
     0, -1, 0, 0, 1, -1, -1, 1, 1, -2, 0, 0, 2, -2, -2, -1, -1, 1, 1, 2, 2, -2, -2, 2, 2, -3, 0, 0,
     3, -3, -3, -1, -1, 1, 1, 3, 3, -3, -3, -2, -2, 2, 2, 3, 3, -4, 0, 0, 4, -4, -4, -1, -1, 1, 1,
@@ -158,7 +158,7 @@ pub const OFFSET_B: [i32; 1681] = [
     -19, 19, -20, 20, -20, 20, -19, 19, -20, 20, -20, 20,
 ];
 
-// The j-th number of a list, 0 past its end.
+// The j-th number of a list, 0 past its end. (`order` `at` says why it is no generic function.)
 fn number_at(list: &[i32], j: usize) -> i32
     ensures { result ≡ get_or list.now j (pos 0) }
 {
@@ -166,6 +166,7 @@ fn number_at(list: &[i32], j: usize) -> i32
 }
 
 // The j-th pair of two lists.
+#[tactic(auto, unfolding(offset_rule::specs::Table::pair_at))]
 pub fn pair_at(a: &[i32], b: &[i32], j: usize) -> Offset
     ensures { result ≡ pair_at a.now b.now j }
 {

@@ -20,13 +20,12 @@ fn square(u: u64) -> u64
     requires { u ≤ 40 }
     ensures { result ≡ square u }
 {
-    if u < 20 {
-        return (20 - u) * (20 - u);
-    }
-    (u - 20) * (u - 20)
+    let d = u.abs_diff(20);
+    d * d
 }
 
 // The offset (u − 20, v − 20) as one number.
+#[tactic(auto, using(crate::proofs::Grids::square_small), unfolding(crate::specs::Offset::offset_number))]
 fn offset_number(u: u64, v: u64) -> u64
     requires { (u ≤ 40) × (v ≤ 40) }
     ensures { result ≡ offset_number u v }
@@ -35,7 +34,7 @@ fn offset_number(u: u64, v: u64) -> u64
 }
 
 // The numbers of the pairs, row by row.
-// The bound of a search is asked beside the number: a struct of it, as `free_places` `Tried` is of it and two lists, would hold nothing else.
+// The bound of a search is asked beside the number, here and in `offset_order`: a struct of one number is no plainer.
 fn grid_keys(search: u64, side: u64, keys: &mut [u64])
     requires { (search ≤ 20) × (side ≡ suc (2 * search)) × (side * side ≤ length keys.old) }
     ensures { keys.new ≡ table (grid_number search) (side * side) ++ drop (side * side) keys.old }
@@ -57,7 +56,7 @@ fn number_first(list: &mut [u32], c: usize)
 }
 
 // The generator: for each search from 0 to 20 every pair within it, once, in order. It returns how many there are; `offset_at` reads them.
-// `keys`, `sorted` and `spare` are written: behind one `&mut` a struct of them could hold other lists afterwards, so its contract would have to say of each that it is as long as before.
+// `keys`, `sorted` and `spare` are written: behind one `&mut` a struct of them could hold other lists afterwards, so its contract would have to say of each that it is the one that was lent.
 pub fn offset_order(search: usize, keys: &mut [u64], sorted: &mut [u32], spare: &mut [u32]) -> usize
     requires { (search ≤ 20) × (1681 ≤ length keys.old) × (1681 ≤ length sorted.old) × (1681 ≤ length spare.old) }
     ensures { (result ≡ suc (2 * search) * suc (2 * search)) × (offsets_in result keys.new sorted.new ≡ offsets search) × Complete search (offsets_in result keys.new sorted.new) }
@@ -71,6 +70,7 @@ pub fn offset_order(search: usize, keys: &mut [u64], sorted: &mut [u32], spare: 
 }
 
 // The j-th offset.
+#[tactic(auto, using(crate::proofs::Grids::less_fits, crate::proofs::Grids::offset_made), unfolding(crate::specs::Stages::OffsetList::offset_at))]
 pub fn offset_at(keys: &[u64], sorted: &[u32], j: usize) -> Offset
     ensures { result ≡ offset_at keys.now sorted.now j }
 {

@@ -37,28 +37,11 @@ pub struct Options {
     pub gaps: Gaps,
 }
 
-impl Options {
-    // The ranges; the least of the others is 0.
-    pub const FILL_MOST: f64 = 16.0;
+// The default options.
+impl Default for Options {
+    ghost is_default = { λ o. o ≡ defaults };
 
-    pub const RADIUS_MOST: f64 = 1000.0;
-
-    pub const SCALE_LEAST: f64 = 0.015625;
-
-    pub const SCALE_MOST: f64 = 1.0;
-
-    pub const SEARCH_MOST: i32 = 20;
-
-    pub const ITERATIONS_MOST: u32 = 100;
-
-    pub const GAP_LEAST: f64 = 0.5;
-
-    pub const GAP_MOST: f64 = 8.0;
-
-    // The default options.
-    pub fn default() -> Options
-        ensures { result ≡ defaults }
-    {
+    fn default() -> Options {
         Options {
             fill: 0.45,
             tier_radius: 3.0,
@@ -76,6 +59,25 @@ impl Options {
             },
         }
     }
+}
+
+impl Options {
+    // The ranges; the least of the others is 0.
+    pub const FILL_MOST: f64 = 16.0;
+
+    pub const RADIUS_MOST: f64 = 1000.0;
+
+    pub const SCALE_LEAST: f64 = 0.015625;
+
+    pub const SCALE_MOST: f64 = 1.0;
+
+    pub const SEARCH_MOST: i32 = 20;
+
+    pub const ITERATIONS_MOST: u32 = 100;
+
+    pub const GAP_LEAST: f64 = 0.5;
+
+    pub const GAP_MOST: f64 = 8.0;
 
     // Whether every option is in its range.
     #[tactic(auto, unfolding(crate::specs::Options::in_range))]

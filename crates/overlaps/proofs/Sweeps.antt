@@ -115,13 +115,14 @@ module _ (boxes : List Float) (k : ℕ) (o : List ℕ) (c : ℕ) where
   next q h = drop-cons o q 0 h ∙ ap (λ (i : ℕ). get_or o q 0 ∷ drop i o) (sym (add-one q))
 
   module _ (s : ℕ) where
-    pub found_yes : (q r : ℕ) (b : Bool) → q < length o → either bs s (get_or o q 0) ≡ b → b ≡ true → Found boxes k o c s q r → Found boxes k o c s (q + 1) (r + 1)
-    found_yes q r b h e y f =
-        omega (arith, f, ap (count (either bs s)) (next q h) ∙ count_yes (either bs s) (get_or o q 0) (drop (q + 1) o) (e ∙ y))
+    -- t is the station at place q, and m the next place
+    pub found_yes : (q m r t : ℕ) (b : Bool) → t ≡ get_or o q 0 → m ≡ q + 1 → q < length o → either bs s t ≡ b → b ≡ true → Found boxes k o c s q r → Found boxes k o c s m (r + 1)
+    found_yes q m r t b i j h e y f =
+        rw j (omega (arith, f, ap (count (either bs s)) (next q h) ∙ count_yes (either bs s) (get_or o q 0) (drop (q + 1) o) (ap (either bs s) (sym i) ∙ e ∙ y)))
 
-    pub found_no : (q r : ℕ) (b : Bool) → q < length o → either bs s (get_or o q 0) ≡ b → b ≡ false → Found boxes k o c s q r → Found boxes k o c s (q + 1) r
-    found_no q r b h e y f =
-        omega (arith, f, ap (count (either bs s)) (next q h) ∙ count_no (either bs s) (get_or o q 0) (drop (q + 1) o) (e ∙ y))
+    pub found_no : (q m r t : ℕ) (b : Bool) → t ≡ get_or o q 0 → m ≡ q + 1 → q < length o → either bs s t ≡ b → b ≡ false → Found boxes k o c s q r → Found boxes k o c s m r
+    found_no q m r t b i j h e y f =
+        rw j (omega (arith, f, ap (count (either bs s)) (next q h) ∙ count_no (either bs s) (get_or o q 0) (drop (q + 1) o) (ap (either bs s) (sym i) ∙ e ∙ y)))
 
     -- none of those left overlaps
     rest_none : (q r : ℕ) → ((i : ℕ) → q ≤ i → i < length o → either bs s (get_or o i 0) ≡ false) → Found boxes k o c s q r → r ≡ count (either bs s) (drop (c + 1) o)
@@ -132,15 +133,15 @@ module _ (boxes : List Float) (k : ℕ) (o : List ℕ) (c : ℕ) where
             let l : q + i < length o = omega (arith, length-drop q o) in
             subst (λ (t : ℕ). either bs s t ≡ false) (sym (get_or-drop q o i 0)) (z (q + i) (omega arith) l)
 
-    pub found_stop : (p b : Box) (q r : ℕ) → ((i : ℕ) → T (fits binary64 (get_or boxes i nan))) → Finite boxes → 4 * k ≤ length boxes → Sorted boxes k o
-        → s < k → q < length o → p ≡ box_at boxes s → b ≡ box_at boxes (get_or o q 0) → le p.right b.left ≡ true → Found boxes k o c s q r → r ≡ count (either bs s) (drop (c + 1) o)
-    found_stop p b q r F G B S h l e g y f = rest_none q r past f
+    pub found_stop : (p b : Box) (q r t : ℕ) → t ≡ get_or o q 0 → ((i : ℕ) → T (fits binary64 (get_or boxes i nan))) → Finite boxes → 4 * k ≤ length boxes → Sorted boxes k o
+        → s < k → q < length o → p ≡ box_at boxes s → b ≡ box_at boxes t → le p.right b.left ≡ true → Found boxes k o c s q r → r ≡ count (either bs s) (drop (c + 1) o)
+    found_stop p b q r w n F G B S h l e g y f = rest_none q r past f
       where
         good : (i : ℕ) → i < 4 * k → Good (get_or boxes i nan)
         good i m = (F i, subst T (sym (G.at i (omega arith))) tt)
 
         met : T (le (get_or boxes (4 * s + 2) nan) (left_at boxes (get_or o q 0)))
-        met = subst T (sym (sym (ap (λ (x : Box). le x.right b.left) e ∙ ap (λ (x : Box). le (get_or boxes (4 * s + 2) nan) x.left) g) ∙ y)) tt
+        met = subst T (sym (sym (ap (λ (x : Box). le x.right b.left) e ∙ ap (λ (x : Box). le (get_or boxes (4 * s + 2) nan) x.left) (g ∙ ap (box_at boxes) n)) ∙ y)) tt
 
         past : (i : ℕ) → q ≤ i → i < length o → either bs s (get_or o i 0) ≡ false
         past i u v =

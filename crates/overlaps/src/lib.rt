@@ -11,7 +11,7 @@ ghost use Rattle.overlaps.specs.Stages.Sweep.{Finite, Keyed, Sorted, Lefts, pair
 
 use float::key::order_key;
 use geometry::{Box, box_at, shrunk};
-use network::lists::Placed;
+use network::lists::{FewPlaced, Placed};
 use proximity::overlaps;
 
 // Whether the boxes p of station s and q of station t overlap, that of the higher number shrunk.
@@ -27,7 +27,7 @@ fn paired(p: Box, q: Box, s: usize, t: usize) -> bool
 }
 
 // The order keys of k boxes' left sides.
-// Boxes are read here without the stations' counts: a `Placed` would ask for them. That `keys` has room for k numbers is asked of a list that is written: no field of `Placed` can say it.
+// Here and in `count_right` the proof needs that each number of `boxes` is a float of 64 bits, which is known of a list that is lent itself, and not of one in a struct: with a `Placed` neither closed. That `keys` has room for k numbers is asked of a list that is written: no field of `Placed` can say it.
 fn left_keys(k: usize, boxes: &[f64], keys: &mut [u64])
     requires { (4 * k ≤ length boxes.now) × (k ≤ length keys.old) × Finite boxes.now }
     ensures { Keyed boxes.now k keys.new }
@@ -38,14 +38,15 @@ fn left_keys(k: usize, boxes: &[f64], keys: &mut [u64])
 }
 
 // The numbers of the occupied stations, in order, at the front of `order`, and how many they are.
-fn list_occupied(placed: &Placed<'_>, order: &mut [u32]) -> usize
-    requires { (placed.now.k ≤ 2 ^ 32) × (placed.now.k ≤ length order.old) }
-    ensures order_after { take result order.new ≡ occupied (counts_in placed.now.k placed.now.stations.now) }
-    ensures value { (result ≡ length (occupied (counts_in placed.now.k placed.now.stations.now))) × (result ≤ placed.now.k) }
+fn list_occupied(few: &FewPlaced<'_>, order: &mut [u32]) -> usize
+    requires { few.now.placed.k ≤ length order.old }
+    ensures order_after { take result order.new ≡ occupied (counts_in few.now.placed.k few.now.placed.stations.now) }
+    ensures value { (result ≡ length (occupied (counts_in few.now.placed.k few.now.placed.stations.now))) × (result ≤ few.now.placed.k) }
 {
+    let placed = &few.placed;
     let mut c = 0;
     for s in 0..placed.k {
-        if 0 < placed.stations[2 * s] {
+        if placed.is_occupied(s) {
             order[c] = s as u32;
             c += 1;
         }
@@ -54,21 +55,21 @@ fn list_occupied(placed: &Placed<'_>, order: &mut [u32]) -> usize
 }
 
 // These numbers by rising left side, and how many they are.
-// Boxes of finite numbers are asked of three functions: a `Placed` is lent with others too.
-fn by_left(placed: &Placed<'_>, keys: &mut [u64], order: &mut [u32], spare: &mut [u32]) -> usize
-    requires k_bound { (placed.now.k ≤ 2 ^ 32) × Finite placed.now.frames.now }
-    requires k_in_bounds { (placed.now.k ≤ length keys.old) × (placed.now.k ≤ length order.old) × (placed.now.k ≤ length spare.old) }
-    ensures lefts { Lefts placed.now.frames.now placed.now.k (occupied (counts_in placed.now.k placed.now.stations.now)) result order.new }
-    ensures upper_bound { result ≤ placed.now.k }
+// That the boxes' numbers are finite is asked here, in `count_pairs` and of the public call: a struct that says it would be made once, for the two, and `left_keys` and `count_right` would ask it still.
+fn by_left(few: &FewPlaced<'_>, keys: &mut [u64], order: &mut [u32], spare: &mut [u32]) -> usize
+    requires finite { Finite few.now.placed.frames.now }
+    requires k_in_bounds { (few.now.placed.k ≤ length keys.old) × (few.now.placed.k ≤ length order.old) × (few.now.placed.k ≤ length spare.old) }
+    ensures lefts { Lefts few.now.placed.frames.now few.now.placed.k (occupied (counts_in few.now.placed.k few.now.placed.stations.now)) result order.new }
+    ensures upper_bound { result ≤ few.now.placed.k }
 {
-    left_keys(placed.k, placed.frames, keys);
-    let n = list_occupied(placed, order);
+    left_keys(few.placed.k, few.placed.frames, keys);
+    let n = list_occupied(few, order);
     order::sort_part(keys, order, spare, 0, n);
     n
 }
 
-// Here too boxes are read without the counts. A loop: as a chain, `take_while` and `filter` would each read a station's box, which is read once here.
 // How many stations behind place c of the order overlap the one there: none from the first whose left side isn't left of its right side.
+// A loop: as a chain, `take_while` and `filter` would each read a station's box, which is read once here.
 #[tactic(auto, unfolding(order::specs::Order::count))]
 fn count_right(k: usize, boxes: &[f64], order: &[u32], c: usize) -> usize
     requires k_in_bounds { (4 * k ≤ length boxes.now) × (c < length order.now) × Finite boxes.now }
@@ -79,8 +80,8 @@ fn count_right(k: usize, boxes: &[f64], order: &[u32], c: usize) -> usize
     let s = order[c] as usize;
     let p = box_at(boxes, s);
     let mut found = 0;
-    for q in c + 1..order.len() {
-        let t = order[q] as usize;
+    for &i in &order[c + 1..] {
+        let t = i as usize;
         let b = box_at(boxes, t);
         if p.right <= b.left {
             return found;
@@ -107,19 +108,18 @@ fn count_pairs(placed: &Placed<'_>, order: &[u32]) -> usize
 }
 
 // The number of pairs that overlap. `keys`, `order` and `spare` are work lists.
-// `keys`, `order` and `spare` are no struct: behind `&mut` other lists could stand in it, so the contracts of `by_left` and `order::sort_part` too would have to say that it keeps them and their lengths.
-// The bound of k is no fact of `Placed`: `sized` and `results` don't ask for at most 4,096 stations, so it would ask more of their callers.
+// `keys`, `order` and `spare` are no struct: behind `&mut` other lists could stand in it, so the contracts of `list_occupied`, `by_left` and `order::sort_part` too would have to say that they are those that were lent.
 #[tactic(auto, unfolding(crate::specs::Overlaps::overlaps))]
 pub fn count_overlaps(
-    placed: &Placed<'_>,
+    few: &FewPlaced<'_>,
     keys: &mut [u64],
     order: &mut [u32],
     spare: &mut [u32],
 ) -> usize
-    requires k_bound { (placed.now.k ≤ 4096) × Finite placed.now.frames.now }
-    requires k_in_bounds { (placed.now.k ≤ length keys.old) × (placed.now.k ≤ length order.old) × (placed.now.k ≤ length spare.old) }
-    ensures { result ≡ overlaps (boxes_in placed.now.k placed.now.frames.now) (occupied (counts_in placed.now.k placed.now.stations.now)) }
+    requires finite { Finite few.now.placed.frames.now }
+    requires k_in_bounds { (few.now.placed.k ≤ length keys.old) × (few.now.placed.k ≤ length order.old) × (few.now.placed.k ≤ length spare.old) }
+    ensures { result ≡ overlaps (boxes_in few.now.placed.k few.now.placed.frames.now) (occupied (counts_in few.now.placed.k few.now.placed.stations.now)) }
 {
-    let n = by_left(placed, keys, order, spare);
-    count_pairs(placed, &order[..n])
+    let n = by_left(few, keys, order, spare);
+    count_pairs(&few.placed, &order[..n])
 }

@@ -19,7 +19,7 @@ fn apart(p: Point, q: Point) -> bool
 }
 
 // How many pieces run through the first c points.
-// c counts points over usize: as a `u32` it would be converted at each index.
+// c counts points over usize, here, in `put_pieces` and in `tally`: as a `u32` it would be converted at each index.
 fn count_pieces(path: &[f64], c: usize) -> usize
     requires { c < 2 ^ 32 }
     ensures { Counted result (points_in c path.now) }
@@ -46,6 +46,7 @@ fn put_piece(e: u32, k: usize, p: Point, q: Point, numbers: &mut [f64], branches
 }
 
 // Writes the pieces of branch e through the first c points, from piece number `at` on, and answers the number after the last.
+// c isn't the path's length: points past its end are read as NaN, as the run's contract (`Ran`) counts them.
 fn put_pieces(
     path: &[f64],
     c: usize,

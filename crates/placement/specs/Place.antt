@@ -1,6 +1,5 @@
 -- 5. Each station stands at the first free place, one after the other. Definitions only.
 use Rattle.std.specs.Prelude.{ℕ, zero, suc, Bool, List, map, length, get_or, take, set}
-use Rattle.float.specs.Ops.{f0}
 use Rattle.order.specs.Order.{pick}
 use Rattle.order.specs.Table.{table}
 use Rattle.geometry.specs.declared.Point.{Point}

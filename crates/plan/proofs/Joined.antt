@@ -20,7 +20,6 @@ use Rattle.units.specs.Unit as Unit
 use Rattle.scales.specs.Scale as Scale
 use Rattle.sizes.specs.Stages.Views.{sizes_in, scales_in, row_counts_in}
 use Rattle.sizes.proofs.Blocks.{sizes_view}
-use Rattle.placement.specs.Place as Place
 use Rattle.plan.specs.Stages.Plan.{Interiors}
 
 module _ (o : Options) (sub kv : List ℕ) (from to : List ℤ) (service : List ℕ) (xy : List Float) (k : ℕ) where

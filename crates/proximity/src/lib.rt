@@ -27,7 +27,7 @@ pub fn overlaps(p: Box, q: Box) -> bool
     meet(p.left, p.right, q.left, q.right) && meet(p.top, p.bottom, q.top, q.bottom)
 }
 
-// The longer of two sides x and y, which the hypotenuse is not below. Branch free.
+// The longer of two sides x and y, which the hypotenuse is not below. `max(x, -x)` is one test, where std's `abs` makes two, x < 0 and x == 0, and scans ask this of each point that they meet.
 fn longer(x: f64, y: f64) -> f64
     ensures { NotPast result (hypot_of x y) }
 {

@@ -7,14 +7,13 @@ use Prim.Native.Nat.{ℕ, suc, ◌+◌, ◌*◌, ◌-◌, ◌≤◌, ◌<◌}
 use native.Mathlib.Omega.{arith}
 use native.Mathlib.Numerals.{add-one}
 use lib.Dec.{eqb, ltb}
-use lib.ListN.{length, take, drop, get_or, set, length-set}
-use lib.Seq.{take_at, take-suc, take-take, get_or-take, length-take-le, get_or-set_same, get_or-set_other}
+use lib.ListN.{length, take, get_or, set, length-set}
+use lib.Seq.{take-suc, take-take, get_or-take, length-take-le, get_or-set_same, get_or-set_other}
 use borrow.Author.Count.{below_more}
 use borrow.Author.Tests.{ne_eqb, eqb-true, eqb-false}
 use Rattle.order.specs.Order.{pick, key_at, sort_by, up_from, count, before, rank}
 use Rattle.order.specs.Table.{table, strided}
-use Rattle.order.proofs.Laws.{count_nil, count_sort, rank_found, below_sort, length_up}
-use Rattle.order.proofs.Merging.{length_sort}
+use Rattle.order.proofs.Laws.{count_nil, count_sort, rank_found, below_sort}
 use Rattle.order.proofs.Tables.{table_ext}
 use Rattle.order.proofs.Strides.{is_table, read_other, strided_other}
 use Rattle.network.specs.Views.{counts_in}
@@ -190,18 +189,6 @@ module _ (k : ℕ) (S₀ : List ℕ) (sl : 2 * k ≤ length S₀) where
   }
 
 -- ---- 0, .., c - 1 put at the front of l, and that part sorted
-pub sorted_front : (key : ℕ → ℕ) (c : ℕ) (l N R : List ℕ) → c ≤ length l → N ≡ up_from 0 (length (take c l))
-    → R ≡ take 0 (N ++ drop c l) ++ (sort_by key (take (c - 0) (drop 0 (N ++ drop c l))) ++ drop c (N ++ drop c l))
-    → take c R ≡ sort_by key (up_from 0 c)
-sorted_front key c l N R h e f =
-    let n : N ≡ up_from 0 c = e ∙ ap (up_from 0) (length-take-le c l h) in
-    let z : c - 0 ≡ c = omega arith in
-    let t : take c (N ++ drop c l) ≡ N = take_at N (drop c l) c (ap length n ∙ length_up 0 c) in
-    let s : length (sort_by key (take (c - 0) (N ++ drop c l))) ≡ c =
-    length_sort key (take (c - 0) (N ++ drop c l)) ∙ ap length (ap (λ (i : ℕ). take i (N ++ drop c l)) z ∙ t ∙ n) ∙ length_up 0 c in
-    ap (take c) f ∙ take_at (sort_by key (take (c - 0) (N ++ drop c l))) (drop c (N ++ drop c l)) c s
-    ∙ ap (sort_by key) (ap (λ (i : ℕ). take i (N ++ drop c l)) z ∙ t ∙ n)
-
 pub sorted_below : (key : ℕ → ℕ) (c : ℕ) (l : List ℕ) → take c l ≡ sort_by key (up_from 0 c) → (p : ℕ) → p < c → get_or l p 0 < c
 sorted_below key c l e p h = subst (λ (x : ℕ). x < c) (ap (λ (l : List ℕ). get_or l p 0) (sym e) ∙ get_or-take c l p 0 h) (below_sort key c p h)
 

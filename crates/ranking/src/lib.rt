@@ -21,6 +21,7 @@ fn sort_numbers(keys: &[u64], c: usize, sorted: &mut [u32], spare: &mut [u32])
 
 // Sets the counters of k stations to 0; the numbers beside them stay.
 // `network` sets those to 0, `spans` the third number of each bus: other strides, and other numbers that stay, so that one function would be told both.
+// `stations` is written, here and in `walk`, so its length is asked as the slice's own.
 fn clear_counters(stations: &mut [u32], k: usize)
     requires { 2 * k ≤ length stations.old }
     ensures by_index { (s : ℕ) → s < k → get_or stations.new (2 * s + 1) 0 ≡ 0 }
@@ -54,7 +55,8 @@ fn walk(of: &[u32], c: usize, k: usize, sorted: &[u32], stations: &mut [u32], pl
 }
 
 // The place of each of 0, .., c - 1 in its station, which `of` gives, by rising key and then number, in `places`; how many each station has is left in its counter.
-// `stations`, `sorted` and `places` are written: behind one `&mut` a struct of them could hold other lists afterwards, so its contract would have to say of each that it is as long as before.
+// `stations`, `sorted` and `places` are written: behind one `&mut` a struct of them could hold other lists afterwards, so its contract would have to say of each that it is the one that was lent.
+// c is no list's length: it cuts four lists, each of which is longer with some caller.
 pub fn rank_in_stations(
     of: &[u32],
     c: usize,

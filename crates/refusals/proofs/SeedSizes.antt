@@ -12,13 +12,12 @@ use borrow.Author.Tests.{ltb-false}
 use Rattle.float.specs.Ops.{f0}
 use Rattle.float.specs.Small.{abs_of, is_finite}
 use Rattle.float.specs.Size.{Within}
-use Rattle.float.proofs.SizeLaws.{within_weaken, sum_step, mean_within, exact_whole, limit_within, limit_most}
+use Rattle.float.proofs.SizeLaws.{within_weaken, sum_step, mean_within, exact_whole, limit_within}
 use Rattle.order.specs.Order.{pick}
 use Rattle.order.specs.Table.{how_many}
 use Rattle.order.proofs.Tables.{how_many_yes, how_many_no, how_many_le, how_many_mono}
 use Rattle.geometry.specs.declared.Point.{Point}
 use Rattle.geometry.specs.Plane.{point, origin}
-use Rattle.geometry.proofs.PointSizes.{Near}
 use Rattle.network.specs.Words.{station_of, buses_in}
 use Rattle.refusals.specs.Refusal.{above, far_out, too_far}
 use Rattle.seeds.specs.Seed.{point_of, bus_point, plus, sum_to, mean, seed_of}
@@ -127,6 +126,3 @@ module _ (sub : List ℕ) (xy : List Float) (few : length sub ≤ 4096) (near : 
   pub seed_times : (s : ℕ) → Times 1 (seed_of sub xy s)
   unfolding seed_of buses_in counted
   seed_times s = one (sum_to sub xy s (length sub)) (how_many (λ j. eqb (station_of sub j) s) (length sub)) (le_trans (how_many_le (λ j. eqb (station_of sub j) s) (length sub)) few) (sum_times s (length sub) (le_of_eq refl))
-
-  pub seed_near : (s : ℕ) → Near (1074 + 40) (seed_of sub xy s)
-  seed_near s = let h = seed_times s in record { x = limit_most (seed_of sub xy s).x h.x; y = limit_most (seed_of sub xy s).y h.y }

@@ -8,9 +8,10 @@
 //   18 its stations, overlaps, pieces through boxes, relative lengths
 //   22 buses, branches, box numbers, pieces; displacement, spacing, relative
 use crate::lists::{fill_branches, fill_buses, fill_floats, fill_pieces, floats_same};
-use crate::words::{Words, length_at, lent};
+use crate::words::{Words, lent};
 use audit::quality::tx_layout_quality;
 use findings::answer::Figures;
+use stored::length_at;
 
 fn figures_same(f: Figures, w: &[u64; 1024]) -> bool {
     w[13] == 0

@@ -9,11 +9,11 @@
 //   31 unit, bounds
 //   36 buses, branches, half-edges; positions, bars, boxes, scales, roles, pieces
 use crate::lists::{fill_branches, fill_buses, fill_mesh, floats_same, pieces_same, roles_same};
-use crate::words::{Words, length_at, lent, same, search_at, u32_at};
+use crate::words::{Words, lent, same, search_at, u32_at};
 use drawing::answer::Plot;
 use options::Options;
 use small::draw::draw_small;
-use stored::float_at;
+use stored::{float_at, length_at};
 
 fn options(w: &[u64]) -> Options {
     Options {

@@ -3,7 +3,7 @@ ghost use Rattle.std.specs.Prelude.{◌≤◌};
 
 use crate::words::{Words, same};
 
-// Sets the element i, where the list has one.
+// Sets the element i, where the list has one. (`crossings` `put` does so for its own lists of u32: neither crate names the other.)
 fn put<T: Copy>(list: &mut [T], i: usize, v: T) {
     if let Some(x) = list.get_mut(i) {
         *x = v;
@@ -71,7 +71,7 @@ pub(crate) fn fill_pieces(w: &mut Words, rows: usize, pieces: &mut [f64], branch
 }
 
 // Whether a list has n floats or more, and the first n are the next words'.
-// A list that is shorter is a difference: with slices each of the seven calls would have to ask for one and refuse.
+// A list that is shorter is a difference: with slices each of the calls would have to ask for one and refuse.
 pub(crate) fn floats_same(list: &[f64], n: usize, w: &mut Words) -> bool {
     n <= list.len() && list[..n].iter().all(|x| same(*x, w.word()))
 }

@@ -1,15 +1,6 @@
 // Numbers of a stored call, taken from its words.
-ghost use Rattle.std.specs.Prelude.{◌≤◌};
-
 use float::bits::of_bits;
-use stored::word_at;
-
-// A length, at most `most`.
-pub(crate) fn length_at(w: &[u64], i: usize, most: usize) -> usize
-    ensures { result ≤ most }
-{
-    most.min(word_at(w, i) as usize)
-}
+use stored::{length_at, word_at};
 
 // A list in the length of word i, at most its own.
 pub(crate) fn lent<'a, T>(list: &'a [T], w: &[u64], i: usize) -> &'a [T] {

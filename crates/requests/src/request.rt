@@ -41,6 +41,7 @@ fn nothing_at(e: usize) -> LineRequest
 
 // The request of line e between the buses a and b, whose ends have the rows ra and rb; its exits stand in `places`.
 // a and b are usize as `kind_of` answers them, and asked to be below 2^32 as `slot_of` asks.
+// e is counted over usize, here and in `request_of`: as a `u32` it would be converted at each index. `Bounded` would ask for at most 4,096 buses and 8,192 branches here and in the two functions below.
 #[tactic(auto, unfolding(crate::specs::Stages::Requests::line_request))]
 fn line_request(
     sub: &[u32],
@@ -73,7 +74,6 @@ fn line_request(
 }
 
 // The request of branch e.
-// e is counted over usize: as a `u32` it would be converted at each index.
 #[tactic(auto, unfolding(crate::specs::Stages::Requests::request_of, network::specs::Words::Safe))]
 fn request_of(net: &Network<'_>, laid: &Laid<'_>, frames: &[f64], e: usize) -> LineRequest
     requires { (e < 2 ^ 32) × (length net.now.sub.now ≤ 2 ^ 32) }
@@ -98,11 +98,7 @@ pub fn requests_from(
     ensures filled_to { FilledTo (lists net.now.sub.now laid.now.measures laid.now.buses.now laid.now.ends.now laid.now.blocks.now laid.now.places.now frames.now) net.now.from.now net.now.to.now net.now.service.now start 16 result }
     ensures result_len { length result ≡ 16 }
 {
-    let mut list = [nothing_at(0); 16];
-    for i in 0..16 {
-        list[i] = request_of(net, laid, frames, start + i);
-    }
-    list
+    std::array::from_fn(|i| request_of(net, laid, frames, start + i))
 }
 
 // The request at i of a lent list.

@@ -32,7 +32,7 @@ fn around_all(placed: &Placed<'_>) -> Box
         bottom: f64::NEG_INFINITY,
     };
     for s in 0..placed.k {
-        if 0 < placed.stations[2 * s] {
+        if placed.is_occupied(s) {
             b = around(b, box_at(placed.frames, s));
         }
     }

@@ -5,14 +5,13 @@ ghost use Rattle.order.specs.Over.{over};
 ghost use Rattle.runs.specs.Lists.{flat, point_numbers, bar_numbers};
 ghost use Rattle.results.specs.Stages.Bars.{bars_in};
 
-use crate::lists::put_numbers;
 use bars::position;
+use geometry::Box;
 use measures::Measures;
-use network::words::station_of;
 use runs::run::bar_of;
-use seeds::put_point;
+use seeds::{put_box, put_point};
 
-// The buses' positions and bars.
+// The buses' positions and bars: a bar is stored as a box of no width.
 // `Bounded` would ask for few branches too.
 pub fn write_buses(
     sub: &[u32],
@@ -27,9 +26,18 @@ pub fn write_buses(
     ensures positions_after { positions.new ≡ over (flat (λ b. point_numbers (position b)) (bars_in sub.now measures buses.now blocks.now frames.now)) positions.old }
     ensures bars_after { bars.new ≡ over (flat bar_numbers (bars_in sub.now measures buses.now blocks.now frames.now)) bars.old }
 {
-    for i in 0..sub.len() {
-        let bar = bar_of(measures, buses, blocks, frames, station_of(sub, i), i);
+    for (i, &s) in sub.iter().enumerate() {
+        let bar = bar_of(measures, buses, blocks, frames, s as usize, i);
         put_point(positions, i, position(bar));
-        put_numbers(bars, i, bar.x, bar.y0, bar.x, bar.y1);
+        put_box(
+            bars,
+            i,
+            Box {
+                left: bar.x,
+                top: bar.y0,
+                right: bar.x,
+                bottom: bar.y1,
+            },
+        );
     }
 }

@@ -1,5 +1,5 @@
 // The lists of stations and branches: boxes, scales and roles.
-ghost use Rattle.std.specs.Prelude.{◌≡◌, map, ◌+◌, ◌*◌, ◌≤◌, ◌<◌, length, set};
+ghost use Rattle.std.specs.Prelude.{◌≡◌, map, ◌*◌, ◌≤◌, length};
 ghost use Rattle.std.specs.Float.{nan};
 ghost use Rattle.order.specs.Table.{strided};
 ghost use Rattle.network.specs.Words.{kinds};
@@ -11,22 +11,10 @@ ghost use Rattle.runs.specs.Lists.{flat, box_numbers};
 use geometry::box_at;
 use network::lists::Network;
 use network::words::{Kind, kind_of};
-
-// Stores four numbers side by side, the i-th four of a list. (They are stored as they are: it converts none.)
-// `placement` `put_box` stores a box; a bar, stored by this, is none, and neither of the two crates names the other.
-pub(crate) fn put_numbers(list: &mut [f64], i: usize, a: f64, b: f64, c: f64, d: f64)
-    requires { 4 * i + 3 < length list.old }
-    ensures { list.new ≡ set (set (set (set list.old (4 * i) a) (4 * i + 1) b) (4 * i + 2) c) (4 * i + 3) d }
-{
-    list[4 * i] = a;
-    list[4 * i + 1] = b;
-    list[4 * i + 2] = c;
-    list[4 * i + 3] = d;
-}
+use seeds::put_box;
 
 // The stations' boxes and scales.
-// `boxes` and `scales` are written, so their lengths are asked as the slices' own. `Placed` would ask for bus counts, which aren't read here.
-// `blocks` holds three numbers of each station: a struct of it and its k would bring a second k, equal to this one by a further clause.
+// `boxes` and `scales` are written, so their lengths are asked as the slices' own. `Placed` and `sizes::Measured`, which hold `frames` and `blocks`, would ask for bus counts, which aren't read here.
 pub fn write_stations(
     k: usize,
     frames: &[f64],
@@ -39,13 +27,12 @@ pub fn write_stations(
     ensures scales_after { scales.new ≡ over (strided 3 2 nan k blocks.now) scales.old }
 {
     for s in 0..k {
-        let b = box_at(frames, s);
-        put_numbers(boxes, s, b.left, b.top, b.right, b.bottom);
+        put_box(boxes, s, box_at(frames, s));
         scales[s] = blocks[3 * s + 2];
     }
 }
 
-// Roles: 0 line, 1 internal, 2 open or undrawn.
+// Roles: 0 line, 1 internal, 2 open or undrawn; a u8, as C's list holds it.
 #[tactic(auto, unfolding(runs::specs::Run::role))]
 fn role_of(kind: Kind) -> u8
     ensures { result ≡ role kind }

@@ -1,5 +1,5 @@
 -- The rounds' end: what the steps of the code give together. Assumes nothing.
-use mathlib.Core.Path.{◌≡◌, sym, ap, ◌∙◌, subst}
+use mathlib.Core.Path.{◌≡◌, ap, ◌∙◌, subst}
 use mathlib.Core.List.{List}
 use Prim.Native.Nat.{ℕ, ◌<◌}
 use native.Mathlib.Omega.{arith}
@@ -12,10 +12,10 @@ use Rattle.network.specs.Views.{points_in}
 use Rattle.measures.specs.declared.Measures.{Measures}
 use Rattle.crossings.specs.Route.{Scene, Routing, point_of, rounds_to, routing}
 use Rattle.crossings.specs.Stages.Views.{grid, scene_in}
-use Rattle.wishes.specs.Stages.RoundLists.{RoundLists, held, edge_in, point_held, rounds_in, Cornered, Ranged, Ready, Entered}
+use Rattle.wishes.specs.Stages.RoundLists.{RoundLists, held, edge_in, point_held, rounds_in, Cornered, Ranged, Entered}
 use Rattle.grouping.specs.Stages.Grouped.{Grouped}
 use Rattle.rounds.proofs.Meaning.{Means, point_is, rounds_are}
-use Rattle.rounds.proofs.Holding.{cornered, means, ready}
+use Rattle.rounds.proofs.Holding.{cornered, means}
 
 module _ (sub : List ℕ) (from to : List ℤ) (service : List ℕ) (measures : Measures) (ends : List ℕ) (blocks places frames : List Float) (k c : ℕ) (stations : List ℕ) (centres : List Float)
     (corners twins numbers : List ℕ) (along : List Float) (channels crossings : ℕ)
@@ -39,12 +39,6 @@ module _ (sub : List ℕ) (from to : List ℤ) (service : List ℕ) (measures : 
   cornered_all d h =
       cornered sub from to service measures ends blocks places frames k c stations centres corners twins numbers along ends' numbers' centres' entered.mesh entered.exits entered.boxes entered.occupied entered.stored grouped_all d
       (subst (λ (t : ℕ). d < t) entered.channels_are h)
-
-  pub ready_all : Ready H' channels crossings
-  ready_all =
-      subst (λ (t : ℕ). Ready H' t crossings) (sym entered.channels_are)
-      (subst (λ (t : ℕ). Ready H' (length R'.channels) t) (sym entered.crossings_are)
-      (ready sub from to service measures ends blocks places frames k c stations centres corners twins numbers along ends' numbers' centres' entered.mesh entered.exits entered.boxes entered.occupied entered.stored grouped_all))
 
   started : take (length R'.crossings) along ≡ rounds_to S' R' 0
   unfolding rounds_to

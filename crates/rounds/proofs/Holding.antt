@@ -23,7 +23,7 @@ use Rattle.crossings.specs.Route.{Scene, Routing, Keyed, Crossing, Path, no_cros
 use Rattle.runs.specs.Stages.Views.{first_exit, second_exit}
 use Rattle.crossings.specs.Stages.Views.{Grid, grid, line_in, lines_in, scene_in, Edged, Stored}
 use Rattle.crossings.specs.Gap.{gap_of}
-use Rattle.wishes.specs.Stages.RoundLists.{RoundLists, held, edge_in, low_in, high_in, station_in, range_in, Cornered, Ranged, Ready}
+use Rattle.wishes.specs.Stages.RoundLists.{RoundLists, held, edge_in, low_in, high_in, station_in, range_in, Cornered, Ranged}
 use Rattle.exits.specs.Stages.Exits.{exits_of, exits_in, Exited}
 use Rattle.grouping.specs.Stages.Grouped.{start_in, member_in, Grouped}
 use Rattle.rounds.proofs.Routed.{Traced, routed}
@@ -218,6 +218,3 @@ module _ (sub : List ℕ) (from to : List ℤ) (service : List ℕ) (measures : 
             range = λ d g. ranged.ranges d g ∙ range_is d g;
             stretch = stretch_is;
           }
-
-    pub ready : Ready H (length R.channels) (length R.crossings)
-    ready = record { rising = grouped.rising; within = grouped.within }

@@ -1,5 +1,5 @@
 -- One channel spaced, a round and rounds, by the steps of the code. Assumes nothing.
-use mathlib.Core.Path.{◌≡◌, refl, sym, ap, ◌∙◌}
+use mathlib.Core.Path.{◌≡◌, refl, ap, ◌∙◌}
 use mathlib.Core.List.{List, ◌++◌, map}
 use Prim.Native.Nat.{ℕ, ◌+◌, ◌-◌}
 use native.Mathlib.Numerals.{add-one}
@@ -51,25 +51,19 @@ module _ (occupied : ℕ) (H : RoundLists) (c st en : ℕ) (range : Channel) (ps
 
 -- ---- rounds, by channels and by their number
 
-module _ (occupied : ℕ) (H : RoundLists) (l₀ : List Float) where
-  pub spaced_none : l₀ ≡ spaced_in occupied H 0 l₀
+module _ (occupied : ℕ) (H : RoundLists) (l : List Float) where
+  pub spaced_none : spaced_in occupied H 0 l ≡ l
   unfolding spaced_in
   spaced_none = refl
 
-  pub spaced_more : (l l' : List Float) (c : ℕ) → l ≡ spaced_in occupied H c l₀ → l' ≡ space_in occupied H c l → l' ≡ spaced_in occupied H (c + 1) l₀
+  pub spaced_more : (c : ℕ) → spaced_in occupied H (c + 1) l ≡ space_in occupied H c (spaced_in occupied H c l)
   unfolding spaced_in
-  spaced_more l l' c e h = h ∙ ap (space_in occupied H c) e ∙ ap (λ (k : ℕ). spaced_in occupied H k l₀) (sym (add-one c))
+  spaced_more c = ap (λ (k : ℕ). spaced_in occupied H k l) (add-one c)
 
-  pub spaced_done : (l : List Float) (c n : ℕ) → c ≡ n → l ≡ spaced_in occupied H c l₀ → l ≡ spaced_in occupied H n l₀
-  spaced_done l c n e h = h ∙ ap (λ (k : ℕ). spaced_in occupied H k l₀) e
-
-  pub rounds_none : (channels : ℕ) → l₀ ≡ rounds_in occupied H channels 0 l₀
+  pub rounds_none : (channels : ℕ) → rounds_in occupied H channels 0 l ≡ l
   unfolding rounds_in
   rounds_none channels = refl
 
-  pub rounds_more : (l l' : List Float) (channels i : ℕ) → l ≡ rounds_in occupied H channels i l₀ → l' ≡ spaced_in occupied H channels l → l' ≡ rounds_in occupied H channels (i + 1) l₀
+  pub rounds_more : (channels i : ℕ) → rounds_in occupied H channels (i + 1) l ≡ spaced_in occupied H channels (rounds_in occupied H channels i l)
   unfolding rounds_in
-  rounds_more l l' channels i e h = h ∙ ap (spaced_in occupied H channels) e ∙ ap (λ (k : ℕ). rounds_in occupied H channels k l₀) (sym (add-one i))
-
-  pub rounds_done : (l : List Float) (channels i n : ℕ) → i ≡ n → l ≡ rounds_in occupied H channels i l₀ → l ≡ rounds_in occupied H channels n l₀
-  rounds_done l channels i n e h = h ∙ ap (λ (k : ℕ). rounds_in occupied H channels k l₀) e
+  rounds_more channels i = ap (λ (k : ℕ). rounds_in occupied H channels k l) (add-one i)

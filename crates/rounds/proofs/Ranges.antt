@@ -1,51 +1,20 @@
 -- A channel's stretch by the steps of the code, with its boxes handed on as parts of their list. Assumes nothing.
-use mathlib.Core.Path.{◌≡◌, refl, sym, ap, ◌∙◌, subst}
+use mathlib.Core.Path.{◌≡◌, refl, ◌∙◌, subst}
 use mathlib.Core.Logic.{⊎_elim, ◌≢◌}
 use mathlib.Core.List.{List}
 use Prim.Native.Nat.{ℕ, ◌+◌, ◌-◌, ◌*◌, ◌≤◌, ◌<◌}
 use native.Mathlib.Omega.{arith}
-use native.Mathlib.Nat.{add-zero}
 use lib.ListN.{length, get_or, take, drop, set, length-set}
 use lib.Seq.{get_or-take, get_or-drop, get_or-set_same, get_or-set_other, take-set-le}
 use lib.Ieee.{Float, nan}
-use Rattle.geometry.specs.declared.Point.{Point}
-use Rattle.geometry.specs.Plane.{point_at, box_at}
+use Rattle.geometry.specs.Plane.{point_at}
 use Rattle.channel.specs.declared.Channel.{Channel}
-use Rattle.channel.specs.Channel.{channel_of}
 use Rattle.mesh.specs.Mesh.{low_at, high_at}
-use Rattle.crossings.specs.Gap.{gap_of}
 use Rattle.order.proofs.Merging.{le_or_lt}
-use Rattle.wishes.specs.Stages.RoundLists.{edge_in, low_in, high_in, station_in, range_in, range_at, put_range, Boxed, Cornered, Ranged}
+use Rattle.wishes.specs.Stages.RoundLists.{edge_in, low_in, high_in, range_in, range_at, put_range, Cornered, Ranged}
 
-part_at : (l : List Float) (a n i : ℕ) → i < n → get_or (take n (drop a l)) i nan ≡ get_or l (a + i) nan
+pub part_at : (l : List Float) (a n i : ℕ) → i < n → get_or (take n (drop a l)) i nan ≡ get_or l (a + i) nan
 part_at l a n i h = get_or-take n (drop a l) i nan h ∙ get_or-drop a l i nan
-
-pub box_part : (l : List Float) (s : ℕ) → box_at (take (4 * s + 4 - 4 * s) (drop (4 * s) l)) 0 ≡ box_at l s
-box_part l s =
-    let n = 4 * s + 4 - 4 * s in
-    let a : get_or (take n (drop (4 * s) l)) 0 nan ≡ get_or l (4 * s) nan = part_at l (4 * s) n 0 (omega arith) ∙ ap (λ (k : ℕ). get_or l k nan) (add-zero (4 * s)) in
-    let b : get_or (take n (drop (4 * s) l)) 1 nan ≡ get_or l (4 * s + 1) nan = part_at l (4 * s) n 1 (omega arith) in
-    let c : get_or (take n (drop (4 * s) l)) 2 nan ≡ get_or l (4 * s + 2) nan = part_at l (4 * s) n 2 (omega arith) in
-    let d : get_or (take n (drop (4 * s) l)) 3 nan ≡ get_or l (4 * s + 3) nan = part_at l (4 * s) n 3 (omega arith) in
-    cc
-
-pub ranged : (unit : Float) (blocks frames centres : List Float) (stations corners : List ℕ) (h a b s t : ℕ) (u w : Point) (su sw gap : Float) (r : Channel)
-    → a ≡ low_at corners h → b ≡ high_at corners h → s ≡ station_in stations a → t ≡ station_in stations b → u ≡ point_at centres a → w ≡ point_at centres b
-    → su ≡ get_or blocks (3 * s + 2) nan → sw ≡ get_or blocks (3 * t + 2) nan → gap ≡ gap_of unit
-    → r ≡ channel_of u w (box_at (take (4 * s + 4 - 4 * s) (drop (4 * s) frames)) 0) (box_at (take (4 * t + 4 - 4 * t) (drop (4 * t) frames)) 0) su sw gap
-    → r ≡ range_in unit blocks frames stations centres corners h
-unfolding range_in low_in high_in
-ranged unit blocks frames centres stations corners h a b s t u w su sw gap r ha hb hs ht hu hw hsu hsw hg hr =
-    let p : box_at (take (4 * s + 4 - 4 * s) (drop (4 * s) frames)) 0 ≡ box_at frames s = box_part frames s in
-    let q : box_at (take (4 * t + 4 - 4 * t) (drop (4 * t) frames)) 0 ≡ box_at frames t = box_part frames t in
-    rw (hr, p, q, hsu, hsw, hg, hu, hw, hs, ht, ha, hb)
-
-module _ (frames : List Float) (stations corners : List ℕ) (h s a : ℕ) (e : s ≡ station_in stations a) (b : Boxed frames stations corners h) where
-  pub boxed_low : a ≡ low_at corners h → 4 * s + 4 ≤ length frames
-  boxed_low q = rw (e, q) b.low
-
-  pub boxed_high : a ≡ high_at corners h → 4 * s + 4 ≤ length frames
-  boxed_high q = rw (e, q) b.high
 
 -- ---- a range set in a list: read again, read beside it, and the points before it
 
@@ -112,28 +81,34 @@ module _ (unit : Float) (blocks frames : List Float) (stations corners : List �
     unfolding range_in low_in high_in
     range_kept h r = cc (point_kept (low_at corners h) r.low, point_kept (high_at corners h) r.high)
 
-  pub ranged_none : (l₀ : List Float) → Ranged unit blocks frames stations corners m ends c 0 l₀ l₀
+  -- after d channels
+  unfoldable pub RangedTo : ℕ → List Float → List Float → Type 0
+  RangedTo d l₀ l = Ranged unit blocks frames stations corners m ends c d l₀ l
+
+  pub ranged_none : (l₀ : List Float) → RangedTo 0 l₀ l₀
+  unfolding RangedTo
   ranged_none l₀ = record { kept = refl; ranges = λ d h. absurd (omega arith) }
 
-  pub ranged_more : (l₀ l l' : List Float) (d h : ℕ) (r : Channel) → 2 * c + 3 * d + 3 ≤ length l → h ≡ edge_in m ends d → Cornered frames stations corners c (edge_in m ends d)
-      → r ≡ range_in unit blocks frames stations l corners h → l' ≡ put_range l c d r
-      → Ranged unit blocks frames stations corners m ends c d l₀ l → Ranged unit blocks frames stations corners m ends c (d + 1) l₀ l'
-  ranged_more l₀ l l' d h r room e k q put R =
+  pub ranged_more : (l₀ l : List Float) (d : ℕ) (r : Channel) → 2 * c + 3 * d + 3 ≤ length l → Cornered frames stations corners c (edge_in m ends d)
+      → r ≡ range_in unit blocks frames stations l corners (edge_in m ends d) → RangedTo d l₀ l → RangedTo (d + 1) l₀ (put_range l c d r)
+  unfolding RangedTo
+  ranged_more l₀ l d r room k q R =
+      let l' = put_range l c d r in
       record {
-        kept = ap (take (2 * c)) put ∙ put_points l c d r ∙ R.kept;
+        kept = put_points l c d r ∙ R.kept;
         ranges =
             λ b g.
             ⊎_elim
             (λ (z : d ≤ b).
             let y : d ≡ b = omega arith in
             subst (λ (t : ℕ). range_at c l' t ≡ range_in unit blocks frames stations l₀ corners (edge_in m ends t)) y
-            (ap (λ (t : List Float). range_at c t d) put ∙ put_same l c d r room ∙ q ∙ ap (range_in unit blocks frames stations l corners) e ∙ range_kept l l₀ R.kept (edge_in m ends d) k))
-            (λ (z : b < d). ap (λ (t : List Float). range_at c t b) put ∙ put_other l c d r b z ∙ R.ranges b z)
+            (put_same l c d r room ∙ q ∙ range_kept l l₀ R.kept (edge_in m ends d) k))
+            (λ (z : b < d). put_other l c d r b z ∙ R.ranges b z)
             (le_or_lt d b);
       }
 
-  pub ranged_done : (l₀ l : List Float) (d channels : ℕ) → d ≡ channels → Ranged unit blocks frames stations corners m ends c d l₀ l → Ranged unit blocks frames stations corners m ends c channels l₀ l
-  ranged_done l₀ l d channels e R = subst (λ (t : ℕ). Ranged unit blocks frames stations corners m ends c t l₀ l) e R
+  pub ranged_done : (l₀ l : List Float) (channels : ℕ) → RangedTo channels l₀ l → Ranged unit blocks frames stations corners m ends c channels l₀ l
+  unfolding RangedTo
+  ranged_done l₀ l channels R = R
 
-pub boxed_at : (frames : List Float) (stations corners : List ℕ) (c h k : ℕ) → h ≡ k → Cornered frames stations corners c k → Boxed frames stations corners h
-boxed_at frames stations corners c h k e r = subst (λ (t : ℕ). Boxed frames stations corners t) (sym e) r.boxed
+pub ruleset ranged = (ranged_none, ranged_more, ranged_done)

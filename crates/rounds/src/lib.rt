@@ -17,8 +17,9 @@ use network::lists::Network;
 use wishes::wish::{Crossed, Fixed};
 
 // Spaces all crossings of the routing that the lists hold, so many rounds, and puts their points into `ways`. The channels' ranges are written behind the mesh's points; `sorted`, `spare` and `keys` are work lists.
-// `ends`, `centres`, `numbers`, `along`, `ways`, `sorted`, `spare` and `keys` are written: behind the `&mut` of a struct other lists could be put, so each contract would have to say that it keeps the lists and their lengths.
+// `ends`, `centres`, `numbers`, `along`, `ways`, `sorted`, `spare` and `keys` are written: behind the `&mut` of a struct other lists could be put, so each contract would have to say of each list that it is the one that was lent.
 // The lengths of `from` and `sub` are bounded so that no index overflows: `Bounded` would ask for at most 8,192 branches and 4,096 buses.
+// k, c and `stations` come alone: a `Placed` would ask for two numbers of each of k stations, and a `Vertices` for at most 4,096 of them.
 pub fn space_all_rounds<'a>(
     net: &Network<'a>,
     measures: Measures,

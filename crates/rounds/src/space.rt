@@ -57,6 +57,7 @@ fn station_at(stations: &[u32], v: u32) -> u32
 }
 
 // The stretch where lines may cross the channel of half-edge h.
+#[tactic(auto, using(crate::proofs::Ranges::part_at), unfolding(wishes::specs::Stages::RoundLists::range_in, wishes::specs::Stages::RoundLists::low_in, wishes::specs::Stages::RoundLists::high_in))]
 fn range_of(
     unit: f64,
     blocks: &[f64],
@@ -96,6 +97,8 @@ fn put_range(list: &mut [f64], c: usize, d: usize, r: Channel)
 }
 
 // Writes every channel's range behind the c points of the mesh.
+// m, c and the channels are counted over usize: as `u32` they would be converted at each index.
+#[tactic(auto, using(crate::proofs::Ranges::ranged))]
 pub(crate) fn write_ranges(
     m: usize,
     unit: f64,
@@ -120,6 +123,8 @@ pub(crate) fn write_ranges(
 }
 
 // The range of channel d, behind c points of a list.
+// c and d are counted over usize as in `write_ranges`.
+#[tactic(auto, unfolding(wishes::specs::Stages::RoundLists::range_at))]
 fn range_at(list: &[f64], c: usize, d: usize) -> Channel
     requires { (c ≤ 2 ^ 32) × (d < 2 ^ 32) }
     ensures { result ≡ range_at c list.now d }
@@ -133,6 +138,7 @@ fn range_at(list: &[f64], c: usize, d: usize) -> Channel
 }
 
 // The wishes of crossings, those from `start` on among the crossings grouped by channel.
+#[tactic(auto, using(crate::proofs::Pointing::tabled))]
 fn take_wishes(fixed: &Fixed<'_>, along: &[f64], start: u32, ways: &mut [f64])
     requires { length ways.old ≤ 2 ^ 32 }
     ensures { ways.new ≡ table (λ i. wish_in (held fixed.now.crossed.m fixed.now.base fixed.now.crossed.ends.now fixed.now.places.now fixed.now.crossed.centres.now fixed.now.crossed.corners.now fixed.now.crossed.numbers.now) along.now (member_in fixed.now.crossed.numbers.now (start + i))) (length ways.old) }
@@ -144,6 +150,7 @@ fn take_wishes(fixed: &Fixed<'_>, along: &[f64], start: u32, ways: &mut [f64])
 }
 
 // Puts each place at its crossing, by the order of the wishes.
+#[tactic(auto, using(crate::proofs::Putting::putting))]
 fn put_places(numbers: &[u32], start: u32, order: &[u32], places: &[f64], along: &mut [f64])
     requires { length order.now ≤ length places.now }
     ensures { along.new ≡ put_all (map (λ j. member_in numbers.now (start + j)) order.now) places.now along.old }
@@ -156,7 +163,7 @@ fn put_places(numbers: &[u32], start: u32, order: &[u32], places: &[f64], along:
     }
 }
 
-// Spaces channel c's crossings: all its wishes are taken before any place changes. The room in `ways`, `sorted`, `spare` and `keys` is asked here and in the two functions below: behind the `&mut` of a struct other lists could be put, so each contract would have to say that it keeps their lengths.
+// Spaces channel c's crossings: all its wishes are taken before any place changes. The room in `ways`, `sorted`, `spare` and `keys` is asked here and in the two functions below: behind the `&mut` of a struct other lists could be put, so each contract would have to say of each that it is the one that was lent.
 fn space_one(
     stretches: &Stretches<'_>,
     c: usize,
@@ -179,6 +186,7 @@ fn space_one(
 }
 
 // One round: the channels' crossings spaced, one channel after another.
+#[tactic(auto, using(crate::proofs::Making::spaced_none, crate::proofs::Making::spaced_more))]
 fn round(
     stretches: &Stretches<'_>,
     along: &mut [f64],
@@ -197,6 +205,7 @@ fn round(
 
 // So many rounds.
 // `along`, `ways`, `sorted`, `spare` and `keys` are written, so no struct holds them, as in `space_one`.
+#[tactic(auto, using(crate::proofs::Making::rounds_none, crate::proofs::Making::rounds_more))]
 pub(crate) fn rounds(
     stretches: &Stretches<'_>,
     iterations: u32,
@@ -209,12 +218,13 @@ pub(crate) fn rounds(
     requires { (stretches.now.most ≤ length ways.old) × (stretches.now.most ≤ length sorted.old) × (stretches.now.most ≤ length spare.old) × (stretches.now.most ≤ length keys.old) }
     ensures { along.new ≡ rounds_in stretches.now.occupied (held stretches.now.fixed.crossed.m stretches.now.fixed.base stretches.now.fixed.crossed.ends.now stretches.now.fixed.places.now stretches.now.fixed.crossed.centres.now stretches.now.fixed.crossed.corners.now stretches.now.fixed.crossed.numbers.now) stretches.now.channels iterations along.old }
 {
-    for i in 0..iterations {
+    for _ in 0..iterations {
         round(stretches, along, ways, sorted, spare, keys);
     }
 }
 
 // The points of the first n crossings, two numbers each: a slice of the list would say n by half its length.
+#[tactic(auto, using(crate::proofs::Pointing::pointing))]
 pub(crate) fn put_points(crossed: &Crossed<'_>, along: &[f64], n: usize, ways: &mut [f64])
     requires { (n ≤ 2 ^ 32) × (2 * n ≤ length ways.old) }
     ensures { points_in n ways.new ≡ table (point_in crossed.now.m crossed.now.ends.now crossed.now.centres.now crossed.now.corners.now crossed.now.numbers.now along.now) n }

@@ -18,7 +18,7 @@ use Rattle.geometry.specs.declared.Point.{Point}
 use Rattle.geometry.specs.Plane.{point, point_at}
 use Rattle.mesh.specs.Mesh.{mesh_ok}
 use Rattle.mesh.proofs.Meshes.{mesh_sound}
-use Rattle.std.specs.Prelude.{Option, Some, None, Result, Ok, Err}
+use Rattle.std.specs.Prelude.{Some, None, Result, Ok, Err}
 use Rattle.std.specs.Result.{is_err}
 use Rattle.refusals.specs.declared.Refusal.{Refusal}
 use Rattle.refusals.specs.declared.Refusal.TheVariants as Refusals
@@ -27,7 +27,6 @@ use Rattle.network.specs.Views.{from_rows_in, to_rows_in, points_in}
 use Rattle.detour.specs.Stages.Paths.{path_in}
 use Rattle.measures.specs.declared.Measures.{Measures}
 use Rattle.runs.specs.Stages.Views.{way_of, way_count}
-use Rattle.crossings.specs.Route as Route
 use Rattle.crossings.specs.Route.{Scene, Path, no_path, path_at, point_of, routing, rounds_to, waypoints}
 use Rattle.crossings.specs.Stages.Views.{Grid, grid, line_in, lines_in, scene_in}
 use Rattle.crossings.specs.Stages.Store.{SameRows}

@@ -27,7 +27,8 @@ fn mesh_used(stations: usize, iterations: u32) -> bool
     3 <= stations && 0 < iterations
 }
 
-// Routes the lines through the mesh over the occupied stations, whose places are at the front of path; the channels' ranges are written behind them. The room in `ends`, `sorted`, `spare`, `keys`, `path`, `numbers`, `along` and `ways` is asked here and in `route_lines`: behind the `&mut` of a struct other lists could be put, so both contracts would have to say that it keeps the lists and their lengths.
+// Routes the lines through the mesh over the occupied stations, whose places are at the front of path; the channels' ranges are written behind them. The room in `ends`, `sorted`, `spare`, `keys`, `path`, `numbers`, `along` and `ways` is asked here and in `route_lines`: behind the `&mut` of a struct other lists could be put, so both contracts would have to say of each list that it is the one that was lent. That of `frames` is asked as in `route_lines`.
+#[tactic(auto, using(crate::proofs::Leading::mesh_room))]
 fn route_used(
     iterations: u32,
     room: usize,
@@ -88,6 +89,7 @@ fn route_used(
 
 // Routes the lines of the network, whose exits stand in `places`, through the mesh, where the crossing list holds `room` crossings.
 // `stations` is written too, beside those lists, so no `Placed` holds it with k and `frames`: `k ≤ 4096` and the lengths of `places` and `frames` are asked here.
+#[tactic(auto, using(crate::proofs::Scenes::order_rises))]
 pub fn route_lines(
     iterations: u32,
     room: usize,

@@ -1,4 +1,4 @@
--- A branch's crossings stand in a row: the crossing before number x on its path is x - 1, the one after it x + 1, and its number on its line is x less the first. Every crossing's channel is one of the list. Assumes nothing.
+-- A branch's crossings stand in a row: the crossing before number x on its path is x - 1, the one after it x + 1. Assumes nothing.
 use mathlib.Core.Path.{◌≡◌, refl, sym, ap, ◌∙◌, subst}
 use mathlib.Core.Logic.{⊎_elim}
 use mathlib.Core.Bool.{Bool, true, false, cond}
@@ -10,10 +10,8 @@ use native.Mathlib.Nat.{add-zero, zero-add}
 use lib.ListN.{length, get_or, length-append, get_or-append}
 use lib.Seq.{get_or-append-add, get_or-append_seam}
 use Rattle.order.proofs.Merging.{le_or_lt}
-use Rattle.mesh.specs.Mesh.{low_at, high_at}
 use Rattle.walk.specs.Trace.{Walk, traced}
-use Rattle.crossings.specs.Route.{Scene, Routing, Keyed, Crossing, Path, Line, no_crossing, no_path, number_of, vertex_of, centre_at, make_channel, with_channel, crossing_of, cross, cross_all, add_walk, add_branch, traced_to, routing}
-use Rattle.crossings.proofs.Numbers.{number_le, with_old, with_new}
+use Rattle.crossings.specs.Route.{Scene, Routing, Crossing, Path, Line, no_crossing, no_path, vertex_of, centre_at, crossing_of, cross, cross_all, add_walk, add_branch, traced_to, routing}
 
 -- crossings of branch e from its number k on
 abbrev Row : ℕ → ℕ → List Crossing → Type 0
@@ -167,68 +165,6 @@ module _ (S : Scene) where
   rows zero = record { number = refl; each = λ i h. absurd (omega arith); steps = λ x h. absurd (omega arith) }
   rows (suc e) = rows_branch e (get_or S.lines e none) (traced_to S e) (rows e)
 
-  -- a path for each branch, in a row
-  pub path_count : length (routing S).paths ≡ length S.lines
-  unfolding routing
-  path_count = (rows (length S.lines)).number
-
   pub path_row : (e : ℕ) → e < length S.lines → Rowed e (get_or (routing S).paths e no_path) (routing S).crossings
   unfolding routing
   path_row e h = (rows (length S.lines)).each e h
-
-  -- a crossing's number on its line is its own less its branch's first
-  pub step_is : (x : ℕ) → x < length (routing S).crossings → Stepped (length S.lines) (routing S).paths x (get_or (routing S).crossings x no_crossing)
-  unfolding routing
-  step_is x h = (rows (length S.lines)).steps x h
-
-  -- ---- channels
-
-  -- the channel of each crossing is one of the list
-  abbrev Channelled : Routing → Type 0
-  Channelled r = (x : ℕ) → x < length r.crossings → (get_or r.crossings x no_crossing).channel < length r.channels
-
-  with_long : (a b : ℕ) (ks : List Keyed) → (length ks ≤ length (with_channel S a b ks)) × (number_of a b ks < length (with_channel S a b ks))
-  with_long a b ks =
-      ⊎_elim
-      (λ (z : length ks ≤ number_of a b ks).
-      let e : number_of a b ks ≡ length ks = omega (arith, number_le a b ks) in
-      let l : length (with_channel S a b ks) ≡ length ks + 1 = ap length (with_new S a b ks e) ∙ length-append ks (make_channel S a b ∷ []) in
-      (omega arith, omega arith))
-      (λ (z : number_of a b ks < length ks). let l : length (with_channel S a b ks) ≡ length ks = ap length (with_old S a b ks z) in (omega arith, omega arith))
-      (le_or_lt (length ks) (number_of a b ks))
-
-  cross_channelled : (va vb e k h : ℕ) (r : Routing) → Channelled r → Channelled (cross S va vb e k h r)
-  unfolding cross crossing_of
-  cross_channelled va vb e k h r f x l =
-      let new = crossing_of S va vb e k h r.channels in
-      let w = with_long (low_at S.corners h) (high_at S.corners h) r.channels in
-      let long = length-append r.crossings (new ∷ []) in
-      ⊎_elim
-      (λ (z : length r.crossings ≤ x).
-      let q : length r.crossings ≡ x = omega (arith, long) in
-      let c : get_or (r.crossings ++ (new ∷ [])) x no_crossing ≡ new = ap (λ (n : ℕ). get_or (r.crossings ++ (new ∷ [])) n no_crossing) (sym q) ∙ get_or-append_seam r.crossings new [] no_crossing in
-      omega (arith, ap (λ (y : Crossing). y.channel) c, w.1))
-      (λ (z : x < length r.crossings). omega (arith, ap (λ (y : Crossing). y.channel) (get_or-append r.crossings (new ∷ []) no_crossing x z), f x z, w.0))
-      (le_or_lt (length r.crossings) x)
-
-  all_channelled : (va vb e k : ℕ) (hs : List ℕ) (r : Routing) → Channelled r → Channelled (cross_all S va vb e k hs r)
-  unfolding cross_all
-  all_channelled va vb e k [] r f = f
-  all_channelled va vb e k (h ∷ hs) r f = all_channelled va vb e (suc k) hs (cross S va vb e k h r) (cross_channelled va vb e k h r f)
-
-  branch_channelled : (e : ℕ) (l : Option Line) (r : Routing) → Channelled r → Channelled (add_branch S e l r)
-  unfolding add_branch add_walk
-  branch_channelled e none r f = f
-  branch_channelled e (some l) r f =
-      let va = vertex_of l.sa S.occupied in
-      let vb = vertex_of l.sb S.occupied in
-      all_channelled va vb e 0 (traced S.corners S.twins (centre_at S) va vb).edges r f
-
-  channelled : (e : ℕ) → Channelled (traced_to S e)
-  unfolding traced_to
-  channelled zero = λ x h. absurd (omega arith)
-  channelled (suc e) = branch_channelled e (get_or S.lines e none) (traced_to S e) (channelled e)
-
-  pub channel_in : (x : ℕ) → x < length (routing S).crossings → (get_or (routing S).crossings x no_crossing).channel < length (routing S).channels
-  unfolding routing
-  channel_in = channelled (length S.lines)

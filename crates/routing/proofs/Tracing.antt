@@ -29,7 +29,6 @@ use Rattle.crossings.specs.Stages.Store.{stock, meshed, walk_of, crossings_to, a
 use Rattle.routing.specs.Stages.Traced.{crossings_in, Settled, lined, Traced, Pathless}
 use Rattle.routing.specs.declared.lines.Counts.{Counts}
 use Rattle.std.specs.Prelude.{Result, Ok, Err}
-use Rattle.std.specs.Result.{is_err}
 use Rattle.crossings.proofs.Written.{put_pair, pair_other, pair_rows, pair_first, pair_second, length_pair, rows_then, rows_same}
 use Rattle.routing.proofs.Filling.{front_read, front_rows}
 
@@ -78,11 +77,6 @@ module _ (sub : List ℕ) (from to : List ℤ) (service : List ℕ) (c : ℕ) (s
 
   abbrev points : List Float
   points = take (2 * c) path
-
-  -- its mesh is what it is
-  own : (k : ℕ) (G : Grid) → meshed corners twins points (scene_of k G) ≡ scene_of k G
-  unfolding scene_in
-  own k G = refl
 
   module _ (before ways : List ℕ) (w : Wayed (way_of sub from to service (order_in c stations)) (length from) (length from) before ways) (k : ℕ) (G : Grid) where
     abbrev network : Grid

@@ -17,7 +17,7 @@ pub struct Counts {
     pub channels: usize,
 }
 
-// The crossings of a branch with this way. The room in `trail` is asked in each function that lends it on to be written: behind the `&mut` of a struct another list could be put, so each contract would have to say that it keeps its length.
+// The crossings of a branch with this way. The room in `trail` is asked in each function that lends it on to be written: behind the `&mut` of a struct another list could be put, so each contract would have to say that it is the one that was lent.
 fn count_line(turned: &Turned<'_>, points: &[f64], a: u32, b: u32, trail: &mut [u32]) -> usize
     requires { length turned.now.mesh.corners.now ≤ length trail.old }
     ensures value { result ≡ length (walk_of turned.now.mesh.corners.now turned.now.mesh.twins.now (point_at points.now) a b).edges }
@@ -37,6 +37,7 @@ fn count_line(turned: &Turned<'_>, points: &[f64], a: u32, b: u32, trail: &mut [
 }
 
 // The crossings of m branches, whose ways are the last two of four numbers each.
+#[tactic(auto, using(crate::proofs::Branching::crossings_none, crate::proofs::Branching::crossings_step))]
 pub(crate) fn count_all(
     turned: &Turned<'_>,
     points: &[f64],
@@ -74,31 +75,27 @@ fn kept_count(kept: bool, n: usize) -> usize
     if kept { n } else { 0 }
 }
 
-// Stores the crossings and the path of branch e, from number x on; how many crossings and channels there are then, k channels before. The room in `ends` and the mesh test are asked here, in `store_all` and in `store_routes`: `ends` is written as `trail` is, and `Turned` asks no test, since `trace` needs none.
+// Stores the crossings and the path of branch e behind those that there were; how many crossings and channels there are then. The room in `ends` and the mesh test are asked here, in `store_all` and in `store_routes`: `ends` is written as `trail` is, and `Turned` asks no test, since `trace` needs none.
 fn store_branch(
     turned: &Turned<'_>,
     points: &[f64],
     m: u32,
     e: u32,
-    x: usize,
-    k: usize,
+    was: Counts,
     trail: &mut [u32],
     ends: &mut [u32],
     numbers: &mut [u32],
     places: &mut [f64],
 ) -> Counts
-    requires e_bound { (e < m) × (k ≤ x) × (length turned.now.mesh.corners.now ≤ length trail.old) × (4 * (m + length turned.now.mesh.corners.now) + 4 ≤ length ends.old) }
-    requires x_bound { (x + length (walk_at turned.now.mesh.corners.now turned.now.mesh.twins.now points.now ends.old e).edges < 0xffff_ffff) × (3 * (x + length (walk_at turned.now.mesh.corners.now turned.now.mesh.twins.now points.now ends.old e).edges) ≤ length numbers.old) × (x + length (walk_at turned.now.mesh.corners.now turned.now.mesh.twins.now points.now ends.old e).edges ≤ length places.old) }
+    requires e_bound { (e < m) × (was.channels ≤ was.crossings) × (length turned.now.mesh.corners.now ≤ length trail.old) × (4 * (m + length turned.now.mesh.corners.now) + 4 ≤ length ends.old) }
+    requires x_bound { (was.crossings + length (walk_at turned.now.mesh.corners.now turned.now.mesh.twins.now points.now ends.old e).edges < 0xffff_ffff) × (3 * (was.crossings + length (walk_at turned.now.mesh.corners.now turned.now.mesh.twins.now points.now ends.old e).edges) ≤ length numbers.old) × (was.crossings + length (walk_at turned.now.mesh.corners.now turned.now.mesh.twins.now points.now ends.old e).edges ≤ length places.old) }
     requires by_index { (n : ℕ) × (mesh_ok turned.now.mesh.corners.now turned.now.mesh.twins.now n ≡ true) }
-    ensures { Branched m turned.now.mesh.corners.now turned.now.mesh.twins.now points.now e (get_or ends.old (4 * e + 2) 0) (get_or ends.old (4 * e + 3) 0) (stock k x ends.old numbers.old places.old) (stock result.channels result.crossings ends.new numbers.new places.new) }
+    ensures { Branched m turned.now.mesh.corners.now turned.now.mesh.twins.now points.now e (get_or ends.old (4 * e + 2) 0) (get_or ends.old (4 * e + 3) 0) (stock was.channels was.crossings ends.old numbers.old places.old) (stock result.channels result.crossings ends.new numbers.new places.new) }
 {
     let a = at(ends, 4 * e as usize + 2);
     if a == 0 {
         put_path(e as usize, 0, 0, ends);
-        return Counts {
-            crossings: x,
-            channels: k,
-        };
+        return was;
     }
     let b = at(ends, 4 * e as usize + 3);
     let line = Line {
@@ -110,15 +107,26 @@ fn store_branch(
     let t = trace(&line, trail);
     let n = t.count;
     let used = kept_count(t.kept, n);
-    let known = store_trail(&line, m, e, &trail[..n], x, k, ends, numbers, places);
-    put_path(e as usize, x as u32, used as u32, ends);
+    let known = store_trail(
+        &line,
+        m,
+        e,
+        &trail[..n],
+        was.crossings,
+        was.channels,
+        ends,
+        numbers,
+        places,
+    );
+    put_path(e as usize, was.crossings as u32, used as u32, ends);
     Counts {
-        crossings: x + n,
+        crossings: was.crossings + n,
         channels: known,
     }
 }
 
 // Stores the crossings and paths of m branches, whose ways are the last two of four numbers each, and then their paths.
+// `numbers` and `places` are written, so their room is asked as the slices' own, here and in `store_branch`; that m is at most 8,192 is asked since no `Bounded` reaches these functions.
 pub(crate) fn store_all(
     turned: &Turned<'_>,
     points: &[f64],
@@ -133,17 +141,14 @@ pub(crate) fn store_all(
     requires unmarked { Unmarked m turned.now.mesh.corners.now ends.old }
     ensures { Filled m turned.now.mesh.corners.now turned.now.mesh.twins.now points.now ends.old m (stock result.channels result.crossings ends.new numbers.new places.new) }
 {
-    let mut x = 0;
-    let mut k = 0;
+    let mut counts = Counts {
+        crossings: 0,
+        channels: 0,
+    };
     for e in 0..m {
-        let c = store_branch(turned, points, m, e, x, k, trail, ends, numbers, places);
-        x = c.crossings;
-        k = c.channels;
+        counts = store_branch(turned, points, m, e, counts, trail, ends, numbers, places);
     }
-    Counts {
-        crossings: x,
-        channels: k,
-    }
+    counts
 }
 
 // Unmarks n half-edges behind m branches, n numbers among others in a longer list.

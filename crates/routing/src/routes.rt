@@ -24,6 +24,7 @@ pub fn clear_paths(m: usize, ends: &mut [u32])
 
 // Counts the crossings of m branches by their ways, and stores them where there is room; else answers how many there are.
 // That the mesh is in order for some number of corners is what `trace_all` knows of it: as a ghost field of `Turned` it would be asked of the public `trace`, `store_trail` and `channel_for` too.
+// m and the room are asked as in `store_all`.
 fn store_routes(
     turned: &Turned<'_>,
     points: &[f64],
@@ -47,7 +48,7 @@ fn store_routes(
 }
 
 // Traces every line between the occupied stations, whose places are at the front of path. The crossing lists hold `room` crossings; where there are more, none is stored, and their number is the error. `keys` and `sorted` are work lists, and `spare` too.
-// `keys`, `sorted`, `spare`, `ends`, `numbers` and `places` are written: behind the `&mut` of a struct other lists could be put, so each contract would have to say that it keeps the lists and their lengths.
+// `keys`, `sorted`, `spare`, `ends`, `numbers` and `places` are written: behind the `&mut` of a struct other lists could be put, so each contract would have to say of each list that it is the one that was lent.
 // At most 8,192 branches are asked and no `Bounded`, which would ask for at most 4,096 buses too.
 pub fn trace_all(
     net: &Network<'_>,

@@ -1,19 +1,13 @@
--- What the tests on a branch's kind and on an entry's side give, and the order key of any float.
+-- What the tests on a branch's kind and on an entry's side give.
 -- Assumes nothing.
-use mathlib.Core.Path.{◌≡◌, refl, sym, ap, ◌∙◌, subst}
+use mathlib.Core.Path.{◌≡◌, sym, ap, ◌∙◌, subst}
 use mathlib.Core.Bool.{Bool, true, false}
 use mathlib.Core.List.{List}
-use Prim.Native.Nat.{ℕ, suc, ◌+◌, ◌*◌, ◌-◌, ◌%◌, ◌^◌, ◌≤◌, ◌<◌}
-use native.Mathlib.Omega.{arith}
-use native.Mathlib.Decide.{dec_le}
-use lib.Dec.{T}
+use Prim.Native.Nat.{ℕ, suc, ◌+◌, ◌*◌, ◌-◌, ◌%◌, ◌<◌}
 use lib.ListN.{get_or}
-use lib.Ieee.{Float, nan, inf, fin, is_nan, fits, to_bits, of_bits, of_fields, nan_bits, binary64}
-use lib.Ieee.Bits.{of_bits-to_bits, to_bits-lt}
+use lib.Ieee.{Float, nan}
 use borrow.Author.Tests.{eq-eqb, ne_eqb}
-use Rattle.float.specs.Key.{key_of}
 use Rattle.float.specs.Ops.{order_key}
-use Rattle.float.proofs.Keys.{key_low, key_high}
 use Rattle.network.specs.declared.words.Kind.{Kind}
 use Rattle.network.specs.declared.words.Kind.TheVariants.{Line}
 use Rattle.network.specs.Words.{station_of, station_count, Safe}
@@ -34,28 +28,6 @@ from_side x h = eq-eqb (x % 2) 0 h
 
 pub to_side : (x : ℕ) → (x % 2 ≡ 0 → ⊥) → from_end x ≡ false
 to_side x h = ne_eqb (x % 2) 0 h
-
--- ---- keys
-last_bits : of_bits binary64 0x7fff_ffff_ffff_ffff ≡ nan
-unfolding of_bits of_fields nan_bits
-last_bits = refl
-
--- the largest key would be that of a NaN pattern
-key_less : (b : ℕ) → b < 2 ^ 64 → (b ≡ 0x7fff_ffff_ffff_ffff → ⊥) → key_of b < 2 ^ 64 - 1
-key_less b h n = go (dec_le (2 ^ 63) b)
-  where
-    go : Dec (2 ^ 63 ≤ b) → key_of b < 2 ^ 64 - 1
-    go (yes l) = omega (arith, key_high b l)
-    go (no f) = let l : b < 2 ^ 63 = omega arith in omega (arith, key_low b l)
-
-pub key_fits : (x : Float) → T (fits binary64 x) → is_nan x ≡ false → order_key x < 2 ^ 64 - 1
-unfolding is_nan
-key_fits x f n =
-    key_less (to_bits binary64 x) (to_bits-lt binary64 x f)
-    (λ e. subst (λ (y : Float). is_nan y ≡ false → ⊥) (sym last_bits ∙ ap (of_bits binary64) (sym e) ∙ of_bits-to_bits binary64 x f) nan_is n)
-  where
-    nan_is : is_nan nan ≡ false → ⊥
-    nan_is h = absurd (subst T h tt)
 
 -- ---- the buses of a line, and the seed that a line end leads to
 pub line_buses : (sub : List ℕ) (K : Kind) (a b : ℕ) → Safe sub K → K ≡ Line a b → (station_of sub a < station_count sub) × (station_of sub b < station_count sub)

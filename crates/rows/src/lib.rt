@@ -2,7 +2,7 @@
 // The ends are entries: 2 e is branch e's from end, 2 e + 1 its to end.
 #![tactic(auto)]
 
-ghost use Rattle.std.specs.Prelude.{◌≡◌, suc, ◌+◌, ◌*◌, ◌/◌, ◌-◌, ◌^◌, ◌≤◌, ◌<◌, length, take, get_or};
+ghost use Rattle.std.specs.Prelude.{◌≡◌, suc, ◌+◌, ◌*◌, ◌/◌, ◌≤◌, ◌<◌, length, take, get_or};
 ghost use Rattle.std.specs.Float.{nan};
 ghost use Rattle.float.specs.Ops.{order_key};
 ghost use Rattle.order.specs.Table.{table, strided};
@@ -11,23 +11,11 @@ ghost use Rattle.network.specs.Views.{counts_in, points_in, from_rows_in, to_row
 ghost use Rattle.rows.specs.Row.{rows_in, from_rows, to_rows};
 ghost use Rattle.rows.specs.Stages.Entry.{from_end, end_station, end_key, to_entry, entry_station, entry_key};
 
-use float::key::order_key;
+use float::key::order_key_total;
 use network::lists::Network;
 use network::words::{Kind, kind_of, station_of};
 use order::at;
 use ranking::rank_in_stations;
-
-// The place of any float in the order of `total_cmp`, a NaN's by the one pattern that stands for it.
-#[tactic(auto, using(float::proofs::Patterns::key_nan))]
-fn order_key_total(x: f64) -> u64
-    ensures value { result ≡ order_key x }
-    ensures upper_bound { result < 2 ^ 64 - 1 }
-{
-    if x.is_nan() {
-        return 0xfff8_0000_0000_0000;
-    }
-    order_key(x)
-}
 
 // The key of line ends that lead to station s: above that of every internal branch, rising with the seed's y.
 fn seed_key(places: &[f64], s: usize) -> u64
@@ -69,16 +57,16 @@ fn entry_station(net: &Network<'_>, x: usize) -> u32
 {
     match kind_of(net, x / 2) {
         Kind::Undrawn => {
-            return 0xffff_ffff;
+            return u32::MAX;
         },
         Kind::Open(_, _) => {
-            return 0xffff_ffff; // An open branch has no row.
+            return u32::MAX; // An open branch has no row.
         },
         Kind::Internal(a, _) => {
             if x % 2 == 0 {
                 return station_of(net.sub, a) as u32;
             }
-            return 0xffff_ffff;
+            return u32::MAX;
         },
         Kind::Line(a, b) => {
             if x % 2 == 0 {
@@ -112,6 +100,7 @@ fn to_entry(net: &Network<'_>, e: usize) -> usize
 }
 
 // The key and the station of every entry, from the front of each list.
+// `keys` and `own` are written here and `ends` in `put_rows` and `rows`, so their lengths are asked as the slices' own.
 fn fill_entries(net: &Network<'_>, places: &[f64], keys: &mut [u64], own: &mut [u32])
     requires { (length net.now.from.now ≤ 8192) × (2 * station_count net.now.sub.now ≤ length places.now) × (2 * length net.now.from.now ≤ length keys.old) × (2 * length net.now.from.now ≤ length own.old) }
     ensures keys_after { take (2 * length net.now.from.now) keys.new ≡ table (entry_key net.now.sub.now (points_in (station_count net.now.sub.now) places.now) (kinds net.now.sub.now net.now.from.now net.now.to.now net.now.service.now)) (2 * length net.now.from.now) }
@@ -138,7 +127,7 @@ fn put_rows(net: &Network<'_>, rows: &[u32], ends: &mut [u32])
 }
 
 // The row of each branch's two ends, beside its branch, 0 where it has none; how many rows each of the k stations has is left in its counter, the bus counts stay. The other lists are lent for the work.
-// `stations`, `ends`, `keys`, `sorted` and `spare` are written: behind one `&mut` a struct of them could hold other lists afterwards, so its contract would have to say of each that it is as long as before.
+// `stations`, `ends`, `keys`, `sorted` and `spare` are written: behind one `&mut` a struct of them could hold other lists afterwards, so its contract would have to say of each that it is the one that was lent.
 // k is counted once for all functions, and stands beside `stations`, which is written, so that no `Stations` holds it; it is at most 4,096, and `entry_station`'s number for none is past it.
 pub fn rows(
     net: &Network<'_>,

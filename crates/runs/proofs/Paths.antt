@@ -1,10 +1,10 @@
 -- Points put at the front of a list, one after the other; a path between two of them; the run of a branch.
 -- Assumes nothing.
-use mathlib.Core.Path.{◌≡◌, refl, sym, ap, ◌∙◌, subst}
+use mathlib.Core.Path.{◌≡◌, refl, sym, ap, ◌∙◌}
 use mathlib.Core.Logic.{◌≢◌}
 use mathlib.Core.Bool.{Bool, true, false}
 use mathlib.Core.List.{List, [], ◌∷◌, ◌++◌}
-use Prim.Native.Nat.{ℕ, zero, suc, ◌+◌, ◌*◌, ◌^◌, ◌≤◌, ◌<◌}
+use Prim.Native.Nat.{ℕ, zero, suc, ◌+◌, ◌*◌, ◌≤◌, ◌<◌}
 use native.Mathlib.Omega.{arith}
 use lib.ListN.{length, set, length-set, length-append}
 use lib.Seq.{take-set-le}
@@ -13,7 +13,7 @@ use Rattle.measures.specs.declared.Measures.{Measures}
 use Rattle.order.specs.Order.{pick}
 use Rattle.geometry.specs.declared.Point.{Point}
 use Rattle.geometry.specs.Plane.{point_at}
-use Rattle.network.specs.Words.{Safe, station_of, occupied}
+use Rattle.network.specs.Words.{station_of, occupied}
 use Rattle.network.specs.Views.{counts_in, points_in, boxes_in}
 use Rattle.network.proofs.Views.{put_point, point_same, point_other, points_zero, points_push}
 use Rattle.detour.specs.Detour.{detour}
@@ -23,31 +23,14 @@ use Rattle.detour.proofs.Detours.{length_detour, led_short}
 use Rattle.network.specs.declared.words.Kind.{Kind}
 use Rattle.network.specs.declared.words.Kind.TheVariants.{Undrawn, Open, Internal, Line}
 use Rattle.runs.specs.Run.{is_line}
-use Rattle.runs.specs.Stages.Views.{Lead, RunLists, lead, held, open_from, internal_from, led_in, led_run, line_from, run_from, way_of, way_count, run_in, other_run, Ran}
+use Rattle.runs.specs.Stages.Views.{Lead, RunLists, lead, held, open_from, internal_from, led_in, led_run, line_from, run_from, way_of, way_count, run_in, other_run}
 
--- a list of at least four points whose first k are ps
-pub record Front (k : ℕ) (l : List Float) (ps : List Point) : Type 0 where
-  pub room : 8 ≤ length l
-  pub holds : points_in k l ≡ ps
-
-pub front_none : (l : List Float) → 8 ≤ length l → Front 0 l []
-front_none l h = record { room = h; holds = points_zero l }
-
-pub front_more : (k : ℕ) (l m : List Float) (ps : List Point) (p : Point) → k < 4 → Front k l ps → m ≡ put_point l k p.x p.y → Front (suc k) m (ps ++ (p ∷ []))
-front_more k l m ps p h f e =
-    let r : 8 ≤ length l = f.room in
-    let b : 2 * k + 1 < length l = omega arith in
-    subst (λ (z : List Float). Front (suc k) z (ps ++ (p ∷ []))) (sym e)
-    (record {
-      room = simp length-set f.room;
-      holds = points_push k l p.x p.y b ∙ ap (λ (z : List Point). z ++ (p ∷ [])) f.holds;
-    })
-
-pub ran : (k : ℕ) (l : List Float) (ps : List Point) → k ≡ length ps → Front k l ps → Ran k l ps
-ran k l ps e f = record { count = e; holds = f.holds }
-
-pub ran_of : {r : ℕ} {l : List Float} {ps qs : List Point} → Ran r l ps → ps ≡ qs → Ran r l qs
-ran_of {r} {l} h e = subst (λ (z : List Point). Ran r l z) e h
+-- two points at the front of a list
+pub two_put : (l : List Float) (p q : Point) → 8 ≤ length l → points_in 2 (put_point (put_point l 0 p.x p.y) 1 q.x q.y) ≡ p ∷ q ∷ []
+two_put l p q h =
+    let r : length (put_point l 0 p.x p.y) ≡ length l = simp length-set refl in
+    points_push 1 (put_point l 0 p.x p.y) q.x q.y (omega arith)
+    ∙ ap (λ (z : List Point). z ++ (q ∷ [])) (points_push 0 l p.x p.y (omega arith) ∙ ap (λ (z : List Point). z ++ (p ∷ [])) (points_zero l))
 
 -- ---- a path behind the first point
 
@@ -69,66 +52,69 @@ path_push i n j l p e h =
     ∙ ap (λ (t : Point). path_in i n l ++ (t ∷ [])) (point_same l j p.x p.y h)
 
 -- copying points, after j of them
-pub copy_none : (i w : ℕ) (ways l : List Float) → Led i 0 (path_in w 0 ways) l l
+unfoldable pub Copied : ℕ → ℕ → ℕ → List Float → List Float → List Float → Type 0
+Copied i w j ways was now = Led i j (path_in w j ways) was now
+
+pub copy_none : (i w : ℕ) (ways l : List Float) → Copied i w 0 ways l l
+unfolding Copied
 copy_none i w ways l = record { before = refl; path = path_zero i l ∙ sym (path_zero w ways) }
 
-pub copy_more : (i w j : ℕ) (ways was now next : List Float) (p : Point) → Led i j (path_in w j ways) was now → 2 * (i + j) + 1 < length now → p ≡ point_at ways (w + j)
-    → next ≡ put_point now (i + j) p.x p.y → Led i (j + 1) (path_in w (j + 1) ways) was next
-copy_more i w j ways was now next p L h e z =
-    subst (λ (l : List Float). Led i (j + 1) (path_in w (j + 1) ways) was l) (sym z)
-    (record {
+pub copy_more : (i w j : ℕ) (ways was now : List Float) → Copied i w j ways was now → 2 * (i + j) + 1 < length now
+    → Copied i w (j + 1) ways was (put_point now (i + j) (point_at ways (w + j)).x (point_at ways (w + j)).y)
+unfolding Copied
+copy_more i w j ways was now L h =
+    let p = point_at ways (w + j) in
+    record {
       before =
           take-set-le (2 * i) (set now (2 * (i + j)) p.x) (2 * (i + j) + 1) p.y (omega arith)
           ∙ take-set-le (2 * i) now (2 * (i + j)) p.x (omega arith) ∙ L.before;
-      path =
-          path_push i j (i + j) now p refl h ∙ ap (λ (t : List Point). t ++ (p ∷ [])) L.path
-          ∙ ap (λ (t : Point). path_in w j ways ++ (t ∷ [])) e ∙ sym (path_more w j ways);
-    })
+      path = path_push i j (i + j) now p refl h ∙ ap (λ (t : List Point). t ++ (p ∷ [])) L.path ∙ sym (path_more w j ways);
+    }
 
-pub copy_end : (i w j n : ℕ) (ways was now : List Float) → Led i j (path_in w j ways) was now → j ≤ n → n ≤ j → Led i n (path_in w n ways) was now
-copy_end i w j n ways was now L g h = let e : j ≡ n = omega arith in subst (λ (m : ℕ). Led i m (path_in w m ways) was now) e L
+pub copy_all : (i w n : ℕ) (ways was now : List Float) → Copied i w n ways was now → Led i n (path_in w n ways) was now
+unfolding Copied
+copy_all i w n ways was now L = L
+
+pub ruleset copied = (copy_none, copy_more, copy_all)
 
 -- a first point, a path copied behind it, and a last point
-pub middle : (n : ℕ) (a b : Point) (via : List Point) (l l1 l2 l3 : List Float) → l1 ≡ put_point l 1 a.x a.y → Led 2 n via l1 l2 → l3 ≡ put_point l2 (n + 2) b.x b.y
-    → 3 < length l → 2 * (n + 2) + 1 < length l2 → path_in 1 (n + 2) l3 ≡ a ∷ (via ++ (b ∷ []))
-middle n a b via l l1 l2 l3 e L f g h =
+pub middle : (n : ℕ) (a b : Point) (via : List Point) (l l2 : List Float) → Led 2 n via (put_point l 1 a.x a.y) l2 → 3 < length l → 2 * (n + 2) + 1 < length l2
+    → path_in 1 (n + 2) (put_point l2 (n + 2) b.x b.y) ≡ a ∷ (via ++ (b ∷ []))
+middle n a b via l l2 L g h =
     let s : n + 2 ≡ suc (n + 1) = omega arith in
+    let l3 = put_point l2 (n + 2) b.x b.y in
     path_cons 1 (n + 2) (n + 1) l3 s
     ∙ ap (λ (t : Point). t ∷ path_in 2 (n + 1) l3) first
-    ∙ ap (λ (t : List Point). a ∷ t) (ap (path_in 2 (n + 1)) f ∙ path_push 2 n (n + 2) l2 b (omega arith) h ∙ ap (λ (t : List Point). t ++ (b ∷ [])) L.path)
+    ∙ ap (λ (t : List Point). a ∷ t) (path_push 2 n (n + 2) l2 b (omega arith) h ∙ ap (λ (t : List Point). t ++ (b ∷ [])) L.path)
   where
-    first : point_at l3 1 ≡ a
-    first =
-        ap (λ (t : List Float). point_at t 1) f ∙ point_other l2 (n + 2) 1 b.x b.y (λ z. omega arith)
-        ∙ point_before 2 1 l1 l2 L.before (omega arith) ∙ ap (λ (t : List Float). point_at t 1) e ∙ point_same l 1 a.x a.y g
+    first : point_at (put_point l2 (n + 2) b.x b.y) 1 ≡ a
+    first = point_other l2 (n + 2) 1 b.x b.y (λ z. omega arith) ∙ point_before 2 1 (put_point l 1 a.x a.y) l2 L.before (omega arith) ∙ point_same l 1 a.x a.y g
 
 -- a point before a path and one behind it
-pub ends_put : (r : ℕ) (p q : Point) (l l1 l2 : List Float) → 2 * (r + 2) ≤ length l → l1 ≡ put_point l 0 p.x p.y → l2 ≡ put_point l1 (r + 1) q.x q.y
-    → Ran (r + 2) l2 (p ∷ (path_in 1 r l ++ (q ∷ [])))
+pub ends_put : (r : ℕ) (p q : Point) (l : List Float) → 2 * (r + 2) ≤ length l
+    → points_in (r + 2) (put_point (put_point l 0 p.x p.y) (r + 1) q.x q.y) ≡ p ∷ (path_in 1 r l ++ (q ∷ []))
 unfolding path_in points_in
-ends_put r p q l l1 l2 h e f = record { count = count; holds = holds }
+ends_put r p q l h =
+    let s : r + 2 ≡ suc (r + 1) = omega arith in
+    path_cons 0 (r + 2) (r + 1) l2 s ∙ ap (λ (t : Point). t ∷ path_in 1 (r + 1) l2) first ∙ ap (λ (t : List Point). p ∷ t) rest
   where
-    same : length l1 ≡ length l
-    same = ap length e ∙ simp length-set refl
+    l1 : List Float
+    l1 = put_point l 0 p.x p.y
+
+    l2 : List Float
+    l2 = put_point l1 (r + 1) q.x q.y
 
     first : point_at l2 0 ≡ p
-    first =
-        ap (λ (t : List Float). point_at t 0) f ∙ point_other l1 (r + 1) 0 q.x q.y (λ z. omega arith)
-        ∙ ap (λ (t : List Float). point_at t 0) e ∙ point_same l 0 p.x p.y (omega arith)
-
-    count : r + 2 ≡ length (p ∷ (path_in 1 r l ++ (q ∷ [])))
-    count = omega (arith, length-append (path_in 1 r l) (q ∷ []), length_path 1 r l)
+    first = point_other l1 (r + 1) 0 q.x q.y (λ z. omega arith) ∙ point_same l 0 p.x p.y (omega arith)
 
     rest : path_in 1 (r + 1) l2 ≡ path_in 1 r l ++ (q ∷ [])
     rest =
-        ap (path_in 1 (r + 1)) f ∙ path_push 1 r (r + 1) l1 q (omega arith) (omega (arith, same))
-        ∙ ap (λ (t : List Float). path_in 1 r t ++ (q ∷ [])) e
+        let same : length l1 ≡ length l = simp length-set refl in
+        path_push 1 r (r + 1) l1 q (omega arith) (omega arith)
         ∙ ap (λ (t : List Point). t ++ (q ∷ [])) (path_kept 1 r 0 l p.x p.y (λ m a b z. omega arith))
 
-    holds : path_in 0 (r + 2) l2 ≡ p ∷ (path_in 1 r l ++ (q ∷ []))
-    holds =
-        let s : r + 2 ≡ suc (r + 1) = omega arith in
-        path_cons 0 (r + 2) (r + 1) l2 s ∙ ap (λ (t : Point). t ∷ path_in 1 (r + 1) l2) first ∙ ap (λ (t : List Point). p ∷ t) rest
+pub ends_count : (i r : ℕ) (q : Point) (l : List Float) → length (path_in i r l ++ (q ∷ [])) ≡ r + 1
+ends_count i r q l = length-append (path_in i r l) (q ∷ []) ∙ ap (λ (n : ℕ). n + 1) (length_path i r l)
 
 -- a path led round boxes, and how many points it has then
 module _ (gap : Float) (k : ℕ) (stations : List ℕ) (frames : List Float) (s t r count : ℕ) (was now : List Float)
@@ -146,12 +132,6 @@ other_is H e Undrawn = refl
 other_is H e (Open a b) = refl
 other_is H e (Internal a b) = refl
 other_is H e (Line a b) = refl
-
--- a line's points, by the path between its slots
-pub line_is : (L : Lead) (frames : List Float) (s t w n : ℕ) (p q x y : Point) (before after : List Point) → before ≡ x ∷ (path_in w n L.ways ++ (y ∷ []))
-    → after ≡ led_in L.led L.gap L.k L.stations frames s t before → p ∷ (after ++ (q ∷ [])) ≡ led_run L frames s t p q x y w n
-unfolding led_run
-line_is L frames s t w n p q x y before after g h = cc
 
 -- a run has at most eight points more than waypoints
 led_few : (led : Bool) (gap : Float) (k : ℕ) (stations : List ℕ) (frames : List Float) (s t : ℕ) (path : List Point)
@@ -187,17 +167,3 @@ module _ (sub : List ℕ) (M : Measures) (buses ends : List ℕ) (blocks places 
   run_unled e (Open a b) = refl
   run_unled e (Internal a b) = refl
   run_unled e (Line a b) = refl
-
--- a branch's buses fit 32 bits
-abbrev pub Small : Kind → Type 0
-Small Undrawn = Unit {0}
-Small (Open a b) = (a < 2 ^ 32) × (b < 2 ^ 32)
-Small (Internal a b) = (a < 2 ^ 32) × (b < 2 ^ 32)
-Small (Line a b) = (a < 2 ^ 32) × (b < 2 ^ 32)
-
-pub small : (sub : List ℕ) (K : Kind) → length sub ≤ 2 ^ 32 → Safe sub K → Small K
-unfolding Safe
-small sub Undrawn h s = tt
-small sub (Open a b) h s = (omega arith, omega arith)
-small sub (Internal a b) h s = (omega arith, omega arith)
-small sub (Line a b) h s = (omega arith, omega arith)

@@ -2,7 +2,7 @@
 use grid::index::BoxIndex;
 use measures::Measures;
 
-// A drawing that is laid out, but for its boxes: what its interiors are measured by, its buses' columns and rows, its branches' ends, its stations' blocks and places.
+// A drawing that is laid out: what its interiors are measured by, its buses' columns and rows, its branches' ends, its stations' blocks and places. Not its boxes, which a guide's index has: of two lists of boxes each contract would have to say that they are one.
 #[derive(Clone, Copy)]
 pub struct Laid<'a> {
     pub measures: Measures,

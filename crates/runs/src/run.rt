@@ -7,7 +7,7 @@ ghost use Rattle.detour.specs.Stages.Paths.{path_in, Led};
 ghost use Rattle.runs.specs.Stages.Views.{lead_by, block_of, bar_of, slot_of, exit_of, first_exit, second_exit, open_from, internal_from, led_in, led_run, other_run, HasRoom, Ran};
 
 use crate::laid::{Guide, Laid};
-use bars::{Bar, bar_for, exit_x, position, row_y};
+use bars::{Bar, Interior, bar_for, exit_x, position, row_y};
 use detour::path::detour;
 use geometry::{Box, Point, number_at, point_at};
 use measures::Measures;
@@ -16,7 +16,7 @@ use network::words::{Kind, kind_of, station_of};
 use order::at;
 use seeds::put_point;
 
-// The box s of a list of four numbers each.
+// The box s of a list of four numbers each. The list may end before box s: NaN then, where `geometry` `box_at` asks for the whole box.
 pub fn box_at(list: &[f64], s: usize) -> Box
     requires { s < 2 ^ 32 }
     ensures { result ≡ box_at list.now s }
@@ -30,7 +30,7 @@ pub fn box_at(list: &[f64], s: usize) -> Box
 }
 
 // The block of station s, unit × scale.
-// s, i and e of this file are counted over usize, and asked to be below 2^32 so that four of each can't overflow: a `u32` would be converted at each index.
+// In this file s is a usize as `station_of` answers it, i and e as loops count them; they are asked to be below 2^32 so that four of each can't overflow: as `u32` they would be converted at each index.
 #[tactic(auto, unfolding(crate::specs::Stages::Views::block_of))]
 fn block_of(unit: f64, blocks: &[f64], s: usize) -> f64
     requires { s < 2 ^ 32 }
@@ -53,9 +53,11 @@ pub fn bar_of(
     ensures { result ≡ bar_of measures buses.now blocks.now frames.now s i }
 {
     bar_for(
-        measures.gaps,
-        box_at(frames, s),
-        block_of(measures.unit, blocks, s),
+        Interior {
+            gaps: measures.gaps,
+            frame: box_at(frames, s),
+            block: block_of(measures.unit, blocks, s),
+        },
         at(buses, 3 * i),
         at(buses, 3 * i + 1),
         at(buses, 3 * i + 2),
@@ -72,9 +74,11 @@ pub fn slot_of(laid: &Laid<'_>, frames: &[f64], s: usize, i: usize, row: u32) ->
     Point {
         x: bar.x,
         y: row_y(
-            laid.measures.gaps,
-            box_at(frames, s),
-            block_of(laid.measures.unit, laid.blocks, s),
+            Interior {
+                gaps: laid.measures.gaps,
+                frame: box_at(frames, s),
+                block: block_of(laid.measures.unit, laid.blocks, s),
+            },
             row,
         ),
     }
@@ -95,7 +99,7 @@ pub fn exit_of(places: &[f64], frames: &[f64], s: usize, t: usize, y: f64) -> Po
 // The first exit of branch e: two points for each branch, behind n points of a list.
 // n isn't how long the list is: it counts the points before the exits. `point_at` asks a number below 2^32, which n + 2 * e may pass; n and e are bounded so that it doesn't overflow.
 pub fn first_exit(n: usize, places: &[f64], e: usize) -> Point
-    requires { (n ≤ 2 ^ 32) × (e < 2 ^ 32) }
+    requires { (n ≤ 2 ^ 33) × (e < 2 ^ 32) }
     ensures { result ≡ first_exit n places.now e }
 {
     let i = n + 2 * e;
@@ -106,18 +110,16 @@ pub fn first_exit(n: usize, places: &[f64], e: usize) -> Point
 }
 
 // The second exit of branch e, behind n points as above.
+// n is asked to be at most 2^32 here, and 2^33 in `first_exit`, which is asked for the point behind one more.
 pub fn second_exit(n: usize, places: &[f64], e: usize) -> Point
     requires { (n ≤ 2 ^ 32) × (e < 2 ^ 32) }
     ensures { result ≡ second_exit n places.now e }
 {
-    let i = n + 2 * e + 1;
-    Point {
-        x: number_at(places, 2 * i),
-        y: number_at(places, 2 * i + 1),
-    }
+    first_exit(n + 1, places, e)
 }
 
 // Two points at the front of a list.
+#[tactic(auto, using(crate::proofs::Paths::two_put))]
 fn put_two(path: &mut [f64], p: Point, q: Point) -> usize
     requires { 8 ≤ length path.old }
     ensures { Ran result path.new (p ∷ q ∷ []) }
@@ -128,7 +130,7 @@ fn put_two(path: &mut [f64], p: Point, q: Point) -> usize
 }
 
 // The run of an open branch between the buses a and b.
-// a and b are usize as `kind_of` answers them, and asked to be below 2^32 as `bar_of` asks.
+// a and b are usize as `kind_of` answers them, and asked to be below 2^32 as `bar_of` asks, here and in `run_internal`.
 #[tactic(auto, unfolding(crate::specs::Stages::Views::open_from))]
 fn run_open(
     sub: &[u32],
@@ -182,6 +184,7 @@ fn run_internal(
 
 // Copies n points of a list, from point w on, to another, from point i on.
 // `ways` may hold fewer: points past its end are read as NaN, so there is no slice of n points to hand on.
+#[tactic(auto, using(crate::proofs::Paths::copied))]
 fn copy_points(ways: &[f64], w: usize, n: usize, path: &mut [f64], i: usize)
     requires { (2 * (i + n) ≤ length path.old) × (i + n < 2 ^ 32) × (w + n < 2 ^ 32) }
     ensures { Led i n (path_in w n ways.now) path.old path.new }
@@ -193,6 +196,7 @@ fn copy_points(ways: &[f64], w: usize, n: usize, path: &mut [f64], i: usize)
 
 // Puts a path behind the first point of a list: a, the n points of `ways` from point w on, b.
 // n stays a number for the reason above.
+#[tactic(auto, using(crate::proofs::Paths::middle))]
 fn put_middle(path: &mut [f64], a: Point, ways: &[f64], w: usize, n: usize, b: Point)
     requires { (HasRoom n path.old) × (w + n < 2 ^ 31) }
     ensures { path_in 1 (n + 2) path.new ≡ a ∷ (path_in w n ways.now ++ (b ∷ [])) }
@@ -218,6 +222,7 @@ fn lead(guide: &Guide<'_>, s: usize, t: usize, path: &mut [f64], count: usize) -
 
 // Puts p before and q behind the path of r points behind the first point of a list, and answers how many points that makes.
 // The path grows in its list here too.
+#[tactic(auto, using(crate::proofs::Paths::ends_put, crate::proofs::Paths::ends_count))]
 fn put_ends(path: &mut [f64], p: Point, q: Point, r: usize) -> usize
     requires { (2 * (r + 2) ≤ length path.old) × (r + 2 < 2 ^ 32) }
     ensures { Ran result path.new (p ∷ (path_in 1 r path.old ++ (q ∷ []))) }
@@ -252,6 +257,7 @@ pub fn run_line(
 
 // Puts the run of branch e at the front of path, and answers how many points it has: none where the branch is a line.
 // The length of `path`, the one list that is written, is asked as the slice's own.
+// `Bounded` would ask for at most 4,096 buses and 8,192 branches.
 #[tactic(auto, unfolding(crate::specs::Stages::Views::other_run, network::specs::Words::Safe, network::specs::Views::points_in, order::specs::Table::table_from))]
 pub fn run(net: &Network<'_>, laid: &Laid<'_>, frames: &[f64], e: usize, path: &mut [f64]) -> usize
     requires { (e < 2 ^ 32) × (length net.now.sub.now ≤ 2 ^ 32) × (8 ≤ length path.old) }

@@ -26,7 +26,7 @@ fn tier(o: Options, count: usize) -> f64
 }
 
 // The scales of the stations by the spacing and the points of the occupied ones. The other lists are work lists.
-// `blocks`, `keys`, `sorted` and `spare` are written: behind one `&mut` a struct of them could hold other lists afterwards, so its contract would have to say of each that it is as long as before.
+// `blocks`, `keys`, `sorted` and `spare` are written: behind one `&mut` a struct of them could hold other lists afterwards, so its contract would have to say of each that it is the one that was lent.
 // n is asked to be below 2^32, by `neighbours`, whose `nearest_of_all` takes `Points` of any n.
 pub fn scales(
     o: Options,
@@ -45,7 +45,7 @@ pub fn scales(
     neighbour_counts(points, o.tier_radius * spacing, spare, keys, sorted);
     let mut j = 0;
     for s in 0..stations.k {
-        if stations.counts[2 * s] > 0 {
+        if stations.is_occupied(s) {
             blocks[3 * s + 2] = tier(o, spare[j] as usize);
             j += 1;
         } else {

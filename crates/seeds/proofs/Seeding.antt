@@ -4,34 +4,35 @@ use Prim.Native.Nat.{ℕ, zero, suc, ◌+◌, ◌*◌, ◌<◌, ◌≤◌}
 use mathlib.Core.Path.{◌≡◌, refl, sym, ap, ◌∙◌}
 use mathlib.Core.Logic.{◌≢◌}
 use mathlib.Core.Bool.{◌&&◌}
-use mathlib.Core.List.{List, [], ◌∷◌, ◌++◌}
+use mathlib.Core.List.{List, ◌++◌}
 use native.Mathlib.Numerals.{add-one}
 use native.Mathlib.Omega.{arith}
 use borrow.Author.Count.{below_more}
 use borrow.Author.Tests.{eq-eqb, ne_eqb}
-use lib.ListN.{length, get_or, set}
-use lib.Ieee.{Float}
+use lib.ListN.{length, get_or, set, replicate, length-replicate, get_or-replicate, get_or-append}
+use lib.Ieee.{Float, nan}
 use Rattle.float.specs.Ops.{f0, num, ◌⊕◌, ◌⊘◌}
 use Rattle.float.specs.Small.{is_finite}
 use Rattle.order.specs.Order.{pick}
 use Rattle.order.specs.Table.{table}
-use Rattle.order.proofs.Tables.{get_d_table, table_zero, table_suc, table_ext}
+use Rattle.order.proofs.Tables.{get_d_table, table_ext}
 use Rattle.order.proofs.Strides.{table_set, get_d_first}
 use Rattle.geometry.specs.declared.Point.{Point}
 use Rattle.geometry.specs.Plane.{point, origin, point_at}
 use Rattle.network.specs.Words.{station_of, station_count, buses_in, bus_counts}
 use Rattle.network.specs.Views.{counts_in, points_in}
 use Rattle.seeds.specs.Seed.{point_of, bus_point, plus, sum_to, mean, seed_of, seeds}
-use Rattle.network.proofs.Views.{put_point, point_same, point_other, get_d_points, points_zero, points_push, points_set}
+use Rattle.network.proofs.Views.{put_point, point_same, point_other, get_d_points, points_set}
 
--- ---- the first s of them at (0, 0)
-pub zeroed_none : (l : List Float) → points_in 0 l ≡ table (λ s. origin) 0
-zeroed_none l = points_zero l ∙ sym (table_zero (λ (s : ℕ). origin))
-
-pub zeroed_more : (s : ℕ) (l m : List Float) → 2 * s + 1 < length l → m ≡ put_point l s f0 f0 → points_in s l ≡ table (λ s. origin) s
-    → points_in (s + 1) m ≡ table (λ s. origin) (s + 1)
-zeroed_more s l m h q e =
-    rw (add-one, q) (points_push s l f0 f0 h ∙ ap (λ (t : List Point). t ++ (origin ∷ [])) e ∙ sym (table_suc (λ (s : ℕ). origin) s))
+-- ---- the first k of them at (0, 0)
+pub zeroed : (k m : ℕ) (ys rest : List Float) → ys ≡ replicate m f0 → m ≡ 2 * k → points_in k (ys ++ rest) ≡ table (λ s. origin) k
+unfolding points_in
+zeroed k m ys rest e q = table_ext (point_at (ys ++ rest)) (λ s. origin) k (λ s h. ap (λ (x : Float). point x (get_or (ys ++ rest) (2 * s + 1) nan)) (at (2 * s) (omega arith)) ∙ ap (λ (y : Float). point f0 y) (at (2 * s + 1) (omega arith)))
+  where
+    at : (i : ℕ) → i < 2 * k → get_or (ys ++ rest) i nan ≡ f0
+    at i h =
+        ap (λ (z : List Float). get_or (z ++ rest) i nan) (e ∙ ap (λ (n : ℕ). replicate n f0) q) ∙ get_or-append (replicate (2 * k) f0) rest nan i (simp length-replicate h)
+        ∙ get_or-replicate (2 * k) i f0 nan h
 
 -- ---- the sums of the first i buses
 module _ (sub : List ℕ) (xy : List Float) where
@@ -66,9 +67,6 @@ module _ (sub : List ℕ) (xy : List Float) where
         points = ap (points_in k) w ∙ points_set k s l (p.x ⊕ q.x) (p.y ⊕ q.y) h z ∙ ap (λ (t : List Point). set t s (plus p q)) c.points
             ∙ sym (table_set (sum_by i) (sum_by (i + 1)) k s (plus p q) h y (λ j g n. sum_other i j (λ a. n (sym a ∙ sym e))));
       }
-
-  pub summed_all : (k i : ℕ) (l : List Float) → i ≡ length sub → Summed k i l → points_in k l ≡ table (λ s. sum_to sub xy s (length sub)) k
-  summed_all k i l e c = c.points ∙ ap (λ (n : ℕ). table (sum_by n) k) e
 
 -- ---- the sums of the first s stations divided
 pub record Divided (counts : List ℕ) (l₀ : List Float) (s : ℕ) (l : List Float) : Type 0 where

@@ -1,4 +1,4 @@
-// 1. Seeds: the mean of a station's bus points.
+// 1. Seeds: the mean of a station's bus points; and how a point or a box is stored in a list.
 #![tactic(auto)]
 
 ghost use Rattle.std.specs.Prelude.{◌≡◌, ◌+◌, ◌*◌, ◌≤◌, ◌<◌, length, get_or, set};
@@ -9,9 +9,8 @@ ghost use Rattle.network.specs.Views.{counts_in, points_in};
 ghost use Rattle.seeds.specs.Seed.{bus_point, sum_to, mean, seeds};
 
 use float::small::is_finite;
-use geometry::{Point, point_at};
+use geometry::{Box, Point, point_at};
 use network::lists::Stations;
-use network::words::station_of;
 
 // The point of bus i: (0, 0) where a coordinate is absent or not finite.
 fn bus_point(xy: &[f64], i: usize) -> Point
@@ -35,24 +34,33 @@ pub fn put_point(list: &mut [f64], s: usize, p: Point)
     list[2 * s + 1] = p.y;
 }
 
+// Stores b as box i of a list.
+pub fn put_box(list: &mut [f64], i: usize, b: Box)
+    requires { 4 * i + 3 < length list.old }
+    ensures { list.new ≡ set (set (set (set list.old (4 * i) b.left) (4 * i + 1) b.top) (4 * i + 2) b.right) (4 * i + 3) b.bottom }
+{
+    list[4 * i] = b.left;
+    list[4 * i + 1] = b.top;
+    list[4 * i + 2] = b.right;
+    list[4 * i + 3] = b.bottom;
+}
+
 // Sets k points to (0, 0).
 fn clear_points(k: usize, places: &mut [f64])
     requires { 2 * k ≤ length places.old }
     ensures { points_in k places.new ≡ table (λ s. origin) k }
 {
-    for s in 0..k {
-        put_point(places, s, Point { x: 0.0, y: 0.0 });
-    }
+    places[..2 * k].fill(0.0);
 }
 
 // Adds each bus point to its station's.
-// `places` is written, so its length is asked as the slice's own; k is counted once for all functions, and the counts of a `Stations` aren't read here.
+// `places` is written, here and in `clear_points`, so its length is asked as the slice's own; k is counted once for all functions, and the counts of a `Stations` aren't read here.
 fn add_points(sub: &[u32], xy: &[f64], k: usize, places: &mut [f64])
     requires { (k ≡ station_count sub.now) × (length sub.now ≤ 4096) × (2 * k ≤ length places.old) × (points_in k places.old ≡ table (λ s. origin) k) }
     ensures { points_in k places.new ≡ table (λ s. sum_to sub.now xy.now s (length sub.now)) k }
 {
-    for i in 0..sub.len() {
-        let s = station_of(sub, i);
+    for (i, &station) in sub.iter().enumerate() {
+        let s = station as usize;
         let p = point_at(places, s);
         let q = bus_point(xy, i);
         put_point(
@@ -93,6 +101,7 @@ fn take_means(stations: &Stations<'_>, places: &mut [f64])
 
 // The seeds of all stations.
 // It takes `sub` and `xy`: the audit has them in a `Drawn`, layout in a `Network`.
+// A struct of `sub` and its bound alone would be taken apart again for `add_points`.
 pub fn seeds(sub: &[u32], xy: &[f64], stations: &Stations<'_>, places: &mut [f64])
     requires { (stations.now.k ≡ station_count sub.now) × (length sub.now ≤ 4096) × (stations.now.k ≤ 4096) × (2 * stations.now.k ≤ length places.old) × (counts_in stations.now.k stations.now.counts.now ≡ bus_counts sub.now) }
     ensures { points_in stations.now.k places.new ≡ seeds sub.now xy.now }

@@ -19,12 +19,13 @@ fn larger_side(l: f64, b: Box) -> f64
 }
 
 // The largest side of the occupied stations' boxes.
+#[tactic(auto, using(crate::proofs::Sizing::onward_laws), unfolding(crate::specs::Sized::largest))]
 pub fn largest(placed: &Placed<'_>) -> f64
     ensures { result ≡ largest (boxes_in placed.now.k placed.now.frames.now) f0 (occupied (counts_in placed.now.k placed.now.stations.now)) }
 {
     let mut l = 0.0;
     for s in 0..placed.k {
-        if 0 < placed.stations[2 * s] {
+        if placed.is_occupied(s) {
             l = larger_side(l, box_at(placed.frames, s));
         }
     }
@@ -32,6 +33,7 @@ pub fn largest(placed: &Placed<'_>) -> f64
 }
 
 // Whether a corner's coordinate divided by l is at most 2^40 in size.
+#[tactic(auto, unfolding(crate::specs::Sized::sized))]
 pub fn sized(l: f64, c: f64) -> bool
     ensures { result ≡ sized l c }
 {
@@ -48,11 +50,12 @@ fn sized_box(l: f64, b: Box) -> bool
 
 // Whether all occupied stations' corners are.
 // It is a loop, as is `any_occupied`: tried as `all` and `any` over 0..k, whose goals stay open without an induction over the occupied stations, which the loops' invariants are.
+#[tactic(auto, using(crate::proofs::Sizing::onward_laws), unfolding(crate::specs::Sized::all_sized))]
 fn all_sized(placed: &Placed<'_>, l: f64) -> bool
     ensures { result ≡ all_sized (boxes_in placed.now.k placed.now.frames.now) l (occupied (counts_in placed.now.k placed.now.stations.now)) }
 {
     for s in 0..placed.k {
-        if 0 < placed.stations[2 * s] {
+        if placed.is_occupied(s) {
             if !sized_box(l, box_at(placed.frames, s)) {
                 return false;
             }
@@ -63,6 +66,7 @@ fn all_sized(placed: &Placed<'_>, l: f64) -> bool
 
 // Whether a station is occupied.
 // Its callers have a `Placed`: a `Stations` would be made of it for this alone, and `Placed` itself would ask for frames too.
+#[tactic(auto, using(crate::proofs::Sizing::onward_laws))]
 pub fn any_occupied(k: usize, stations: &[u32]) -> bool
     requires { 2 * k ≤ length stations.now }
     ensures { result ≡ ltb 0 (length (occupied (counts_in k stations.now))) }
@@ -76,6 +80,7 @@ pub fn any_occupied(k: usize, stations: &[u32]) -> bool
 }
 
 // Refusal 8, by the stations' bus counts and boxes.
+#[tactic(auto, using(crate::proofs::Sizing::ill_laws))]
 pub fn ill_sized(placed: &Placed<'_>) -> bool
     ensures { result ≡ ill_sized (boxes_in placed.now.k placed.now.frames.now) (occupied (counts_in placed.now.k placed.now.stations.now)) }
 {

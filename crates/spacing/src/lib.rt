@@ -39,7 +39,7 @@ fn wish_of(key: u64) -> f64
     if 0x8000_0000_0000_0000 <= key {
         return of_bits(key - 0x8000_0000_0000_0000);
     }
-    of_bits(0xffff_ffff_ffff_ffff - key)
+    of_bits(!key)
 }
 
 // The wishes in the order given, each read back from its key.
@@ -98,13 +98,14 @@ fn forward_pass(c: Channel, list: &mut [f64])
 }
 
 // The second pass, from the last place to the first.
-#[tactic(auto, unfolding(crate::specs::Space::backward))]
+#[tactic(auto, using(crate::proofs::Passes::back_start, crate::proofs::Passes::back_step), unfolding(crate::specs::Space::backward))]
 fn backward_pass(c: Channel, list: &mut [f64])
     ensures { list.new ≡ backward c list.old }
 {
     if let Some((last, rest)) = list.split_last_mut() {
         let mut t = min(*last, c.hi);
         *last = t;
+        // no `rest.iter_mut().rev()`: tried, and after it a proof knows nothing of the list's elements
         for i in (0..rest.len()).rev() {
             t = min(rest[i], t - c.gap);
             rest[i] = t;
@@ -113,7 +114,7 @@ fn backward_pass(c: Channel, list: &mut [f64])
 }
 
 // Wishes that stand in their order become their places.
-#[tactic(auto, unfolding(crate::specs::Space::spaced))]
+#[tactic(auto, using(crate::proofs::Ways::spaced_none), unfolding(crate::specs::Space::spaced))]
 fn place(c: Channel, list: &mut [f64])
     requires { length list.old ≤ 2 ^ 32 }
     ensures { list.new ≡ spaced c list.old }

@@ -12,7 +12,7 @@ use network::lists::{Bounded, Network};
 use network::words::{Kind, kind_of};
 use order::at;
 
-// The first row of a bus and this row, where the bus has rows up to before `past`.
+// The first row of a bus and this row, where the bus has rows up to before `past`; 0 for past: it has none. No Option: first and past are kept in a lent list of numbers, three of each bus.
 #[tactic(auto, unfolding(crate::specs::Stages::Span::first_with))]
 fn first_with(first: u32, past: u32, row: u32) -> u32
     ensures { result ≡ first_with first past row }
@@ -53,6 +53,7 @@ fn include_ends(buses: &mut [u32], a: usize, b: usize, ra: u32, rb: u32)
 
 // The rows of all buses with those of branch e.
 // That the rows of a branch's ends are below 2^32 - 1 is a fact of `ends` that `rows` ensures: the three functions here hand it down, from all branches to one.
+// e is counted over usize: as a `u32` it would be converted at each index.
 fn include_branch(net: &Network<'_>, ends: &[u32], e: usize, buses: &mut [u32])
     requires { (e < 2 ^ 32) × (3 * length net.now.sub.now ≤ length buses.old) × (get_or ends.now (4 * e) 0 < 2 ^ 32 - 1) × (get_or ends.now (4 * e + 1) 0 < 2 ^ 32 - 1) }
     ensures { Included (λ i. include_branch i (get_or ends.now (4 * e) 0) (get_or ends.now (4 * e + 1) 0) (kind_of net.now.sub.now net.now.from.now net.now.to.now net.now.service.now e)) buses.old buses.new }
@@ -92,7 +93,7 @@ fn include_all(net: &Bounded<'_>, ends: &[u32], buses: &mut [u32])
 }
 
 // The first row of each bus, and one more than its last, 0 where it has none.
-// `buses` is written, so its length is asked as the slice's own.
+// `buses` is written, here and in the functions above, so its length is asked as the slice's own.
 pub fn spans(net: &Bounded<'_>, ends: &[u32], buses: &mut [u32])
     requires { (3 * length net.now.lists.sub.now ≤ length buses.old) × ((e : ℕ) → e < length net.now.lists.from.now → (get_or ends.now (4 * e) 0 < 2 ^ 32 - 1) × (get_or ends.now (4 * e + 1) 0 < 2 ^ 32 - 1)) }
     ensures buses_after { spans_in (length net.now.lists.sub.now) buses.new ≡ spans net.now.lists.sub.now (kinds net.now.lists.sub.now net.now.lists.from.now net.now.lists.to.now net.now.lists.service.now) (from_rows_in (length net.now.lists.from.now) ends.now) (to_rows_in (length net.now.lists.from.now) ends.now) }

@@ -1,11 +1,11 @@
 // The words of a stored line, numbers in hexadecimal digits with a space between them, and numbers taken from words.
 #![tactic(auto)]
 
-ghost use Rattle.std.specs.Prelude.{◌≡◌, ◌++◌, min, length, take, drop, get_or, from_bits};
+ghost use Rattle.std.specs.Prelude.{◌≡◌, ◌++◌, ◌≤◌, min, length, take, drop, get_or, from_bits};
 ghost use Rattle.std.specs.Float.{binary64};
 ghost use Rattle.stored.specs.Words.{digit as digit_of, number as number_of, padded as padded_of, words as words_of};
 
-// What a digit stands for, 0 for any other byte.
+// What a digit stands for, 0 for any other byte, which no stored line has: an Option would go through `number` and `words` to callers that can do nothing with it.
 fn digit(b: u8) -> u64
     ensures { result ≡ digit_of b }
 {
@@ -49,11 +49,19 @@ pub fn words(text: &[u8], out: &mut [u64]) -> usize
     count
 }
 
-// The word at i, 0 past the end.
+// The word at i, 0 past the end. (`order` `at` says why it is no generic function.)
 pub fn word_at(words: &[u64], i: usize) -> u64
     ensures { result ≡ get_or words.now i 0 }
 {
     words.get(i).copied().unwrap_or(0)
+}
+
+// A length by the word at i, at most `most`.
+pub fn length_at(words: &[u64], i: usize, most: usize) -> usize
+    ensures value { result ≡ min most (get_or words.now i 0) }
+    ensures upper_bound { result ≤ most }
+{
+    most.min(word_at(words, i) as usize)
 }
 
 // The float whose bits are the word at i.

@@ -23,7 +23,7 @@ use Rattle.measures.specs.declared.Measures.{Measures}
 use Rattle.runs.specs.Run.{Piece, apart, pieces, is_line, all_pieces}
 use Rattle.runs.specs.Lists.{flat, piece_numbers}
 use Rattle.order.specs.Over.{over}
-use Rattle.runs.specs.Stages.Views.{RunLists, open_from, internal_from, line_from, run_from, run_in, other_run, way_count, way_of, Fits, Ran}
+use Rattle.runs.specs.Stages.Views.{Lead, RunLists, held, open_from, internal_from, line_from, run_from, run_in, other_run, way_count, way_of, Fits, Ran}
 use Rattle.runs.proofs.Paths.{run_few, other_is}
 use Rattle.requests.specs.declared.request.LineRequest.{LineRequest}
 use Rattle.pieces.specs.Stages.Pieces.{piece, branch_of, Put}
@@ -73,6 +73,17 @@ module _ {A : Type 0} (f : ℕ → List A) where
             omega (arith, joined_mono f a (m - a), ap (λ (k : ℕ). length (joined f k)) e)
         go false q = let l : m ≤ a = ltb-false a m q in omega (arith, ap length (joined_past a l))
 
+-- ---- how many pieces there are
+few_points : (e : ℕ) (ps : List Point) (n : ℕ) → length ps ≤ n → length (pieces e ps) ≤ n
+unfolding pieces
+few_points e [] n h = omega arith
+few_points e (p ∷ []) n h = omega arith
+few_points e (p ∷ (q ∷ ps)) n h = go (apart p q) (piece e p q) (few_points e (q ∷ ps) (n - 1) (omega arith))
+  where
+    go : (b : Bool) (x : Piece) → length (pieces e (q ∷ ps)) ≤ n - 1 → length (pick b (x ∷ pieces e (q ∷ ps)) (pieces e (q ∷ ps))) ≤ n
+    go true x k = omega arith
+    go false x k = omega arith
+
 -- ---- what the passes take together
 module _ (H : RunLists) (from to : List ℤ) (service : List ℕ) where
   abbrev kind : ℕ → Kind
@@ -115,17 +126,6 @@ module _ (H : RunLists) (from to : List ℤ) (service : List ℕ) where
       ∙ ap (λ (l : List Piece). l ++ joined g (length from)) (joined_ext f (pass_at false H from to service) (length from) others_pass)
       ∙ ap (λ (l : List Piece). joined (pass_at false H from to service) (length from) ++ l) (joined_ext g (pass_at true H from to service) (length from) lines_pass)
 
-  -- how many pieces there are
-  few_points : (e : ℕ) (ps : List Point) (n : ℕ) → length ps ≤ n → length (pieces e ps) ≤ n
-  unfolding pieces
-  few_points e [] n h = omega arith
-  few_points e (p ∷ []) n h = omega arith
-  few_points e (p ∷ (q ∷ ps)) n h = go (apart p q) (piece e p q) (few_points e (q ∷ ps) (n - 1) (omega arith))
-    where
-      go : (b : Bool) (x : Piece) → length (pieces e (q ∷ ps)) ≤ n - 1 → length (pick b (x ∷ pieces e (q ∷ ps)) (pieces e (q ∷ ps))) ≤ n
-      go true x k = omega arith
-      go false x k = omega arith
-
   pass_few : (e : ℕ) → way_count H.ends e < 2 ^ 31 → length (pass_at true H from to service e) ≤ 2147483656
   unfolding pass_run
   pass_few e h =
@@ -135,13 +135,12 @@ module _ (H : RunLists) (from to : List ℤ) (service : List ℕ) where
       go true = omega (arith, run_few H e (kind e))
       go false = omega arith
 
-  module _ (path : List Float) (fit : FitAll from H.ends path) (small : length from ≤ 8192) where
-    pub pass_small : length (pass_in true H from to service) ≤ 2147483656 * 8192
-    unfolding pass_in
-    pass_small =
-        let z : length (joined (pass_at true H from to service) (length from)) ≤ 2147483656 * length from =
-        joined_at_most (pass_at true H from to service) 2147483656 (length from) (λ i h. pass_few i (omega (arith, (fit i h).1))) in
-        omega arith
+  pub pass_small : ((e : ℕ) → e < length from → way_count H.ends e < 2 ^ 31) → length from ≤ 8192 → length (pass_in true H from to service) ≤ 2147483656 * 8192
+  unfolding pass_in
+  pass_small fit small =
+      let z : length (joined (pass_at true H from to service) (length from)) ≤ 2147483656 * length from =
+      joined_at_most (pass_at true H from to service) 2147483656 (length from) (λ i h. pass_few i (fit i h)) in
+      omega arith
 
   -- ---- the branches that are no lines, by the lists that they are drawn from
   abbrev other : ℕ → List Point
@@ -249,26 +248,40 @@ module _ (sub : List ℕ) (measures : Measures) (buses ends : List ℕ) (blocks 
   pub other_few : (c : ℕ) (path : List Float) → Ran c path (other_run sub measures buses ends blocks frames e K) → c < 2 ^ 32
   other_few c path R = omega (arith, R.count, other_short)
 
+pub few_others : (sub : List ℕ) (measures : Measures) (buses ends : List ℕ) (blocks frames : List Float) (from to : List ℤ) (service : List ℕ)
+    → length from ≤ 8192 → length (others_in sub measures buses ends blocks frames from to service) ≤ 2 * 8192
+unfolding others_in
+few_others sub measures buses ends blocks frames from to service small =
+    let f : ℕ → List Piece = λ e. pieces e (other_run sub measures buses ends blocks frames e (kind_of sub from to service e)) in
+    let z : length (joined f (length from)) ≤ 2 * length from =
+    joined_at_most f 2 (length from) (λ e h. few_points e (other_run sub measures buses ends blocks frames e (kind_of sub from to service e)) 2 (other_short sub measures buses ends blocks frames e (kind_of sub from to service e))) in
+    omega arith
+
 module _ (sub : List ℕ) (measures : Measures) (buses ends : List ℕ) (blocks frames : List Float) (from to : List ℤ) (service : List ℕ) (w : Bool) (at : ℕ) (path n : List Float) (b : List ℕ) where
   abbrev other_at : ℕ → List Point
   other_at e = other_run sub measures buses ends blocks frames e (kind_of sub from to service e)
 
-  pub record Others (e s : ℕ) (path' n' : List Float) (b' : List ℕ) : Type 0 where
-    pub going : Going w (λ (i : ℕ). pieces i (other_at i)) (length from) at n b e s n' b'
-    pub sized : length path' ≡ length path
+  unfoldable pub Others : ℕ → ℕ → List Float → List Float → List ℕ → Type 0
+  Others e s path' n' b' = Going w (λ (i : ℕ). pieces i (other_at i)) (length from) at n b e s n' b' × (length path' ≡ length path)
 
   pub others_none : RoomFor w at (others_in sub measures buses ends blocks frames from to service) n b → Others 0 at path n b
-  unfolding others_in
-  others_none h = record { going = go_none w _ (length from) at n b h; sized = refl }
+  unfolding Others others_in
+  others_none h = (go_none w _ (length from) at n b h, refl)
 
-  module _ {e s : ℕ} {path' n' : List Float} {b' : List ℕ} (I : Others e s path' n' b') where
-    module _ {c : ℕ} {path'' : List Float} (R : Ran c path'' (other_at e)) (l : e < length from) where
-      pub others_room : RoomFor w s (pieces e (points_in c path'')) n' b'
-      others_room = ran_room R w e s n' b' (go_room w _ (length from) at n b I.going l)
+  module _ (e s : ℕ) (path' n' : List Float) (b' : List ℕ) (I : Others e s path' n' b') (l : e < length from) (c : ℕ) (path'' : List Float) (R : Ran c path'' (other_at e)) where
+    pub others_room : RoomFor w s (pieces e (points_in c path'')) n' b'
+    unfolding Others
+    others_room = ran_room R w e s n' b' (go_room w _ (length from) at n b I.0 l)
 
-      pub others_more : {r : ℕ} {n'' : List Float} {b'' : List ℕ} → Passed w s r (pieces e (points_in c path'')) n' n'' b' b''
-          → length path'' ≡ length path' → length n'' ≡ length n' → length b'' ≡ length b' → Others (e + 1) r path'' n'' b''
-      others_more P d f g = record { going = go_more w _ (length from) at n b I.going l (ran_passed R w e P) f g; sized = d ∙ I.sized }
+    pub others_more : (r : ℕ) (n'' : List Float) (b'' : List ℕ) → Passed w s r (pieces e (points_in c path'')) n' n'' b' b''
+        → length path'' ≡ length path' → length n'' ≡ length n' → length b'' ≡ length b' → Others (e + 1) r path'' n'' b''
+    unfolding Others
+    others_more r n'' b'' P d f g = (go_more w _ (length from) at n b I.0 l (ran_passed R w e P) f g, d ∙ I.1)
+
+  pub others_all : (e s : ℕ) (path' n' : List Float) (b' : List ℕ) → e ≡ length from → Others e s path' n' b'
+      → Passed w at s (others_in sub measures buses ends blocks frames from to service) n n' b b'
+  unfolding Others others_in
+  others_all e s path' n' b' l I = passed_of I.0.passed (ap (joined (λ (i : ℕ). pieces i (other_at i))) l)
 
 -- ---- the loop over blocks of lines: after the branches below `start`
 module _ (H : RunLists) (from to : List ℤ) (service : List ℕ) (w : Bool) (at : ℕ) (path n : List Float) (b : List ℕ) where
@@ -282,19 +295,20 @@ module _ (H : RunLists) (from to : List ℤ) (service : List ℕ) (w : Bool) (at
   past_pieces : (e : ℕ) → length from ≤ e → F e ≡ []
   past_pieces e h = ap (pieces e) (past_run e h) ∙ pieces_none e
 
-  pub record Blocks (start s : ℕ) (path' n' : List Float) (b' : List ℕ) : Type 0 where
-    pub near : start < length from + 16
+  pub record Blocked (start s : ℕ) (path' n' : List Float) (b' : List ℕ) : Type 0 where
     pub passed : Passed w at s (joined F start) n n' b b'
     pub room : RoomFor w at (joined F (length from)) n b
     pub sized4 : length n' ≡ length n
     pub sized1 : length b' ≡ length b
     pub sized : length path' ≡ length path
 
+  unfoldable pub Blocks : ℕ → ℕ → List Float → List Float → List ℕ → Type 0
+  Blocks start s path' n' b' = Blocked start s path' n' b'
+
   pub blocks_none : RoomFor w at (pass_in true H from to service) n b → Blocks 0 at path n b
-  unfolding pass_in
+  unfolding Blocks pass_in
   blocks_none h =
       record {
-        near = omega arith;
         passed = passed_of (passed_none w at n b) (sym (joined_zero F));
         room = h;
         sized4 = refl;
@@ -302,7 +316,7 @@ module _ (H : RunLists) (from to : List ℤ) (service : List ℕ) (w : Bool) (at
         sized = refl;
       }
 
-  module _ {start s : ℕ} {path' n' : List Float} {b' : List ℕ} (I : Blocks start s path' n' b') where
+  module _ (start s : ℕ) (path' n' : List Float) (b' : List ℕ) (I : Blocks start s path' n' b') where
     block_most : length (joined F start) + length (block_in H from to service start) ≤ length (joined F (length from))
     unfolding block_in
     block_most =
@@ -310,19 +324,19 @@ module _ (H : RunLists) (from to : List ℤ) (service : List ℕ) (w : Bool) (at
         omega (arith, ap length (joined_plus F start 16), length-append (joined F start) (joined (λ (i : ℕ). F (start + i)) 16))
 
     pub blocks_room : RoomFor w s (block_in H from to service start) n' b'
+    unfolding Blocks
     blocks_room =
         let e : s ≡ at + length (joined F start) = I.passed.count in
         let z = block_most in
         (omega (arith, I.room.0), λ k. (omega (arith, (I.room.1 k).0, I.sized4), omega (arith, (I.room.1 k).1, I.sized1)))
 
-    pub blocks_more : {r : ℕ} {path'' n'' : List Float} {b'' : List ℕ} → start < length from → Passed w s r (block_in H from to service start) n' n'' b' b''
+    pub blocks_more : (r : ℕ) (path'' n'' : List Float) (b'' : List ℕ) → Passed w s r (block_in H from to service start) n' n'' b' b''
         → length path'' ≡ length path' → length n'' ≡ length n' → length b'' ≡ length b' → Blocks (start + 16) r path'' n'' b''
-    unfolding block_in
-    blocks_more l P d f g =
+    unfolding Blocks block_in
+    blocks_more r path'' n'' b'' P d f g =
         let z = block_most in
         let y = length-append (joined F start) (joined (λ (i : ℕ). F (start + i)) 16) in
         record {
-          near = omega arith;
           passed =
               passed_of (passed_more I.passed P (omega (arith, I.room.0), λ k. (omega (arith, (I.room.1 k).0), omega (arith, (I.room.1 k).1))))
               (sym (joined_plus F start 16));
@@ -333,13 +347,14 @@ module _ (H : RunLists) (from to : List ℤ) (service : List ℕ) (w : Bool) (at
         }
 
     pub blocks_end : length from ≤ start → Passed w at s (pass_in true H from to service) n n' b b'
-    unfolding pass_in
+    unfolding Blocks pass_in
     blocks_end l = passed_of I.passed (joined_past F (length from) past_pieces start l)
 
--- ---- both passes
-pub unwritten : {X : Type 0} → false ≡ true → X
-unwritten k = absurd (let z : ◌≡◌ {A = ℕ} 0 1 = ap (λ (x : Bool). pick x 1 0) k in omega arith)
+pub ruleset other_laws = (others_none, others_room, others_more)
 
+pub ruleset block_laws = (blocks_none, blocks_room, blocks_more)
+
+-- ---- both passes
 module _ {r : ℕ} {ps : List Piece} {n n' : List Float} {b b' : List ℕ} (w : Put 0 r ps n n' b b') where
   pub whole_four : n' ≡ over (flat piece_numbers ps) n
   unfolding over
@@ -353,7 +368,7 @@ module _ {r : ℕ} {ps : List Piece} {n n' : List Float} {b b' : List ℕ} (w : 
       let e : r ≡ length (map branch_of ps) = omega (arith, w.count, length-map ps branch_of) in
       w.one ∙ ap (λ (k : ℕ). map branch_of ps ++ drop k b) e
 
-module _ (H : RunLists) (from to : List ℤ) (service : List ℕ) (path : List Float) (fit : FitAll from H.ends path) (small : length from ≤ 8192) where
+module _ (H : RunLists) (from to : List ℤ) (service : List ℕ) where
   abbrev all : List Piece
   all = all_pieces (kinds H.sub from to service) (runs_in H from to service)
 
@@ -364,41 +379,22 @@ module _ (H : RunLists) (from to : List ℤ) (service : List ℕ) (path : List F
   sum = ap length (all_passes H from to service) ∙ length-append (pass_in false H from to service) (pass_in true H from to service)
       ∙ ap (λ (z : List Piece). length z + length (pass_in true H from to service)) (sym (others_are H from to service))
 
-  few_others : length others ≤ 2 * 8192
-  unfolding others_in
-  few_others =
-      let f : ℕ → List Piece = λ e. pieces e (other H from to service e) in
-      let z : length (joined f (length from)) ≤ 2 * length from =
-      joined_at_most f 2 (length from) (λ e h. few_points H from to service e (other H from to service e) 2 (other_short _ _ _ _ _ _ e (kind_of H.sub from to service e))) in
-      omega arith
-
-  -- room for both passes
-  pub others_below : 0 + length others < 2 ^ 64
-  others_below = omega (arith, few_others)
-
-  pub lines_below : (s : ℕ) → s ≡ 0 + length others → s + length (pass_in true H from to service) < 2 ^ 64
-  lines_below s c = omega (arith, c, few_others, pass_small H from to service path fit small)
-
-  module _ (n : List Float) (b : List ℕ) (room : HasRoom all n b) where
-    pub others_room_at : RoomFor true 0 others n b
-    others_room_at = (omega (arith, few_others), λ k. (omega (arith, room.0, sum), omega (arith, room.1, sum)))
-
-    pub lines_room_at : (s : ℕ) (n' : List Float) (b' : List ℕ) → s ≡ 0 + length others → length n' ≡ length n → length b' ≡ length b
-        → RoomFor true s (pass_in true H from to service) n' b'
-    lines_room_at s n' b' c d f =
-        (omega (arith, c, few_others, pass_small H from to service path fit small), λ k. (omega (arith, room.0, sum, c), omega (arith, room.1, sum, c)))
-
+  -- the two passes, one after the other
+  module _ (path : List Float) (fit : FitAll from H.ends path) (small : length from ≤ 8192) (n : List Float) (b : List ℕ) (room : HasRoom all n b) where
     pub both_written : {s r : ℕ} {n' n'' : List Float} {b' b'' : List ℕ} → Passed true 0 s others n n' b b' → Passed true s r (pass_in true H from to service) n' n'' b' b''
         → Put 0 r all n n'' b b''
     both_written P Q =
         let k : length (others ++ pass_in true H from to service) ≡ length all = length-append others (pass_in true H from to service) ∙ sym sum in
-        let X = passed_more P Q (omega (arith, few_others, length-append others (pass_in true H from to service), pass_small H from to service path fit small), λ h. (omega (arith, room.0), omega (arith, room.1))) in
+        let t = few_others H.sub H.measures H.buses H.ends H.blocks H.frames from to service small in
+        let X = passed_more P Q (omega (arith, length-append others (pass_in true H from to service), pass_small H from to service (λ e h. omega (arith, (fit e h).1)) small), λ h. (omega (arith, room.0), omega (arith, room.1))) in
         put_of (X.written refl) (ap (λ (y : List Piece). y ++ pass_in true H from to service) (others_are H from to service) ∙ sym (all_passes H from to service))
 
-  -- how many pieces the survey counts
-  module _ {s r : ℕ} {n n' n'' : List Float} {b b' b'' : List ℕ} {w : Bool} (P : Passed w 0 s others n n' b b') (Q : Passed w s r (pass_in true H from to service) n' n'' b' b'') where
-    pub survey_count : r ≡ length all
-    survey_count = omega (arith, P.count, Q.count, sum)
+module _ (sub : List ℕ) (measures : Measures) (buses ends : List ℕ) (blocks places frames : List Float) (L : Lead) (from to : List ℤ) (service : List ℕ) where
+  abbrev its : RunLists
+  its = held sub measures buses ends blocks places frames L
 
-    pub survey_few : r ≤ 2 ^ 45
-    survey_few = omega (arith, survey_count, sum, few_others, pass_small H from to service path fit small)
+  pub all_count : length (all_pieces (kinds sub from to service) (runs_in its from to service))
+      ≡ length (others_in sub measures buses ends blocks frames from to service) + length (pass_in true its from to service)
+  all_count = sum its from to service
+
+pub ruleset count_laws = (all_count, few_others, pass_small)

@@ -21,7 +21,7 @@ use runs::run::run;
 
 // Counts the pieces of the branches that are no lines from number `first` on, writes them where it is to write, and answers the number after the last.
 // `write` stands beside `numbers` and `branches`, here and in `lines`, as in `pieces::tally`, which says why.
-#[tactic(auto, unfolding(crate::specs::Stages::Runs::others_in))]
+#[tactic(auto, using(crate::proofs::Passes::other_laws, crate::proofs::Passes::other_few))]
 fn pass_others(
     write: bool,
     first: usize,
@@ -46,6 +46,7 @@ fn pass_others(
 
 // Counts the pieces of all runs.
 // That `path` is long enough for every branch is asked by the four functions that write runs into it: it is written, so no struct of shared lists holds it with `from` and `ends`, which the fact joins with its length.
+#[tactic(auto, using(crate::proofs::Passes::count_laws))]
 pub fn survey(net: &Bounded<'_>, laid: &Laid<'_>, guide: &Guide<'_>, path: &mut [f64]) -> usize
     requires fit_all { FitAll net.now.lists.from.now laid.now.ends.now path.old }
     ensures value { result ≡ length (all_pieces (kinds net.now.lists.sub.now net.now.lists.from.now net.now.lists.to.now net.now.lists.service.now) (runs_in (held net.now.lists.sub.now laid.now.measures laid.now.buses.now laid.now.ends.now laid.now.blocks.now laid.now.places.now guide.now.index.placed.frames.now (lead_by guide.now.gap guide.now.index.placed.k guide.now.index.placed.stations.now guide.now.ways.now)) net.now.lists.from.now net.now.lists.to.now net.now.lists.service.now)) }
@@ -76,6 +77,7 @@ pub fn survey(net: &Bounded<'_>, laid: &Laid<'_>, guide: &Guide<'_>, path: &mut 
 }
 
 // Writes all pieces, those of lines last.
+#[tactic(auto, using(crate::proofs::Passes::count_laws))]
 pub fn write_pieces(
     net: &Bounded<'_>,
     laid: &Laid<'_>,

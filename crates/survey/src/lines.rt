@@ -13,6 +13,7 @@ use runs::laid::{Guide, Laid};
 use runs::run::run_line;
 
 // Leads the line that a request asks for, counts its pieces from number `first` on, writes them where it is to write, and answers the number after the last.
+#[tactic(auto, using(runs::proofs::Paths::line_few, pieces::proofs::Laws::pieces_none), unfolding(crate::specs::Stages::Lines::request_pieces, crate::specs::Stages::Lines::request_run))]
 fn lead_line(
     r: LineRequest,
     write: bool,
@@ -40,7 +41,7 @@ fn lead_line(
 
 // Leads the lines that a lent list of requests asks for, one after the other.
 // By index, since `request_at` reads a request by its index: what `requests` promises of a lent list is said of it.
-#[tactic(auto, unfolding(crate::specs::Stages::Lines::list_pieces))]
+#[tactic(auto, using(crate::proofs::Leading::along_laws))]
 fn lead_requests(
     list: &[LineRequest],
     write: bool,
@@ -102,6 +103,7 @@ fn lead_block(
 }
 
 // Leads all lines, each by branch number.
+#[tactic(auto, using(crate::proofs::Passes::block_laws))]
 pub(crate) fn lead_lines(
     write: bool,
     first: usize,

@@ -1,14 +1,19 @@
--- One piece more of those that are counted. Assumes nothing.
-use mathlib.Core.Path.{◌≡◌, sym, ap, ◌∙◌}
-use mathlib.Core.Bool.{Bool, true, false}
-use Prim.Native.Nat.{ℕ, suc, ◌+◌}
-use native.Mathlib.Numerals.{add-one}
+-- How many of 0, .., n - 1 pass a test, by the library's words. Assumes nothing.
+use Rattle.std.proofs.Common.{◌≡◌, ℕ, zero, suc, ◌+◌, Bool, true, false, cond, List, ◌∷◌, refl, sym, ap, ◌∙◌, add-one, arith}
+use Rattle.std.specs.List.{count_by, range_with_len}
+use Rattle.std.proofs.lemmas.List.Recursion.{is_count_by}
+use Rattle.order.specs.Order.{count, pick, up_from}
 use Rattle.order.specs.Table.{how_many}
-use Rattle.order.proofs.Tables.{how_many_yes, how_many_no}
 
-module _ (p : ℕ → Bool) (j c : ℕ) (e : c ≡ how_many p j) (b : Bool) (t : b ≡ p j) where
-  pub counted_yes : b ≡ true → c + 1 ≡ how_many p (j + 1)
-  counted_yes h = rw (add-one j, add-one c) (ap suc e ∙ sym (how_many_yes p j (sym t ∙ h)))
+range_up : (a n : ℕ) → range_with_len a n ≡ up_from a n
+unfolding up_from
+range_up a zero = refl
+range_up a (suc n) = ap (λ (l : List ℕ). a ∷ l) (ap (λ (b : ℕ). range_with_len b n) (add-one a) ∙ range_up (suc a) n)
 
-  pub counted_no : b ≡ false → c ≡ how_many p (j + 1)
-  counted_no h = rw (add-one j) (e ∙ sym (how_many_no p j (sym t ∙ h)))
+pub how_many_ranged : (p : ℕ → Bool) (n : ℕ) → count_by p (range_with_len 0 n) ≡ how_many p n
+unfolding count
+how_many_ranged p n = ap (count_by p) (range_up 0 n) ∙ sym (is_count_by (count p) p refl (λ x xs. by-test (p x) (count p xs)) (up_from 0 n))
+  where
+    by-test : (b : Bool) (k : ℕ) → pick b (suc k) k ≡ cond b (1 + k) k
+    by-test true k = omega arith
+    by-test false k = refl

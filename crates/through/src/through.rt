@@ -8,10 +8,10 @@ ghost use Rattle.through.specs.Through.{station_at, crosses, runs_through, throu
 use box_cells::build::index_boxes;
 use first_hit::search::first_hit;
 use fit::drawn::Drawn;
-use fit::fit::{branch_of, end_at, is_line};
+use fit::fit::{branch_of, is_line};
 use grid::index::BoxIndex;
-use network::lists::Placed;
-use network::words::station_of;
+use network::lists::FewPlaced;
+use network::words::{end_of, station_of};
 use stretches::relative::{piece_end, piece_start};
 
 // The station of a bus, and no station's number for an unknown one.
@@ -27,15 +27,15 @@ fn station_at(sub: &[u32], x: Option<usize>) -> usize
 }
 
 // Whether piece j, as one of branch e, hits a box of the index other than those of the branch's two stations.
-#[tactic(auto, unfolding(crate::specs::Through::crosses))]
+#[tactic(auto, unfolding(crate::specs::Through::crosses, fit::specs::Fit::end_at))]
 fn crosses(index: &BoxIndex<'_>, drawing: &Drawn<'_>, e: usize, j: usize) -> bool
     requires { 4 * j + 3 < length drawing.now.pieces.now }
     ensures { result ≡ crosses (boxes_in index.now.placed.k index.now.placed.frames.now) (occupied (counts_in index.now.placed.k index.now.placed.stations.now)) drawing.now.sub.now drawing.now.from.now drawing.now.to.now drawing.now.pieces.now e j }
 {
     let p = piece_start(drawing.pieces, j);
     let q = piece_end(drawing.pieces, j);
-    let a = station_at(drawing.sub, end_at(drawing.sub.len(), drawing.from, e));
-    let b = station_at(drawing.sub, end_at(drawing.sub.len(), drawing.to, e));
+    let a = station_at(drawing.sub, end_of(drawing.sub.len(), drawing.from, e));
+    let b = station_at(drawing.sub, end_of(drawing.sub.len(), drawing.to, e));
     first_hit(index, p, q, a, b).is_some()
 }
 
@@ -51,28 +51,22 @@ fn runs_through(index: &BoxIndex<'_>, drawing: &Drawn<'_>, j: usize) -> bool
 
 // How many pieces of lines hit a box of the index.
 // An audit's pieces are four numbers for each branch number once `fits` has passed: `Drawn` is lent to `fits` too.
-#[tactic(auto, unfolding(crate::specs::Through::through), using(order::proofs::Tables::how_many_zero, crate::proofs::Counting::counted_yes, crate::proofs::Counting::counted_no))]
 fn count_hits(index: &BoxIndex<'_>, drawing: &Drawn<'_>) -> usize
     requires { length drawing.now.pieces.now ≡ 4 * length drawing.now.branches.now }
     ensures { result ≡ through (boxes_in index.now.placed.k index.now.placed.frames.now) (occupied (counts_in index.now.placed.k index.now.placed.stations.now)) drawing.now.sub.now drawing.now.from.now drawing.now.to.now drawing.now.roles.now drawing.now.pieces.now drawing.now.branches.now }
 {
-    let mut count = 0;
-    for j in 0..drawing.branches.len() {
-        if runs_through(index, drawing, j) {
-            count += 1;
-        }
-    }
-    count
+    (0..drawing.branches.len())
+        .filter(|&j| runs_through(index, drawing, j))
+        .count()
 }
 
 // How many pieces of lines hit a box that isn't one of their own stations'.
-// The bound of k is no fact of `Placed`: `sized` and `results` don't ask for at most 4,096 stations, so it would ask more of their callers.
-pub fn count_through(placed: &Placed<'_>, index: &mut [u32], drawing: &Drawn<'_>) -> usize
-    requires { (placed.now.k ≤ 4096) × (length drawing.now.pieces.now ≡ 4 * length drawing.now.branches.now) }
-    ensures { result ≡ through (boxes_in placed.now.k placed.now.frames.now) (occupied (counts_in placed.now.k placed.now.stations.now)) drawing.now.sub.now drawing.now.from.now drawing.now.to.now drawing.now.roles.now drawing.now.pieces.now drawing.now.branches.now }
+pub fn count_through(few: &FewPlaced<'_>, index: &mut [u32], drawing: &Drawn<'_>) -> usize
+    requires { length drawing.now.pieces.now ≡ 4 * length drawing.now.branches.now }
+    ensures { result ≡ through (boxes_in few.now.placed.k few.now.placed.frames.now) (occupied (counts_in few.now.placed.k few.now.placed.stations.now)) drawing.now.sub.now drawing.now.from.now drawing.now.to.now drawing.now.roles.now drawing.now.pieces.now drawing.now.branches.now }
 {
-    index_boxes(true, placed, index);
-    let placed = *placed;
+    index_boxes(true, few, index);
+    let placed = few.placed;
     count_hits(
         &BoxIndex {
             placed,

@@ -7,18 +7,18 @@ ghost use Rattle.turns.specs.Turns.{top_to, placement_order};
 ghost use Rattle.turns.specs.Stages.Listed.{Listed, Turns};
 
 use float::key::key_of_bits;
-use network::lists::Stations;
+use network::lists::{Buses, Stations};
 use order::sort_part;
 
 // A number that falls where v rises.
 fn falling(v: u64) -> u64
     ensures { result ≡ falling v }
 {
-    0xffff_ffff_ffff_ffff - v
+    !v
 }
 
 // Lists the occupied stations by number at the front of sorted, and gives each station its bus count's key; how many are occupied.
-// `keys` and `sorted` are written, so their lengths are asked as the slices' own; k fits a u32, as its stations' numbers are written.
+// `keys` and `sorted` are written, here and in the two functions below, so their lengths are asked as the slices' own; k fits a u32, as its stations' numbers are written.
 fn list_occupied(stations: &Stations<'_>, keys: &mut [u64], sorted: &mut [u32]) -> usize
     requires { (stations.now.k ≤ 2 ^ 32) × (stations.now.k ≤ length keys.old) × (stations.now.k ≤ length sorted.old) }
     ensures { Listed (counts_in stations.now.k stations.now.counts.now) stations.now.k keys.new sorted.new result }
@@ -41,18 +41,18 @@ fn fill_keys(k: usize, keys: &mut [u64])
     requires { k ≤ length keys.old }
     ensures { (s : ℕ) → s < k → get_or keys.new s 0 ≡ falling 0 }
 {
-    keys[..k].fill(0xffff_ffff_ffff_ffff);
+    keys[..k].fill(u64::MAX);
 }
 
 // Lowers each station's key to that of its top voltage.
-// `sub` and `kv` are as long as each other; they are two of the six lists of a `Network`, which doesn't ask it, and the only ones that are read here.
-fn top_keys(sub: &[u32], kv: &[u64], k: usize, keys: &mut [u64])
-    requires kv_len { (length kv.now ≡ length sub.now) × (k ≤ length keys.old) }
-    requires by_index { (i : ℕ) → i < length sub.now → get_or sub.now i 0 < k }
+fn top_keys(lent: &Buses<'_>, k: usize, keys: &mut [u64])
+    requires k_in_bounds { k ≤ length keys.old }
+    requires by_index { (i : ℕ) → i < length lent.now.sub.now → get_or lent.now.sub.now i 0 < k }
     requires by_index_2 { (s : ℕ) → s < k → get_or keys.old s 0 ≡ falling 0 }
-    ensures { (s : ℕ) → s < k → get_or keys.new s 0 ≡ falling (top_to sub.now kv.now s (length sub.now)) }
+    ensures { (s : ℕ) → s < k → get_or keys.new s 0 ≡ falling (top_to lent.now.sub.now lent.now.kv.now s (length lent.now.sub.now)) }
 {
-    for (i, &station) in sub.iter().enumerate() {
+    let kv = lent.kv;
+    for (i, &station) in lent.sub.iter().enumerate() {
         let s = station as usize;
         let v = falling(key_of_bits(kv[i]));
         if v < keys[s] {
@@ -74,22 +74,21 @@ fn put_order(sorted: &[u32], stations: &mut [u32])
 }
 
 // The order of placement, beside the stations' bus counts; how many stations are placed.
-// `stations`, `keys`, `sorted` and `spare` are written: behind one `&mut` a struct of them could hold other lists afterwards, so its contract would have to say of each that it is as long as before.
+// `stations`, `keys`, `sorted` and `spare` are written: behind one `&mut` a struct of them could hold other lists afterwards, so its contract would have to say of each that it is the one that was lent.
 pub fn placement_order(
-    sub: &[u32],
-    kv: &[u64],
+    lent: &Buses<'_>,
     k: usize,
     stations: &mut [u32],
     keys: &mut [u64],
     sorted: &mut [u32],
     spare: &mut [u32],
 ) -> usize
-    requires kv_len { (length kv.now ≡ length sub.now) × (k ≤ 2 ^ 32) × (2 * k ≤ length stations.old) × (k ≤ length keys.old) × (k ≤ length sorted.old) × (k ≤ length spare.old) }
-    requires stations_value { counts_in k stations.old ≡ bus_counts sub.now }
-    ensures value { (result ≡ length (occupied (bus_counts sub.now))) × (result ≤ k) }
-    ensures stations_after { order_in result stations.new ≡ placement_order sub.now kv.now (bus_counts sub.now) }
+    requires k_in_bounds { (k ≤ 2 ^ 32) × (2 * k ≤ length stations.old) × (k ≤ length keys.old) × (k ≤ length sorted.old) × (k ≤ length spare.old) }
+    requires stations_value { counts_in k stations.old ≡ bus_counts lent.now.sub.now }
+    ensures value { (result ≡ length (occupied (bus_counts lent.now.sub.now))) × (result ≤ k) }
+    ensures stations_after { order_in result stations.new ≡ placement_order lent.now.sub.now lent.now.kv.now (bus_counts lent.now.sub.now) }
     ensures turns { Turns k (order_in result stations.new) }
-    ensures stations_after_2 { counts_in k stations.new ≡ bus_counts sub.now }
+    ensures stations_after_2 { counts_in k stations.new ≡ bus_counts lent.now.sub.now }
 {
     let r = list_occupied(
         &Stations {
@@ -101,7 +100,7 @@ pub fn placement_order(
     );
     sort_part(keys, sorted, spare, 0, r);
     fill_keys(k, keys);
-    top_keys(sub, kv, k, keys);
+    top_keys(lent, k, keys);
     sort_part(keys, sorted, spare, 0, r);
     put_order(&sorted[..r], stations);
     r

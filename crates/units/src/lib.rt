@@ -13,8 +13,10 @@ use float::small::max;
 use neighbours::nearest_neighbour_distances;
 use neighbours::points::Points;
 use network::lists::Stations;
+use sizes::Measured;
 
 // The points of the occupied stations at the front of path, and how many they are.
+// `places` is read here and written in `seeds` and in `placement`: a struct of it and k would be made anew between the two.
 pub fn coordinates(stations: &Stations<'_>, places: &[f64], path: &mut [f64]) -> usize
     requires { (2 * stations.now.k ≤ length places.now) × (2 * stations.now.k ≤ length path.old) }
     ensures path_after { take (2 * result) path.new ≡ coordinates (points_in stations.now.k places.now) (occupied (counts_in stations.now.k stations.now.counts.now)) }
@@ -23,7 +25,7 @@ pub fn coordinates(stations: &Stations<'_>, places: &[f64], path: &mut [f64]) ->
 {
     let mut r = 0;
     for s in 0..stations.k {
-        if stations.counts[2 * s] > 0 {
+        if stations.is_occupied(s) {
             path[2 * r] = places[2 * s];
             path[2 * r + 1] = places[2 * s + 1];
             r += 1;
@@ -33,7 +35,7 @@ pub fn coordinates(stations: &Stations<'_>, places: &[f64], path: &mut [f64]) ->
 }
 
 // The spacing of points. The other lists are work lists.
-// `frames`, `keys`, `sorted` and `spare` are written: behind one `&mut` a struct of them could hold other lists afterwards, so its contract would have to say of each that it is as long as before.
+// `frames`, `keys`, `sorted` and `spare` are written: behind one `&mut` a struct of them could hold other lists afterwards, so its contract would have to say of each that it is the one that was lent.
 // n is asked to fit a u32 as in `neighbours`, whose `nearest_of_all` takes `Points` of any n.
 pub fn spacing(
     points: &Points<'_>,
@@ -52,17 +54,16 @@ pub fn spacing(
 // The median larger side of an occupied station, at least 1.
 // `frames`, `keys`, `sorted` and `spare` are written, so their lengths are asked as the slices' own; k bounds how much of `frames` `order::median` reads, which asks for at most 2^32.
 pub fn typical(
-    stations: &Stations<'_>,
-    blocks: &[f64],
+    measured: &Measured<'_>,
     frames: &mut [f64],
     keys: &mut [u64],
     sorted: &mut [u32],
     spare: &mut [u32],
 ) -> f64
-    requires { (stations.now.k ≤ 2 ^ 32) × (3 * stations.now.k ≤ length blocks.now) × (stations.now.k ≤ length frames.old) × (stations.now.k ≤ length keys.old) × (stations.now.k ≤ length sorted.old) × (stations.now.k ≤ length spare.old) }
-    ensures { result ≡ typical (sizes_in stations.now.k blocks.now) (counts_in stations.now.k stations.now.counts.now) }
+    requires { (measured.now.k ≤ 2 ^ 32) × (measured.now.k ≤ length frames.old) × (measured.now.k ≤ length keys.old) × (measured.now.k ≤ length sorted.old) × (measured.now.k ≤ length spare.old) }
+    ensures { result ≡ typical (sizes_in measured.now.k measured.now.blocks.now) (counts_in measured.now.k measured.now.counts.now) }
 {
-    let r = sizes::sides(stations, blocks, frames);
+    let r = sizes::sides(measured, frames);
     let median = order::median(&frames[..r], keys, sorted, spare);
     max(median.unwrap_or(1.0), 1.0)
 }

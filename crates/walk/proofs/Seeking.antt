@@ -81,3 +81,6 @@ module _ (corners : List ℕ) (centre : ℕ → Point) (va vb : ℕ) where
               past = omega (arith, s.past);
               same = answer ∙ sought_at h (rest (suc p)) Lost (sym w ∙ z) ∙ ap (λ (n : ℕ). sought corners centre va vb (rest n)) (sym (add-one p));
             }
+
+-- what the search for the corner to start at knows
+pub ruleset seek_laws = (seek_start, seek_end, seek_other, seek_found, seek_on, place_fits)

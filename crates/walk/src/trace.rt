@@ -60,6 +60,7 @@ fn leave(line: &Line<'_>, h: usize) -> Step
 }
 
 // How the line leaves its first corner: the triangles around it are tried by number.
+#[tactic(auto, using(crate::proofs::Seeking::seek_laws))]
 fn start(line: &Line<'_>) -> Step
     ensures { result ≡ started line.now.turned.mesh.corners.now (point_at line.now.points.now) line.now.start line.now.end }
 {
@@ -112,7 +113,7 @@ fn after(line: &Line<'_>, h: u32) -> Step
     ensures { result ≡ after line.now.turned.mesh.corners.now line.now.turned.mesh.twins.now (point_at line.now.points.now) line.now.start line.now.end h }
 {
     let g = at(line.turned.mesh.twins, h as usize);
-    if g == 4294967295 {
+    if g == u32::MAX {
         return Step::Home;
     }
     pass_on(line, g as usize)
@@ -127,6 +128,7 @@ fn home(x: Step) -> bool
 }
 
 // The walk of one line: the half-edges that it crosses, in order, at the front of `trail`.
+#[tactic(auto, using(crate::proofs::Steps::begin, crate::proofs::Steps::going))]
 pub fn trace(line: &Line<'_>, trail: &mut [u32]) -> Trail
     requires { length line.now.turned.mesh.corners.now ≤ length trail.old }
     ensures { Trailed (traced line.now.turned.mesh.corners.now line.now.turned.mesh.twins.now (point_at line.now.points.now) line.now.start line.now.end) trail.old trail.new result.count result.kept }

@@ -19,9 +19,6 @@ use Rattle.placement.proofs.Clear.{Good}
 use Rattle.runs.specs.Run.{apart}
 use Rattle.wall.specs.Wall.{coincide}
 
-abbrev nil : Float
-nil = fin false 0 (pos 0)
-
 -- ---- equal as numbers: neither is below the other
 
 flat_tri : (a b : ℕ) → (eqb a b && true) ≡ not (ltb a b || ltb b a)

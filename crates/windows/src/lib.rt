@@ -1,4 +1,5 @@
 // The window of a part of a piece: a box that every box reaches which the piece enters there.
+// A piece is its two ends p and q, for the reason that stands at `geometry::Point`.
 #![tactic(auto)]
 
 ghost use Rattle.std.specs.Prelude.{◌≡◌};

@@ -30,6 +30,7 @@ pub struct Fixed<'a> {
 
 // A half-edge of channel c.
 // c, a channel, is counted over usize, as `rounds` counts channels; `point_of` and `wish_of` read it from a list of `u32` and convert it.
+// m comes alone: `write_ranges` of `rounds` calls this before it has a `Crossed`.
 #[tactic(auto, unfolding(crate::specs::Stages::RoundLists::edge_in))]
 pub fn edge_of(m: usize, ends: &[u32], c: usize) -> u32
     requires { (m ≤ 2 ^ 32) × (c < 2 ^ 32) }

@@ -7,9 +7,3 @@ pub returns-in_err-unit : goal.returns-in_err-unit
 returns-in_err-unit c =
     let p = err_from_is_err_and c.from_residual.result c.from_residual.ensures.1 in
     rw (p.1, p.2) (refused_before _ _ _ _ _ _ _ _ _ _ _ _ _ _ (rw c.in_err-unit.was at c.requires.charted))
-
-pub returns : goal.returns
-returns c = c.write.ensures
-
-pub write-requires-clause-charted : goal.write-requires-clause-charted
-write-requires-clause-charted c = rw c.in_ok-unit.was at c.requires.charted

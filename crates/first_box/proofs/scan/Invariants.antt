@@ -1,5 +1,4 @@
 -- What the loops of `first_box::scan` keep.
-use Prim.Native.Nat.{◌≤◌, ◌-◌}
 use Rattle.first_box.proofs.Looking.{Scanned}
 use Rattle.first_box.proofs.scan.Given as goal
 

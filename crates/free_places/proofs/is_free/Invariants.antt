@@ -1,5 +1,4 @@
 -- What the loops of `free_places::is_free` keep.
-use Prim.Native.Nat.{◌-◌}
 use Rattle.free_places.proofs.Searching.{Free}
 use Rattle.free_places.proofs.is_free.Given as goal
 

@@ -4,10 +4,10 @@ use Rattle.free_places.proofs.Searching.{found_near, found_wide, found_last}
 use Rattle.free_places.proofs.place_for.Goals as goal
 
 pub returns-in-Some : goal.returns-in-Some
-returns-in-Some c = found_near _ _ _ _ _ c.first_free-near.ensures _ c.in-Some.is
+returns-in-Some c = found_near _ _ _ _ _ c.first_free.ensures _ c.in-Some.is
 
-pub returns-in-Some-wide : goal.returns-in-Some-wide
-returns-in-Some-wide c = found_wide _ _ _ _ _ c.first_free-near.ensures c.in_default.is _ c.first_free-wide.ensures _ c.in-Some-wide.is
+pub returns-in-Some-first_free : goal.returns-in-Some-first_free
+returns-in-Some-first_free c = found_wide _ _ _ _ _ c.first_free.ensures c.in_default.is _ c.first_free-2.ensures _ c.in-Some-first_free.is
 
 pub returns : goal.returns
-returns c = c.unwrap_or.ensures ∙ found_last _ _ _ _ _ c.first_free-near.ensures c.in_default.is _ c.first_free-wide.ensures c.in_default-wide.is _ c.first_free-widest.ensures
+returns c = c.unwrap_or.ensures ∙ found_last _ _ _ _ _ c.first_free.ensures c.in_default.is _ c.first_free-2.ensures c.in_default-first_free.is _ c.first_free-3.ensures

@@ -7,13 +7,14 @@ use Rattle.cells.specs.Stages.Cells.{shifted}
 use Rattle.box_order.specs.Stages.Kept.{Kept}
 use Rattle.sizes.specs.Size.{Size}
 use Rattle.free_places.specs.Search.{Frame}
+use Rattle.free_places.specs.declared.Outline.{Outline}
 
--- half sides, and with them the block f and the buffer
+-- half sides, and what an interior is drawn in
 abbrev pub half : Float → Float → Size
 half a b = record { w = a; h = b }
 
-abbrev pub frame : Float → Float → Float → Float → Frame
-frame a b c d = record { half = half a b; f = c; buffer = d }
+abbrev pub frame_of : Outline → Frame
+frame_of r = record { half = half r.w r.h; f = r.block; buffer = r.buffer }
 
 -- the boxes of a list of stations
 abbrev pub kept_boxes : List Float → List ℕ → List Box

@@ -2,35 +2,12 @@
 use mathlib.Core.Path.{◌∙◌, sym, subst}
 use native.Mathlib.Nat.{le_of_lt}
 use lib.Dec.{T}
-use Rattle.float.proofs.Signs.{inf_no_nan}
-use Rattle.float.proofs.Whole.{at_inf, at_inf_2, at_nan, at_nan_2, finite_at, bits_at, grains_back, no_nan_bits, at_last, at_last_2}
+use Rattle.float.proofs.Whole.{finite_at, bits_at, grains_back, at_last, at_last_2}
 use Rattle.hypot.proofs.hypot.Goals as goal
-
-pub float_from_bits-i : goal.float_from_bits-i
-float_from_bits-i c = inf_no_nan
-
-pub returns-then-a-i : goal.returns-then-a-i
-returns-then-a-i c =
-    at_inf c.args.x c.args.y c.abs-a.result c.abs-b.result c.abs-a.ensures c.abs-b.ensures c.if-a-i.true
-
-pub returns-then-b-i : goal.returns-then-b-i
-returns-then-b-i c =
-    at_inf_2 c.args.x c.args.y c.abs-a.result c.abs-b.result c.abs-a.ensures c.abs-b.ensures c.if-b-i.true
-
-pub returns-then-is_nan : goal.returns-then-is_nan
-returns-then-is_nan c =
-    at_nan c.args.x c.args.y c.abs-a.result c.abs-b.result c.abs-a.ensures c.abs-b.ensures c.if-b-i.false (sym c.is_nan.ensures.value ∙ c.if-is_nan.true)
-
-pub returns-then-is_nan-2 : goal.returns-then-is_nan-2
-returns-then-is_nan-2 c =
-    at_nan_2 c.args.x c.args.y c.abs-a.result c.abs-b.result c.abs-a.ensures c.abs-b.ensures c.if-a-i.false (sym c.is_nan-2.ensures.value ∙ c.if-is_nan-2.true)
 
 pub bits_of-requires : goal.bits_of-requires
 bits_of-requires c =
     (c.if-q-p.true, bits_at c.args.x c.abs-a.result c.abs-a.ensures ((subst T (sym c.well_formed.0.1) tt)) ((finite_at c.args.x c.abs-a.result c.abs-a.ensures ((subst T (sym c.well_formed.0.1) tt)) c.if-a-i.false (sym c.is_nan.ensures.value ∙ c.if-is_nan.false))))
-
-pub float_from_bits-result : goal.float_from_bits-result
-float_from_bits-result c = no_nan_bits c.bits_of.result _ _ c.bits_of.ensures
 
 pub returns-then-q-p : goal.returns-then-q-p
 returns-then-q-p c =
@@ -39,9 +16,6 @@ returns-then-q-p c =
 pub bits_of-requires-2 : goal.bits_of-requires-2
 bits_of-requires-2 c =
     (le_of_lt c.if-q-p.false, bits_at c.args.y c.abs-b.result c.abs-b.ensures ((subst T (sym c.well_formed.1.0.1) tt)) ((finite_at c.args.y c.abs-b.result c.abs-b.ensures ((subst T (sym c.well_formed.1.0.1) tt)) c.if-b-i.false (sym c.is_nan-2.ensures.value ∙ c.if-is_nan-2.false))))
-
-pub float_from_bits-result-2 : goal.float_from_bits-result-2
-float_from_bits-result-2 c = no_nan_bits c.bits_of-2.result _ _ c.bits_of-2.ensures
 
 pub returns : goal.returns
 returns c =

@@ -6,10 +6,10 @@ use native.Mathlib.Omega.{arith}
 use native.Mathlib.Numerals.{add-one}
 use lib.ListN.{length, get_or, set, take}
 use lib.Seq.{take-suc-set}
-use Rattle.network.proofs.Occupied.{passed, passed_count, passed_all, count_all, count_no, count_yes, passed_no, passed_yes}
+use Rattle.network.proofs.Occupied.{passed, passed_count, passed_all, count_all, count_no, count_yes, passed_no, passed_yes, has_buses, has_none}
 use Rattle.order.proofs.Tables.{how_many_zero, which_zero}
 use Rattle.overlaps.proofs.list_occupied.Goals as goal
-use Rattle.overlaps.proofs.list_occupied.Goals.{then-placed-s-gt0, else-placed-s-gt0}
+use Rattle.overlaps.proofs.list_occupied.Goals.{then-is_occupied, else-is_occupied}
 
 listed_more : (k : ℕ) (st o : List ℕ) (s c : ℕ) → s < k → 0 < get_or st (2 * s) 0 → c < length o → take c o ≡ passed k st s → take (c + 1) (set o c s) ≡ passed k st (s + 1)
 listed_more k st o s c h g l e =
@@ -23,13 +23,13 @@ loop-s-preserved c =
     let v = c.loop-s.invariant in
     let h = c.loop-s-test.true in
     let l : c.loop-s.c < length c.loop-s.order = omega arith in
-    elim c.if-placed-s-gt0.branch [
-      | then-placed-s-gt0 w ↦ rw (w.order-is, w.c-is) (omega arith, count_yes _ _ _ h w.if-placed-s-gt0.true _ v.1, listed_more _ _ _ _ _ h w.if-placed-s-gt0.true l v.2)
-      | else-placed-s-gt0 w ↦ rw (w.order-is, w.c-is) (omega arith, count_no _ _ _ h _ w.if-placed-s-gt0.false v.1, v.2 ∙ passed_no _ _ _ h w.if-placed-s-gt0.false)
+    elim c.if-is_occupied.branch [
+      | then-is_occupied w ↦ rw (w.order-is, w.c-is) (omega arith, count_yes _ _ _ h (has_buses _ _ c.is_occupied.ensures w.if-is_occupied.true) _ v.1, listed_more _ _ _ _ _ h (has_buses _ _ c.is_occupied.ensures w.if-is_occupied.true) l v.2)
+      | else-is_occupied w ↦ rw (w.order-is, w.c-is) (omega arith, count_no _ _ _ h _ (has_none _ _ c.is_occupied.ensures w.if-is_occupied.false) v.1, v.2 ∙ passed_no _ _ _ h (has_none _ _ c.is_occupied.ensures w.if-is_occupied.false))
     ]
 
 pub returns-clause-order_after : goal.returns-clause-order_after
-returns-clause-order_after c = let e : c.loop-s.s ≡ c.args.placed.now.k = omega arith in c.loop-s.invariant.2 ∙ ap (passed c.args.placed.now.k c.args.placed.now.stations.now) e ∙ passed_all _ _
+returns-clause-order_after c = let e : c.loop-s.s ≡ c.args.few.now.placed.k = omega arith in c.loop-s.invariant.2 ∙ ap (passed c.args.few.now.placed.k c.args.few.now.placed.stations.now) e ∙ passed_all _ _
 
 pub returns-clause-value : goal.returns-clause-value
-returns-clause-value c = let e : c.loop-s.s ≡ c.args.placed.now.k = omega arith in (c.loop-s.invariant.1 ∙ ap (passed_count c.args.placed.now.k c.args.placed.now.stations.now) e ∙ count_all _ _, omega arith)
+returns-clause-value c = let e : c.loop-s.s ≡ c.args.few.now.placed.k = omega arith in (c.loop-s.invariant.1 ∙ ap (passed_count c.args.few.now.placed.k c.args.few.now.placed.stations.now) e ∙ count_all _ _, omega arith)

@@ -1,8 +1,7 @@
 -- Answers for `rounds::space_all_rounds`.
-use mathlib.Core.Path.{sym}
 use native.Mathlib.Omega.{arith}
 use lib.Seq.{length-take-le}
-use Rattle.rounds.proofs.Ends.{cornered_all, ready_all, points_are}
+use Rattle.rounds.proofs.Ends.{cornered_all, points_are}
 use Rattle.rounds.proofs.space_all_rounds.Goals as goal
 
 pub write_ranges-requires-clause-by_index : goal.write_ranges-requires-clause-by_index

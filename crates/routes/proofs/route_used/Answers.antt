@@ -1,5 +1,5 @@
 -- Answers for `routes::route_used`.
-use mathlib.Core.Path.{refl, sym, ◌∙◌}
+use mathlib.Core.Path.{sym, ◌∙◌}
 use native.Mathlib.Omega.{arith}
 use Rattle.refusals.proofs.Shapes.{test_on, test_off}
 use Rattle.routes.proofs.Leading.{same_rows, mesh_room, led_nine, led_full, entered, room_enough, led_all}
@@ -7,9 +7,6 @@ use Rattle.routes.proofs.route_used.Goals as goal
 
 pub returns-then-not-mesh_ok : goal.returns-then-not-mesh_ok
 returns-then-not-mesh_ok c = led_nine _ _ _ _ _ _ _ _ (same_rows _ _) _ (sym c.mesh_ok.ensures ∙ test_off _ c.if-not-mesh_ok.true-raw)
-
-pub trace_all-traced-requires-clause-from_len_bound : goal.trace_all-traced-requires-clause-from_len_bound
-trace_all-traced-requires-clause-from_len_bound c = let ok = (sym c.mesh_ok.ensures ∙ test_on _ c.if-not-mesh_ok.false-raw) in let m = mesh_room c.args.net.now.lists.mesh.corners.now c.args.net.now.lists.mesh.twins.now c.args.vertices.now.c ok in (c.args.net.now.few_branches, omega (arith, c.requires.from_len_bound.1), omega (arith, m.1, c.requires.corners_in_bounds.3), omega (arith, m.1, c.requires.corners_in_bounds.1), omega (arith, m.1, c.requires.corners_in_bounds.2), omega (arith, m.1, c.requires.corners_in_bounds.0), c.requires.room_in_bounds.0, c.requires.room_in_bounds.1)
 
 pub returns-in_default : goal.returns-in_default
 returns-in_default c = led_full c.args.net.now.lists.sub.now c.args.net.now.lists.from.now c.args.net.now.lists.to.now c.args.net.now.lists.service.now c.args.measures c.args.blocks.now c.args.places.now c.args.frames.now c.args.k c.args.vertices.now.c c.args.vertices.now.stations.now c.args.path.now c.args.net.now.lists.mesh.corners.now c.args.net.now.lists.mesh.twins.now c.args.room c.args.ends.now _ _ _ _ (sym c.mesh_ok.ensures ∙ test_on _ c.if-not-mesh_ok.false-raw) c.trace_all-traced.ensures _ _ c.in_default.not-Ok

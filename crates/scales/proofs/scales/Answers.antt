@@ -7,25 +7,25 @@ use Rattle.float.specs.Ops.{◌⊗◌}
 use Rattle.order.proofs.Tables.{how_many_zero}
 use Rattle.proximity.specs.Near.{neighbours}
 use Rattle.sizes.proofs.Blocks.{sizes_beside}
-use Rattle.network.proofs.Occupied.{count_yes, count_no}
+use Rattle.network.proofs.Occupied.{count_yes, count_no, has_buses, has_none}
 use Rattle.scales.proofs.Scaled.{passed_below, counts_front, count_at, scales_start, scale_yes, scale_no, scales_step, scales_end}
 use Rattle.scales.proofs.scales.Goals as goal
-use Rattle.scales.proofs.scales.Goals.{then-stations-s-gt0, else-stations-s-gt0}
+use Rattle.scales.proofs.scales.Goals.{then-is_occupied, else-is_occupied}
 
 pub loop-s-init : goal.loop-s-init
 loop-s-init c = (omega arith, refl, omega arith, sym (how_many_zero _), scales_start _ _ _ _ _ _ _, refl, omega (arith, c.requires.5, c.neighbour_counts.auto.counts), counts_front (neighbours c.args.points.now.xy.now c.args.points.now.n (c.args.o.tier_radius ⊗ c.args.spacing)) c.args.points.now.n _ _ c.neighbour_counts.ensures)
 
 pub bounds-spare-j : goal.bounds-spare-j
-bounds-spare-j c = let h : c.loop-s.s < c.args.stations.now.k = c.loop-s-test.true in omega (arith, passed_below c.args.stations.now.k c.args.stations.now.counts.now c.loop-s.s c.loop-s.j c.args.points.now.n h c.if-stations-s-gt0.true c.loop-s.invariant.3 c.requires.0, c.loop-s.invariant.6)
+bounds-spare-j c = let h : c.loop-s.s < c.args.stations.now.k = c.loop-s-test.true in omega (arith, passed_below c.args.stations.now.k c.args.stations.now.counts.now c.loop-s.s c.loop-s.j c.args.points.now.n h (has_buses _ _ c.is_occupied.ensures c.if-is_occupied.true) c.loop-s.invariant.3 c.requires.0, c.loop-s.invariant.6)
 
 pub loop-s-preserved : goal.loop-s-preserved
 loop-s-preserved c =
-    elim c.if-stations-s-gt0.branch [
-      | then-stations-s-gt0 w ↦ rw w.blocks-is (rw w.j-is (let v = c.loop-s.invariant in
+    elim c.if-is_occupied.branch [
+      | then-is_occupied w ↦ rw w.blocks-is (rw w.j-is (let v = c.loop-s.invariant in
           let h : c.loop-s.s < c.args.stations.now.k = c.loop-s-test.true in
           let l : 3 * c.args.stations.now.k ≤ length c.loop-s.blocks = omega (arith, v.1, c.requires.1) in
-          let g = w.if-stations-s-gt0.true in
-          let e = count_at (neighbours c.args.points.now.xy.now c.args.points.now.n (c.args.o.tier_radius ⊗ c.args.spacing)) c.args.points.now.n _ c.loop-s.j v.7 (passed_below c.args.stations.now.k c.args.stations.now.counts.now c.loop-s.s c.loop-s.j c.args.points.now.n h w.if-stations-s-gt0.true c.loop-s.invariant.3 c.requires.0) in (
+          let g = (has_buses _ _ c.is_occupied.ensures w.if-is_occupied.true) in
+          let e = count_at (neighbours c.args.points.now.xy.now c.args.points.now.n (c.args.o.tier_radius ⊗ c.args.spacing)) c.args.points.now.n _ c.loop-s.j v.7 (passed_below c.args.stations.now.k c.args.stations.now.counts.now c.loop-s.s c.loop-s.j c.args.points.now.n h (has_buses _ _ c.is_occupied.ensures w.if-is_occupied.true) c.loop-s.invariant.3 c.requires.0) in (
             omega arith,
             simp length-set v.1,
             omega arith,
@@ -35,10 +35,10 @@ loop-s-preserved c =
             v.6,
             v.7,
           )))
-      | else-stations-s-gt0 w ↦ rw w.blocks-is (rw w.j-is (let v = c.loop-s.invariant in
+      | else-is_occupied w ↦ rw w.blocks-is (rw w.j-is (let v = c.loop-s.invariant in
           let h : c.loop-s.s < c.args.stations.now.k = c.loop-s-test.true in
           let l : 3 * c.args.stations.now.k ≤ length c.loop-s.blocks = omega (arith, v.1, c.requires.1) in
-          let g = w.if-stations-s-gt0.false in (
+          let g = (has_none _ _ c.is_occupied.ensures w.if-is_occupied.false) in (
             omega arith,
             simp length-set v.1,
             omega arith,

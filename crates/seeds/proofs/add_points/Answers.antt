@@ -1,9 +1,8 @@
 -- Answers for `seeds::add_points`.
-use mathlib.Core.Path.{◌≡◌, refl}
+use mathlib.Core.Path.{refl}
 use native.Mathlib.Omega.{arith}
-use lib.ListN.{length}
 use Rattle.network.proofs.Stations.{station_below}
-use Rattle.seeds.proofs.Seeding.{summed_none, summed_more, summed_all}
+use Rattle.seeds.proofs.Seeding.{summed_none, summed_more}
 use Rattle.seeds.proofs.add_points.Goals as goal
 
 pub loop-i-init : goal.loop-i-init
@@ -13,4 +12,4 @@ pub put_point-requires : goal.put_point-requires
 put_point-requires c = omega (arith, station_below c.args.sub.now c.loop-i.i c.loop-i-test.true)
 
 pub loop-i-preserved : goal.loop-i-preserved
-loop-i-preserved c = (omega arith, omega (arith, c.put_point.auto.list), summed_more _ _ _ _ _ _ _ _ _ (omega arith) c.station_of-s.ensures.value (omega (arith, station_below c.args.sub.now c.loop-i.i c.loop-i-test.true)) c.point_at-p.ensures c.bus_point-q.ensures c.put_point.ensures c.loop-i.invariant.2)
+loop-i-preserved c = (omega arith, omega (arith, c.put_point.auto.list), summed_more _ _ _ _ _ _ _ _ _ (omega arith) refl (omega (arith, station_below c.args.sub.now c.loop-i.i c.loop-i-test.true)) c.point_at-p.ensures c.bus_point-q.ensures c.put_point.ensures c.loop-i.invariant.2)

@@ -1,5 +1,4 @@
 -- What the loops of `sized::largest` keep.
-use Prim.Native.Nat.{◌≤◌, ◌-◌}
 use mathlib.Core.Path.{◌≡◌}
 use Rattle.float.specs.Ops.{f0}
 use Rattle.network.specs.Words.{occupied}
@@ -9,4 +8,4 @@ use Rattle.network.proofs.Rest.{onward}
 use Rattle.sized.proofs.largest.Given as goal
 
 abbrev pub invariant-loop-s : goal.invariant-loop-s
-invariant-loop-s l = (l.s ≤ l.placed.k) × (Sized.largest (boxes_in l.placed.k l.placed.frames.now) l.l (onward l.placed.k l.placed.stations.now l.s) ≡ Sized.largest (boxes_in l.placed.k l.placed.frames.now) f0 (occupied (counts_in l.placed.k l.placed.stations.now)))
+invariant-loop-s l = Sized.largest (boxes_in l.placed.k l.placed.frames.now) l.l (onward l.placed.k l.placed.stations.now l.s) ≡ Sized.largest (boxes_in l.placed.k l.placed.frames.now) f0 (occupied (counts_in l.placed.k l.placed.stations.now))

@@ -8,4 +8,4 @@ use Rattle.network.proofs.Occupied.{passed}
 use Rattle.sizes.proofs.sides.Given as goal
 
 abbrev pub invariant-loop-s : goal.invariant-loop-s
-invariant-loop-s l = (l.s ≤ l.stations.k) × (length l.frames ≡ length l.initial.frames) × (l.r ≤ l.s) × (take l.r l.frames ≡ sides (sizes_in l.stations.k l.blocks) (passed l.stations.k l.stations.counts.now l.s))
+invariant-loop-s l = (l.s ≤ l.measured.k) × (length l.frames ≡ length l.initial.frames) × (l.r ≤ l.s) × (take l.r l.frames ≡ sides (sizes_in l.measured.k l.blocks) (passed l.measured.k l.measured.counts.now l.s))

@@ -1,5 +1,4 @@
 -- Answers for `audit::quality::tx_layout_quality`.
-use mathlib.Core.Path.{sym, ◌∙◌}
 use Rattle.std.proofs.lemmas.Result.{err_from_is_err_and}
 use Rattle.findings.proofs.Early.{passed_of}
 use Rattle.audit.proofs.Whole.{call_refused, call_judged}
@@ -19,33 +18,6 @@ audited-a-requires-clause-sub_in_bounds c = let z = passed_of _ _ c.in_ok-check_
 
 pub audited-a-requires-clause-sub_in_bounds_2 : goal.audited-a-requires-clause-sub_in_bounds_2
 audited-a-requires-clause-sub_in_bounds_2 c = let z = passed_of _ _ c.in_ok-check_input.ensures in (z.index, z.spare, z.keys)
-
-pub shape_of-displacement : goal.shape_of-displacement
-shape_of-displacement c = c.audited-a.auto.displacement
-
-pub shape_of-spacing : goal.shape_of-spacing
-shape_of-spacing c = c.audited-a.auto.spacing
-
-pub shape_of-relative : goal.shape_of-relative
-shape_of-relative c = c.audited-a.auto.relative
-
-pub shape_of-stations : goal.shape_of-stations
-shape_of-stations c = c.clear_work.auto.stations ∙ c.audited-a.auto.stations
-
-pub shape_of-index : goal.shape_of-index
-shape_of-index c = c.clear_work.auto.index ∙ c.audited-a.auto.index
-
-pub shape_of-spare : goal.shape_of-spare
-shape_of-spare c = c.clear_work.auto.spare ∙ c.audited-a.auto.spare
-
-pub shape_of-keys : goal.shape_of-keys
-shape_of-keys c = c.clear_work.auto.keys ∙ c.audited-a.auto.keys
-
-pub shape_of-points : goal.shape_of-points
-shape_of-points c = c.clear_work.auto.points ∙ c.audited-a.auto.points
-
-pub shape_of-path : goal.shape_of-path
-shape_of-path c = c.clear_work.auto.path ∙ c.audited-a.auto.path
 
 pub returns : goal.returns
 returns c = call_judged _ _ _ _ _ _ _ c.in_ok-check_input.ensures c.audited-a.ensures c.clear_work.ensures c.audited-a.auto.stations c.audited-a.auto.index c.audited-a.auto.spare c.audited-a.auto.keys c.audited-a.auto.points c.audited-a.auto.path

@@ -1,6 +1,6 @@
 -- What the loops of `box_cells::build::enter` keep.
 use mathlib.Core.Path.{◌≡◌}
-use Prim.Native.Nat.{◌≤◌, ◌-◌}
+use Prim.Native.Nat.{◌≤◌}
 use lib.ListN.{length}
 use Rattle.network.specs.Views.{boxes_in}
 use Rattle.box_cells.specs.Stages.Enter.{SameGrid}

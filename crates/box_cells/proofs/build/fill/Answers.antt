@@ -10,7 +10,7 @@ pub clear_chains-requires : goal.clear_chains-requires
 clear_chains-requires c =
     let q = grid_counts _ _ _ c.grid_of-g.ensures in
     let r = same_room _ _ _ _ _ q.0 q.1 c.requires.bound.2 in
-    (omega (arith, c.requires.k_in_bounds.1, r), omega (arith, c.requires.k_in_bounds.0, r))
+    (omega (arith, c.requires.k_in_bounds, r), omega (arith, c.args.few.now.few, r))
 
 pub enter-requires-clause-le_columns : goal.enter-requires-clause-le_columns
 enter-requires-clause-le_columns c = let q = grid_counts _ _ _ c.grid_of-g.ensures in let r = same_room _ _ _ _ _ q.0 q.1 c.requires.bound.2 in (omega (arith, q.0, c.requires.bound.0), omega (arith, q.1, c.requires.bound.1), r, c.clear_chains.ensures.0)

@@ -1,5 +1,5 @@
 -- What the loops of `box_cells::extent::extent_of` keep.
-use Prim.Native.Nat.{◌≤◌, ◌-◌}
+use Prim.Native.Nat.{◌≤◌}
 use Rattle.box_cells.proofs.extent.extent_of.Given as goal
 
 abbrev pub invariant-loop-s : goal.invariant-loop-s

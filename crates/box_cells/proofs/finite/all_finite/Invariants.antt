@@ -1,7 +1,7 @@
 -- What the loops of `box_cells::finite::all_finite` keep.
 use mathlib.Core.Path.{◌≡◌}
 use mathlib.Core.Bool.{true}
-use Prim.Native.Nat.{◌≤◌, ◌-◌}
+use Prim.Native.Nat.{◌≤◌}
 use Rattle.network.specs.Views.{boxes_in}
 use Rattle.geometry.specs.Plane.{box_in}
 use Rattle.windows.specs.Stages.Window.{finite_box}

@@ -1,6 +1,4 @@
 -- What the loops of `crossings::channels::mark_from` keep.
-use Prim.Native.Nat.{◌-◌}
-use lib.ListN.{length}
 use Rattle.crossings.proofs.Marking.{Marking}
 use Rattle.crossings.proofs.channels.mark_from.Given as goal
 

@@ -1,10 +1,10 @@
 -- What the loops of `crossings::corners::corner_of` keep.
-use Prim.Native.Nat.{◌-◌}
+use Prim.Native.Nat.{◌-◌, ◌≤◌}
 use Rattle.crossings.proofs.Occupied.{Halving}
 use Rattle.crossings.proofs.corners.corner_of.Given as goal
 
 abbrev pub invariant-loop-lo : goal.invariant-loop-lo
-invariant-loop-lo l = Halving l.c l.vertices.stations.now l.s l.lo l.hi
+invariant-loop-lo l = (l.lo ≤ l.hi) × (l.hi ≤ l.c) × Halving l.c l.vertices.stations.now l.s l.lo l.hi
 
 abbrev pub decreases-loop-lo : goal.decreases-loop-lo
 decreases-loop-lo l = l.hi - l.lo

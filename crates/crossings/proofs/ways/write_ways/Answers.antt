@@ -1,6 +1,6 @@
 -- Answers for `crossings::ways::write_ways`.
 use native.Mathlib.Omega.{arith}
-use Rattle.crossings.proofs.Written.{ways_start, ways_more, ways_end}
+use Rattle.crossings.proofs.Written.{ways_more}
 use Rattle.crossings.proofs.ways.write_ways.Goals as goal
 
 pub loop-e-preserved : goal.loop-e-preserved

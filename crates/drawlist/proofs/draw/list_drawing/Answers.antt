@@ -7,7 +7,7 @@ use Rattle.drawlist.proofs.Listed.{text_drawn, text_refused, few_pieces}
 use Rattle.drawlist.proofs.draw.list_drawing.Goals as goal
 
 pub print-requires : goal.print-requires
-print-requires c = omega (arith, few_pieces _ _ _ _ _ c.plot.ensures _ c.in-Ok.is, c.requires)
+print-requires c = omega (arith, few_pieces _ _ _ _ _ c.plot.ensures _ c.in-Ok.is)
 
 pub returns-in-Ok : goal.returns-in-Ok
 returns-in-Ok c =

@@ -1,20 +1,21 @@
 -- Answers for `figures::figure::displacements`.
+use Rattle.network.proofs.Occupied.{has_buses, has_none}
 use Rattle.figures.proofs.Front.{front_start, front_same, front_put, front_end}
 use Rattle.network.proofs.Rest.{onward_start, onward_no}
 use mathlib.Core.Path.{ap}
 use native.Mathlib.Omega.{arith}
 use Rattle.figures.proofs.Stationwise.{displaced, displaced_yes, displaced_end}
 use Rattle.figures.proofs.figure.displacements.Goals as goal
-use Rattle.figures.proofs.figure.displacements.Goals.{then-placed-s-gt0, else-placed-s-gt0}
+use Rattle.figures.proofs.figure.displacements.Goals.{then-is_occupied, else-is_occupied}
 
 pub loop-s-init : goal.loop-s-init
-loop-s-init c = (omega arith, front_start _ _ _ (ap (displaced c.args.placed.now.k c.args.placed.now.stations.now c.args.placed.now.frames.now c.args.seeds.now) (onward_start _ _)))
+loop-s-init c = (omega arith, front_start _ _ _ (ap (displaced c.args.few.now.placed.k c.args.few.now.placed.stations.now c.args.few.now.placed.frames.now c.args.seeds.now) (onward_start _ _)))
 
 pub loop-s-preserved : goal.loop-s-preserved
 loop-s-preserved c =
-    elim c.if-placed-s-gt0.branch [
-      | then-placed-s-gt0 w ↦ rw (w.displacement-is, w.c-is) (omega arith, front_put _ _ _ _ _ _ _ (displaced_yes _ _ _ _ _ _ _ _ _ c.loop-s-test.true w.if-placed-s-gt0.true w.point_at.ensures w.box_at.ensures w.middle.ensures w.distance.ensures) (omega arith) c.loop-s.invariant.1)
-      | else-placed-s-gt0 w ↦ rw (w.displacement-is, w.c-is) (omega arith, front_same _ _ _ _ _ _ (ap (displaced c.args.placed.now.k c.args.placed.now.stations.now c.args.placed.now.frames.now c.args.seeds.now) (onward_no _ _ _ c.loop-s-test.true w.if-placed-s-gt0.false)) c.loop-s.invariant.1)
+    elim c.if-is_occupied.branch [
+      | then-is_occupied w ↦ rw (w.displacement-is, w.c-is) (omega arith, front_put _ _ _ _ _ _ _ (displaced_yes _ _ _ _ _ _ _ _ _ c.loop-s-test.true (has_buses _ _ c.is_occupied.ensures w.if-is_occupied.true) w.point_at.ensures w.box_at.ensures w.middle.ensures w.distance.ensures) (omega arith) c.loop-s.invariant.1)
+      | else-is_occupied w ↦ rw (w.displacement-is, w.c-is) (omega arith, front_same _ _ _ _ _ _ (ap (displaced c.args.few.now.placed.k c.args.few.now.placed.stations.now c.args.few.now.placed.frames.now c.args.seeds.now) (onward_no _ _ _ c.loop-s-test.true (has_none _ _ c.is_occupied.ensures w.if-is_occupied.false))) c.loop-s.invariant.1)
     ]
 
 pub returns : goal.returns

@@ -1,10 +1,7 @@
 -- Answers for `finish::draft::judge`.
 use Rattle.std.proofs.lemmas.Result.{err_from_is_err_and}
-use Rattle.finish.proofs.Drafts.{fits, judged_full, judged}
+use Rattle.finish.proofs.Drafts.{judged_full, judged}
 use Rattle.finish.proofs.draft.judge.Goals as goal
-
-pub survey-pieces-requires : goal.survey-pieces-requires
-survey-pieces-requires c = record { fit_all = fits _ _ _ _ _ _ _ _ _ _ _ _ _ c.requires.measured c.requires.charted }
 
 pub returns-in_err-check_pieces : goal.returns-in_err-check_pieces
 returns-in_err-check_pieces c =

@@ -6,15 +6,15 @@ use Rattle.first_hit.specs.Stages.Looks.{near, Sure}
 use Rattle.first_hit.proofs.Marching.{marched_start, marched_on, marched_done}
 use Rattle.first_hit.proofs.search.march.Goals as goal
 
-pub loop-i-init : goal.loop-i-init
+pub loop-init : goal.loop-init
 unfolding near
-loop-i-init c = (omega arith, marched_start _ _ _ _ _ _)
+loop-init c = (omega arith, marched_start _ _ _ _ _ _)
 
 pub returns-then-is_done : goal.returns-then-is_done
-returns-then-is_done c = marched_done _ _ _ _ _ _ _ _ _ c.requires.g_value.1 (sym c.holds.ensures ∙ c.if-holds.true) _ c.loop-i.invariant.1 _ _ _ c.requires.g_value.0 (length_boxes _ _) c.look_window-n.ensures (sym c.is_done.ensures ∙ c.if-is_done.true)
+returns-then-is_done c = marched_done _ _ _ _ _ _ _ _ _ c.requires.g_value.1 (sym c.holds.ensures ∙ c.if-holds.true) _ c.loop.invariant.1 _ _ _ c.requires.g_value.0 (length_boxes _ _) c.look_window-n.ensures (sym c.is_done.ensures ∙ c.if-is_done.true)
 
-pub loop-i-preserved : goal.loop-i-preserved
-loop-i-preserved c = (omega arith, marched_on _ _ _ _ _ _ _ _ _ c.requires.g_value.1 (sym c.holds.ensures ∙ c.if-holds.true) _ c.loop-i.invariant.1 _ _ _ c.requires.g_value.0 (length_boxes _ _) c.look_window-n.ensures)
+pub loop-preserved : goal.loop-preserved
+loop-preserved c = (omega arith, marched_on _ _ _ _ _ _ _ _ _ c.requires.g_value.1 (sym c.holds.ensures ∙ c.if-holds.true) _ c.loop.invariant.1 _ _ _ c.requires.g_value.0 (length_boxes _ _) c.look_window-n.ensures)
 
 pub returns-else-holds : goal.returns-else-holds
 unfolding Sure

@@ -1,10 +1,9 @@
 -- Answers for `fit::fit::all_join`.
-use Rattle.std.proofs.Common.{◌≡◌, Bool, rules, arith, refl, length}
+use Rattle.std.proofs.Common.{rules, arith, refl, length}
 use borrow.Author.Tests.{tests}
 use Rattle.std.proofs.lemmas.Iterator.{YieldsList-from_range}
 use Rattle.std.proofs.lemmas.Iterator.Search.{all_from_yields_List}
-use Rattle.geometry.specs.Plane.{box_at}
-use Rattle.fit.specs.Fit.{joins, ordered, all_join}
+use Rattle.fit.specs.Fit.{joins, all_join}
 use Rattle.fit.proofs.AllTo.{all_to_range}
 use Rattle.fit.proofs.fit.all_join.Goals as goal
 

@@ -1,10 +1,10 @@
 -- Answers for `fit::fit::all_ordered`.
-use Rattle.std.proofs.Common.{◌≡◌, Bool, rules, arith, refl, length}
+use Rattle.std.proofs.Common.{rules, arith, refl}
 use borrow.Author.Tests.{tests}
 use Rattle.std.proofs.lemmas.Iterator.{YieldsList-from_range}
 use Rattle.std.proofs.lemmas.Iterator.Search.{all_from_yields_List}
 use Rattle.geometry.specs.Plane.{box_at}
-use Rattle.fit.specs.Fit.{joins, ordered, all_ordered}
+use Rattle.fit.specs.Fit.{ordered, all_ordered}
 use Rattle.fit.proofs.AllTo.{all_to_range}
 use Rattle.fit.proofs.fit.all_ordered.Goals as goal
 

@@ -1,22 +1,9 @@
 -- Answers for `neighbours::sweep::count_at`.
-use Rattle.std.proofs.Common.{◌≡◌, ◌+◌, ◌<◌, get_or, arith}
+use Rattle.std.proofs.Common.{◌≡◌, ◌+◌, get_or, arith}
 use Rattle.proximity.specs.Near.{within, neighbours}
-use Rattle.neighbours.proofs.Places.{place_below}
 use Rattle.neighbours.proofs.Scans.{within_le}
 use Rattle.neighbours.proofs.Sweeps.{many_within}
 use Rattle.neighbours.proofs.sweep.count_at.Goals as goal
-
-pub bounds-sweep-i : goal.bounds-sweep-i
-bounds-sweep-i c = let h : get_or c.args.sweep.now.order.now c.args.c 0 < c.args.sweep.now.points.n = place_below _ _ _ c.args.sweep.now.swept _ c.requires in omega arith
-
-pub bounds-sweep-i-then-radius : goal.bounds-sweep-i-then-radius
-bounds-sweep-i-then-radius c = let h : get_or c.args.sweep.now.order.now c.args.c 0 < c.args.sweep.now.points.n = place_below _ _ _ c.args.sweep.now.swept _ c.requires in omega arith
-
-pub count_right-right-requires : goal.count_right-right-requires
-count_right-right-requires c = (c.requires, c.args.sweep.now.swept.finite _ (place_below _ _ _ c.args.sweep.now.swept _ c.requires), c.if-radius.true)
-
-pub count_left-left-requires : goal.count_left-left-requires
-count_left-left-requires c = (c.requires, c.args.sweep.now.swept.finite _ (place_below _ _ _ c.args.sweep.now.swept _ c.requires), c.if-radius.true)
 
 pub overflow_add-result : goal.overflow_add-result
 overflow_add-result c =

@@ -1,5 +1,5 @@
 -- Answers for `neighbours::sweep::counts_in_order`.
-use Rattle.std.proofs.Common.{◌≡◌, ◌<◌, get_or, subst, arith}
+use Rattle.std.proofs.Common.{◌≡◌, get_or, subst, arith}
 use Rattle.proximity.specs.Near.{neighbours}
 use Rattle.neighbours.proofs.Fills.{Filled, filled_more, filled_end}
 use Rattle.neighbours.proofs.Places.{place_below, place_of}
@@ -8,9 +8,6 @@ use Rattle.neighbours.proofs.sweep.counts_in_order.Goals as goal
 
 pub overflow_cast-counts : goal.overflow_cast-counts
 overflow_cast-counts c = omega (arith, neighbours_le c.args.sweep.now.points.xy.now c.args.sweep.now.points.n c.args.radius (get_or c.args.sweep.now.order.now c.loop-c.c 0))
-
-pub bounds-counts-i : goal.bounds-counts-i
-bounds-counts-i c = let h : get_or c.args.sweep.now.order.now c.loop-c.c 0 < c.args.sweep.now.points.n = place_below _ _ _ c.args.sweep.now.swept _ c.loop-c-test.true in omega arith
 
 pub loop-c-preserved : goal.loop-c-preserved
 loop-c-preserved c = filled_more _ _ _ _ c.loop-c.counts c.loop-c.c _ c.loop-c.invariant (place_below _ _ _ c.args.sweep.now.swept _ c.loop-c-test.true) c.requires.1 c.count_at.ensures

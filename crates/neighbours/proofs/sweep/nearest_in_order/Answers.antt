@@ -1,12 +1,9 @@
 -- Answers for `neighbours::sweep::nearest_in_order`.
-use Rattle.std.proofs.Common.{◌≡◌, ◌<◌, get_or, subst, arith}
+use Rattle.std.proofs.Common.{◌≡◌, subst, arith}
 use Rattle.proximity.specs.Near.{nearest}
 use Rattle.neighbours.proofs.Fills.{Filled, filled_more, filled_end}
 use Rattle.neighbours.proofs.Places.{place_below, place_of}
 use Rattle.neighbours.proofs.sweep.nearest_in_order.Goals as goal
-
-pub bounds-out-i : goal.bounds-out-i
-bounds-out-i c = let h : get_or c.args.sweep.now.order.now c.loop-c.c 0 < c.args.sweep.now.points.n = place_below _ _ _ c.args.sweep.now.swept _ c.loop-c-test.true in omega arith
 
 pub loop-c-preserved : goal.loop-c-preserved
 loop-c-preserved c = filled_more _ _ _ _ c.loop-c.out c.loop-c.c _ c.loop-c.invariant (place_below _ _ _ c.args.sweep.now.swept _ c.loop-c-test.true) c.requires c.nearest_at.ensures

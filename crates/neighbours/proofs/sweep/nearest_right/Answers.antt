@@ -1,21 +1,21 @@
 -- Answers for `neighbours::sweep::nearest_right`.
-use Rattle.std.proofs.Common.{◌<◌, get_or, arith}
+use Rattle.std.proofs.Common.{◌+◌, ◌<◌, get_or, arith}
 use Rattle.float.proofs.Signs.{inf_bits}
-use Rattle.neighbours.proofs.Places.{place_below}
-use Rattle.neighbours.proofs.Sweeps.{least_start, least_right, least_stop_right}
+use Rattle.neighbours.proofs.Places.{in_part, place_below}
+use Rattle.neighbours.proofs.Sweeps.{least_start, right_by, least_stop_right}
 use Rattle.neighbours.proofs.sweep.nearest_right.Goals as goal
 
-pub loop-q-init : goal.loop-q-init
-loop-q-init c = rw inf_bits (least_start c.args.sweep.now.points.xy.now c.args.sweep.now.points.n c.args.sweep.now.order.now c.args.x c.args.y c.args.c)
+pub loop-i-init : goal.loop-i-init
+loop-i-init c = rw inf_bits (least_start c.args.sweep.now.points.xy.now c.args.sweep.now.points.n c.args.sweep.now.order.now c.args.x c.args.y c.args.c _ (omega arith))
 
 pub bounds-xy-j : goal.bounds-xy-j
-bounds-xy-j c = let h : get_or c.args.sweep.now.order.now c.loop-q.q 0 < c.args.sweep.now.points.n = place_below _ _ _ c.args.sweep.now.swept _ c.loop-q-test.true in omega arith
+bounds-xy-j c = let e = in_part c.args.sweep.now.order.now (c.args.c + 1) c.args.sweep.now.points.n c.loop-i.i-index (omega arith) in let h : get_or c.args.sweep.now.order.now (c.args.c + 1 + c.loop-i.i-index) 0 < c.args.sweep.now.points.n = place_below _ _ _ c.args.sweep.now.swept _ (omega arith) in omega (arith, e)
 
-pub bounds-xy-j-in-loop-q : goal.bounds-xy-j-in-loop-q
-bounds-xy-j-in-loop-q c = let h : get_or c.args.sweep.now.order.now c.loop-q.q 0 < c.args.sweep.now.points.n = place_below _ _ _ c.args.sweep.now.swept _ c.loop-q-test.true in omega arith
+pub bounds-xy-j-in-loop-i : goal.bounds-xy-j-in-loop-i
+bounds-xy-j-in-loop-i c = let e = in_part c.args.sweep.now.order.now (c.args.c + 1) c.args.sweep.now.points.n c.loop-i.i-index (omega arith) in let h : get_or c.args.sweep.now.order.now (c.args.c + 1 + c.loop-i.i-index) 0 < c.args.sweep.now.points.n = place_below _ _ _ c.args.sweep.now.swept _ (omega arith) in omega (arith, e)
 
 pub returns-then-best-d : goal.returns-then-best-d
-returns-then-best-d c = least_stop_right _ _ _ _ _ _ c.args.sweep.now.swept c.requires.1 c.loop-q.q _ (omega arith) c.loop-q.invariant c.if-best-d.true
+returns-then-best-d c = least_stop_right _ _ _ _ _ _ c.args.sweep.now.swept c.requires.1 (c.args.c + 1 + c.loop-i.i-index) _ _ (in_part c.args.sweep.now.order.now (c.args.c + 1) c.args.sweep.now.points.n c.loop-i.i-index (omega arith)) (omega arith) c.loop-i.invariant c.if-best-d.true
 
-pub loop-q-preserved : goal.loop-q-preserved
-loop-q-preserved c = rw c.closer-best.ensures (least_right c.args.sweep.now.points.xy.now c.args.sweep.now.points.n c.args.sweep.now.order.now c.args.x c.args.y c.args.c c.loop-q.q _ (omega arith) c.loop-q.invariant)
+pub loop-i-preserved : goal.loop-i-preserved
+loop-i-preserved c = right_by c.args.sweep.now.points.xy.now c.args.sweep.now.points.n c.args.sweep.now.order.now c.args.x c.args.y c.args.c (c.args.c + 1 + c.loop-i.i-index) _ _ _ _ (in_part c.args.sweep.now.order.now (c.args.c + 1) c.args.sweep.now.points.n c.loop-i.i-index (omega arith)) (omega arith) c.closer-best.ensures (omega arith) c.loop-i.invariant

@@ -1,28 +1,36 @@
 -- Answers for `network::words::known_bus`.
-use mathlib.Core.Path.{◌≡◌, refl, ap, sym}
-use mathlib.Core.Bool.{Bool}
-use Prim.Native.Nat.{◌<◌, ◌≤◌}
-use borrow.Author.Tests.{lt-ltb, le-ltb}
+use Rattle.std.proofs.Common.{◌≡◌, ℕ, Bool, true, false, ℤ, pos, negsuc, ltb, sym, refl, ap, ◌∙◌, w64, FitsSigned, arith}
 use lib.IntN.{nat_abs}
 use mir.Facts.{to_z-of_z}
+use Rattle.std.specs.Bool.{then_some}
+use Rattle.std.specs.Int.{FitsUnsignedBits}
+use Rattle.std.specs.Prelude.{Some, None, Result, Ok, Err}
+use Rattle.std.specs.Result.{OkIff, result_ok}
+use Rattle.std.proofs.lemmas.Option.{same_Some, none-some}
 use Rattle.order.specs.Order.{pick}
-use Rattle.std.specs.Prelude.{Some, None}
 use Rattle.network.specs.Words.{known}
-use Rattle.float.proofs.BySign.{if_below, from_zero}
 use Rattle.network.proofs.words.known_bus.Goals as goal
 
-pub returns-then-x-lt0 : goal.returns-then-x-lt0
+-- a number that `try_from` converts is not below 0
+converted : {E : Type 0} (n i : ℕ) (r : Result ℕ E) (z : ℤ) → result_ok r ≡ Some i → OkIff r (FitsUnsignedBits 64 z) (nat_abs z) → then_some (ltb i n) i ≡ known n z
 unfolding known
-returns-then-x-lt0 c = if_below (λ z' z. None ≡ known c.args.n z) (λ n. refl) _ _ (to_z-of_z c.ranges.x) c.if-x-lt0.true
+converted n i (Ok x) (pos j) e k = ap (λ (y : ℕ). then_some (ltb y n) y) (sym (same_Some x i e) ∙ k.1) ∙ by-test (ltb j n)
+  where
+    by-test : (b : Bool) → then_some b j ≡ pick b (Some j) None
+    by-test true = refl
+    by-test false = refl
+converted n i (Ok x) (negsuc j) e k = absurd k.0
+converted n i (Err y) z e k = absurd (none-some i e)
 
-pub returns-then-i-n : goal.returns-then-i-n
+-- one that it refuses is below 0
+refused : {E : Type 0} (n : ℕ) (r : Result ℕ E) (z : ℤ) → result_ok r ≡ None → OkIff r (FitsUnsignedBits 64 z) (nat_abs z) → FitsSigned w64 z → None ≡ known n z
 unfolding known
-returns-then-i-n c =
-    from_zero (λ z' z. nat_abs z' < c.args.n → Some (nat_abs z') ≡ known c.args.n z)
-    (λ i h. ap (λ (b : Bool). pick b (Some i) None) (sym (lt-ltb i c.args.n h))) _ _ (to_z-of_z c.ranges.x) c.if-x-lt0.false c.if-i-n.true
+refused n (Ok x) z e k f = absurd (none-some x (sym e))
+refused n (Err y) (pos j) e k f = absurd (k (omega (arith, f.sfits)))
+refused n (Err y) (negsuc j) e k f = refl
 
-pub returns-else-i-n : goal.returns-else-i-n
-unfolding known
-returns-else-i-n c =
-    from_zero (λ z' z. c.args.n ≤ nat_abs z' → None ≡ known c.args.n z)
-    (λ i h. ap (λ (b : Bool). pick b (Some i) None) (sym (le-ltb i c.args.n h))) _ _ (to_z-of_z c.ranges.x) c.if-x-lt0.false c.if-i-n.false
+pub returns-in_err-i : goal.returns-in_err-i
+returns-in_err-i c = let q = to_z-of_z c.ranges.x in c.from_residual.ensures ∙ refused c.args.n c.try_from.result c.args.x (sym c.ok.ensures.value ∙ c.in_err-i.was) (rw q at c.try_from.ensures) c.ranges.x
+
+pub returns : goal.returns
+returns c = let q = to_z-of_z c.ranges.x in c.then_some.ensures ∙ converted c.args.n c.in_ok-i.i c.try_from.result c.args.x (sym c.ok.ensures.value ∙ c.in_ok-i.was) (rw q at c.try_from.ensures)

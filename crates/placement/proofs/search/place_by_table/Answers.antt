@@ -14,5 +14,5 @@ pub returns : goal.returns
 unfolding codes table_pairs offset_of
 returns c =
     c.place_all.ensures
-    ∙ ap (λ (os : List Offset). places (frames_in c.args.m c.args.stations.now.k c.args.blocks.now) os (points_in c.args.stations.now.k c.args.places.now) (order_in c.args.r c.args.stations.now.counts.now))
+    ∙ ap (λ (os : List Offset). places (frames_in c.args.m c.args.measured.now.k c.args.measured.now.blocks.now) os (points_in c.args.measured.now.k c.args.places.now) (order_in c.args.r c.args.measured.now.counts.now))
     (within_held _ _ refl refl c.args.search c.requires.search_bound.0)

@@ -2,28 +2,29 @@
 use Prim.Native.Nat.{◌+◌}
 use mathlib.Core.Path.{refl, ap, ◌∙◌}
 use native.Mathlib.Omega.{arith}
+use Rattle.network.proofs.Occupied.{has_buses, has_none}
 use Rattle.network.specs.Views.{boxes_in}
 use Rattle.placement.proofs.Placing.{boxes_none, boxes_yes, boxes_no, boxes_end}
 use Rattle.placement.proofs.search.station_boxes.Goals as goal
-use Rattle.placement.proofs.search.station_boxes.Goals.{then-stations-s-gt0, else-stations-s-gt0}
+use Rattle.placement.proofs.search.station_boxes.Goals.{then-is_occupied, else-is_occupied}
 
 pub loop-s-init : goal.loop-s-init
 loop-s-init c = (omega arith, refl, boxes_none _ _ _ _ _ _)
 
 pub loop-s-preserved : goal.loop-s-preserved
 loop-s-preserved c =
-    elim c.if-stations-s-gt0.branch [
-      | then-stations-s-gt0 w ↦ rw w.frames-is ((
+    elim c.if-is_occupied.branch [
+      | then-is_occupied w ↦ rw w.frames-is ((
         omega arith,
         omega (arith, w.put_box.auto, c.loop-s.invariant.1),
-        ap (boxes_in (c.loop-s.s + 1)) w.put_box.ensures ∙ boxes_yes c.args.m c.args.stations.now.k c.args.stations.now.counts.now c.args.blocks.now c.args.places.now c.loop-s.s c.loop-s.frames _ c.loop-s-test.true
-            (omega (arith, c.requires, c.loop-s.invariant.1)) w.if-stations-s-gt0.true w.station_box.ensures c.loop-s.invariant.2,
+        ap (boxes_in (c.loop-s.s + 1)) w.put_box.ensures ∙ boxes_yes c.args.m c.args.measured.now.k c.args.measured.now.counts.now c.args.measured.now.blocks.now c.args.places.now c.loop-s.s c.loop-s.frames _ c.loop-s-test.true
+            (omega (arith, c.requires, c.loop-s.invariant.1)) (has_buses _ _ c.is_occupied.ensures w.if-is_occupied.true) w.station_box.ensures c.loop-s.invariant.2,
       ))
-      | else-stations-s-gt0 w ↦ rw w.frames-is ((
+      | else-is_occupied w ↦ rw w.frames-is ((
         omega arith,
-        omega (arith, w.put_box-else-stations-s-gt0.auto, c.loop-s.invariant.1),
-        ap (boxes_in (c.loop-s.s + 1)) w.put_box-else-stations-s-gt0.ensures ∙ boxes_no c.args.m c.args.stations.now.k c.args.stations.now.counts.now c.args.blocks.now c.args.places.now c.loop-s.s c.loop-s.frames c.loop-s-test.true
-            (omega (arith, c.requires, c.loop-s.invariant.1)) w.if-stations-s-gt0.false c.loop-s.invariant.2,
+        omega (arith, w.put_box-else-is_occupied.auto, c.loop-s.invariant.1),
+        ap (boxes_in (c.loop-s.s + 1)) w.put_box-else-is_occupied.ensures ∙ boxes_no c.args.m c.args.measured.now.k c.args.measured.now.counts.now c.args.measured.now.blocks.now c.args.places.now c.loop-s.s c.loop-s.frames c.loop-s-test.true
+            (omega (arith, c.requires, c.loop-s.invariant.1)) (has_none _ _ c.is_occupied.ensures w.if-is_occupied.false) c.loop-s.invariant.2,
       ))
     ]
 

@@ -1,5 +1,5 @@
 -- What the loops of `placement::search::station_boxes` keep.
-use Prim.Native.Nat.{◌≤◌, ◌-◌}
+use Prim.Native.Nat.{◌≤◌}
 use mathlib.Core.Path.{◌≡◌}
 use lib.ListN.{length}
 use Rattle.order.specs.Table.{table}
@@ -8,4 +8,4 @@ use Rattle.placement.proofs.Placing.{box_for}
 use Rattle.placement.proofs.search.station_boxes.Given as goal
 
 abbrev pub invariant-loop-s : goal.invariant-loop-s
-invariant-loop-s l = (l.s ≤ l.stations.k) × (length l.frames ≡ length l.initial.frames) × (boxes_in l.s l.frames ≡ table (box_for l.m l.stations.k l.stations.counts.now l.blocks l.places) l.s)
+invariant-loop-s l = (l.s ≤ l.measured.k) × (length l.frames ≡ length l.initial.frames) × (boxes_in l.s l.frames ≡ table (box_for l.m l.measured.k l.measured.counts.now l.blocks l.places) l.s)

@@ -1,5 +1,5 @@
 -- Answers for `results::buses::write_buses`.
-use mathlib.Core.Path.{◌≡◌, ap}
+use mathlib.Core.Path.{◌≡◌, refl, ap}
 use native.Mathlib.Omega.{arith}
 use lib.ListN.{length}
 use Rattle.order.specs.Table.{table}
@@ -14,7 +14,7 @@ pub loop-i-init : goal.loop-i-init
 loop-i-init c = drawn_none _ _ _ _ _ _ _
 
 pub loop-i-preserved : goal.loop-i-preserved
-loop-i-preserved c = drawn_more _ _ _ _ _ _ _ _ _ _ _ _ _ _ _ (omega arith) (omega arith) c.station_of.ensures.value c.bar_of-bar.ensures c.position.ensures c.put_point.ensures c.put_numbers.ensures c.loop-i.invariant
+loop-i-preserved c = drawn_more _ _ _ _ _ _ _ _ _ _ _ _ _ _ _ (omega arith) (omega arith) refl c.bar_of-bar.ensures c.position.ensures c.put_point.ensures c.put_box.ensures c.loop-i.invariant
 
 pub returns-clause-positions_after : goal.returns-clause-positions_after
 unfolding bars_in

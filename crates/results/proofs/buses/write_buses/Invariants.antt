@@ -1,5 +1,4 @@
 -- What the loops of `results::buses::write_buses` keep.
-use lib.ListN.{length}
 use Rattle.results.proofs.Turns.{Drawn}
 use Rattle.results.proofs.buses.write_buses.Given as goal
 

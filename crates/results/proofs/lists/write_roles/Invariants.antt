@@ -1,6 +1,5 @@
 -- What the loops of `results::lists::write_roles` keep.
 use mathlib.Core.List.{map}
-use lib.ListN.{length}
 use Rattle.order.specs.Table.{table}
 use Rattle.network.specs.Words.{kind_of}
 use Rattle.runs.specs.Run.{role}

@@ -13,7 +13,7 @@ pub loop-s-init : goal.loop-s-init
 loop-s-init c = framed_none _ _ _ _
 
 pub loop-s-preserved : goal.loop-s-preserved
-loop-s-preserved c = framed_more _ _ _ _ _ _ _ _ _ (omega arith) (omega arith) c.box_at-b.ensures c.put_numbers.ensures c.loop-s.invariant
+loop-s-preserved c = framed_more _ _ _ _ _ _ _ _ _ (omega arith) (omega arith) c.box_at.ensures c.put_box.ensures c.loop-s.invariant
 
 pub returns-clause-boxes_after : goal.returns-clause-boxes_after
 returns-clause-boxes_after c = let e : c.loop-s.s ≡ c.args.k = omega arith in all_written _ _ _ _ _ (ap (λ n. flat box_numbers (boxes_in n c.args.frames.now)) e) c.loop-s.invariant.boxes

@@ -7,4 +7,4 @@ use Rattle.routing.proofs.Filling.{Filling}
 use Rattle.routing.proofs.lines.store_all.Given as goal
 
 abbrev pub invariant-loop-e : goal.invariant-loop-e
-invariant-loop-e l = (length l.trail ≡ length l.initial.trail) × (length l.ends ≡ length l.initial.ends) × (length l.numbers ≡ length l.initial.numbers) × (length l.places ≡ length l.initial.places) × Filling l.m l.turned.mesh.corners.now l.turned.mesh.twins.now l.points l.initial.ends l.e (stock l.k l.x l.ends l.numbers l.places)
+invariant-loop-e l = (length l.trail ≡ length l.initial.trail) × (length l.ends ≡ length l.initial.ends) × (length l.numbers ≡ length l.initial.numbers) × (length l.places ≡ length l.initial.places) × Filling l.m l.turned.mesh.corners.now l.turned.mesh.twins.now l.points l.initial.ends l.e (stock l.counts.channels l.counts.crossings l.ends l.numbers l.places)

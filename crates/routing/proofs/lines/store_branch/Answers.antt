@@ -24,4 +24,4 @@ overflow_cast-used c = let w = way_counted c.args.turned.now.mesh.corners.now c.
 pub returns : goal.returns
 returns c =
     let z = length-take-le c.trace-t.result.count c.trace-t.new.trail (trail_long _ _ c.args.points.now _ _ _ _ _ _ c.trace-t.ensures) in
-    branch_stored c.args.m c.args.turned.now.mesh.corners.now c.args.turned.now.mesh.twins.now c.args.points.now c.args.e _ c.args.k c.args.x c.args.ends.now c.args.numbers.now c.args.places.now _ (c.at-a.result - 1) c.at-b.result _ _ _ _ _ _ _ _ _ _ (omega (arith, c.requires.e_bound)) (λ z. c.if-a-eq0.false (c.at-a.ensures ∙ z)) (ap (λ (i : ℕ). i - 1) c.at-a.ensures) c.at-b.ensures c.trace-t.ensures (rw z at c.store_trail-known.ensures.grown) (omega (arith, z, c.store_trail-known.ensures.upper_bound)) c.kept_count-used.ensures.value c.put_path-2.ensures
+    branch_stored c.args.m c.args.turned.now.mesh.corners.now c.args.turned.now.mesh.twins.now c.args.points.now c.args.e _ c.args.was.channels c.args.was.crossings c.args.ends.now c.args.numbers.now c.args.places.now _ (c.at-a.result - 1) c.at-b.result _ _ _ _ _ _ _ _ _ _ (omega (arith, c.requires.e_bound)) (λ z. c.if-a-eq0.false (c.at-a.ensures ∙ z)) (ap (λ (i : ℕ). i - 1) c.at-a.ensures) c.at-b.ensures c.trace-t.ensures (rw z at c.store_trail-known.ensures.grown) (omega (arith, z, c.store_trail-known.ensures.upper_bound)) c.kept_count-used.ensures.value c.put_path-2.ensures

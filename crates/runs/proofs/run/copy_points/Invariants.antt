@@ -1,6 +1,6 @@
 -- What the loops of `runs::run::copy_points` keep.
-use Rattle.detour.specs.Stages.Paths.{path_in, Led}
+use Rattle.runs.proofs.Paths.{Copied}
 use Rattle.runs.proofs.run.copy_points.Given as goal
 
 abbrev pub invariant-loop-j : goal.invariant-loop-j
-invariant-loop-j l = Led l.i l.j (path_in l.w l.j l.ways) l.initial.path l.path
+invariant-loop-j l = Copied l.i l.w l.j l.ways l.initial.path l.path

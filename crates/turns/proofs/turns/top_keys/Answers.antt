@@ -11,7 +11,7 @@ use Rattle.turns.proofs.turns.top_keys.Goals.{then-v-keys, else-v-keys}
 
 pub loop-i-init : goal.loop-i-init
 loop-i-init c =
-    (omega arith, refl, lowered_none c.args.sub.now c.args.kv.now c.args.k c.args.keys.now c.requires.by_index_2)
+    (omega arith, refl, lowered_none c.args.lent.now.sub.now c.args.lent.now.kv.now c.args.k c.args.keys.now c.requires.by_index_2)
 
 pub loop-i-preserved : goal.loop-i-preserved
 loop-i-preserved c =
@@ -19,11 +19,11 @@ loop-i-preserved c =
       | then-v-keys w ↦ rw w.keys-is ((
         omega arith,
         simp length-set (omega arith),
-        lowered_yes c.args.sub.now c.args.kv.now c.args.k c.loop-i.keys c.loop-i.i _ c.loop-i.invariant.2 (c.falling-v.ensures ∙ ap falling c.key_of_bits.ensures) (c.requires.by_index c.loop-i.i (omega arith)) w.if-v-keys.true (omega arith),
+        lowered_yes c.args.lent.now.sub.now c.args.lent.now.kv.now c.args.k c.loop-i.keys c.loop-i.i _ c.loop-i.invariant.2 (c.falling-v.ensures ∙ ap falling c.key_of_bits.ensures) (c.requires.by_index c.loop-i.i (omega arith)) w.if-v-keys.true (omega arith),
       ))
       | else-v-keys w ↦ rw w.keys-is ((
         omega arith,
         omega arith,
-        lowered_no c.args.sub.now c.args.kv.now c.args.k c.loop-i.keys c.loop-i.i _ c.loop-i.invariant.2 (c.falling-v.ensures ∙ ap falling c.key_of_bits.ensures) (c.requires.by_index c.loop-i.i (omega arith)) w.if-v-keys.false,
+        lowered_no c.args.lent.now.sub.now c.args.lent.now.kv.now c.args.k c.loop-i.keys c.loop-i.i _ c.loop-i.invariant.2 (c.falling-v.ensures ∙ ap falling c.key_of_bits.ensures) (c.requires.by_index c.loop-i.i (omega arith)) w.if-v-keys.false,
       ))
     ]

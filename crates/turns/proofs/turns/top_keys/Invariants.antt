@@ -6,4 +6,4 @@ use Rattle.turns.proofs.Queue.{Lowered}
 use Rattle.turns.proofs.turns.top_keys.Given as goal
 
 abbrev pub invariant-loop-i : goal.invariant-loop-i
-invariant-loop-i l = (l.i ≤ length l.sub) × (length l.keys ≡ length l.initial.keys) × Lowered l.sub l.kv l.k l.keys l.i
+invariant-loop-i l = (l.i ≤ length l.lent.sub.now) × (length l.keys ≡ length l.initial.keys) × Lowered l.lent.sub.now l.lent.kv.now l.k l.keys l.i

@@ -1,9 +1,0 @@
--- Answers for `rows::order_key_total`.
-use mathlib.Core.Path.{◌∙◌, sym, subst}
-use Prim.Native.Nat.{ℕ, ◌<◌}
-use lib.Dec.{T}
-use Rattle.rows.proofs.Ends.{key_fits}
-use Rattle.rows.proofs.order_key_total.Goals as goal
-
-pub returns-clause-upper_bound : goal.returns-clause-upper_bound
-returns-clause-upper_bound c = subst (λ (n : ℕ). n < _) (sym c.order_key.ensures) (key_fits _ (subst T (sym c.well_formed.0.1) tt) (sym c.is_nan.ensures.value ∙ c.if-is_nan.false))
