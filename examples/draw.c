@@ -9,7 +9,7 @@
 #include "tansygate.h"
 
 #define LEN(list) list, sizeof(list) / sizeof(list[0])
-enum { N = 4, M = 6, K = 3, PIECES = 3 * M, SORTING = N + 2 * M, TREE = 5 * N };
+enum { N = 4, M = 6, K = 3, PIECES = 3 * M, SORTING = N + 2 * M, INDEX = 5 * N };
 
 static uint64_t bits(double x) {
     uint64_t b;
@@ -30,7 +30,7 @@ int main(void) {
     double positions[2 * N], bars[4 * N], boxes[4 * K], scales[K], pieces[4 * PIECES];
     uint8_t roles[M];
     uint32_t branches[PIECES];
-    uint32_t stations[2 * N], buses[3 * N], ends[4 * M + 4], sorted[TREE], spare[SORTING];
+    uint32_t stations[2 * N], buses[3 * N], ends[4 * M + 4], sorted[INDEX], spare[SORTING];
     uint64_t keys[SORTING];
     double places[2 * N + 4 * M], blocks[3 * N], frames[4 * N], path[2 * N + 16];
     uint32_t crossing_numbers[3];
@@ -55,7 +55,7 @@ int main(void) {
                pieces[4 * p + 1], pieces[4 * p + 2], pieces[4 * p + 3]);
 
     double displacement[K], spacing[K], relative[PIECES];
-    uint32_t index[TREE];
+    uint32_t index[INDEX];
     double points[2 * N];
     tansygate_audited audit = tansygate_audit(
         LEN(displacement), LEN(spacing), LEN(relative),

@@ -1,14 +1,17 @@
 /* Tansygate: lays out wall drawings of substation networks, and audits them.
  *
  * The functions allocate nothing and keep nothing between calls: the caller
- * lends every list, as a pointer and a number of elements (not bytes). Lists that a function writes must not overlap each other or a list
- * that it reads; a list of 0 elements may have any pointer but a null one.
- * A list may be longer than needed; what stands past the used length of a
- * result list keeps its old content. In every call the lists that it writes
- * come first, then the options, then the lists that it reads.
+ * lends every list, as a pointer and a number of elements (not bytes). A list
+ * that a function writes must not overlap another list of the call; a list of
+ * 0 elements may have any pointer but a null one. A list may be longer than
+ * needed; a result list keeps what stands in it past its used length. The
+ * lists that a call writes come first, then the options, then those that it
+ * reads.
  *
- * n buses, m branches, k = highest station number + 1 (0 without buses),
- * L = mesh length = corners_len, counted as at most 24,576.
+ * n is the number of buses, m of branches, k one more than the highest station
+ * number (0 without buses), L the mesh length: corners_len, counted as at most
+ * 24,576. docs/RULES.md of the repository has the rules of a drawing, and
+ * docs/WORK.md what each work list holds.
  *
  * Link with target/staticlib/libexports.a, which reference/library builds, x86-64 Linux.
  */
@@ -22,26 +25,26 @@
 extern "C" {
 #endif
 
-/* Answers: 0, or the first refusal that applies, in the order of their numbers, but that 15 is
- * tested directly after 4 and, in the audit, 13 before 8.
- * A refusal changes no result list. Refusals 1 to 7 and 15 leave the work lists
- * unchanged too; after any other call all work lists hold zeros. */
+/* Answers: 0, or the first refusal that applies (docs/RULES.md, 'Order of refusals'): they are tested
+ * by their numbers, but 15 directly after 4, and 13 before 8 in the audit.
+ * Where a call is refused, its result lists are as they were. After 1 to 7 and 15 the work lists are as
+ * they were too; after every other answer they are zero throughout. */
 enum {
     TANSYGATE_DONE = 0,               /* drawn or audited */
-    TANSYGATE_TOO_MANY = 1,           /* more than 4,096 buses or 8,192 branches */
-    TANSYGATE_KV_LENGTH = 2,          /* kv isn't as long as the bus list */
-    TANSYGATE_TO_LENGTH = 3,          /* to isn't as long as from */
-    TANSYGATE_STATION_NUMBER = 4,     /* a substation number is not below the bus count */
+    TANSYGATE_TOO_MANY = 1,           /* above 4,096 buses, or above 8,192 branches */
+    TANSYGATE_KV_LENGTH = 2,          /* kv and sub differ in length */
+    TANSYGATE_TO_LENGTH = 3,          /* to and from differ in length */
+    TANSYGATE_STATION_NUMBER = 4,     /* a station number of n or more */
     TANSYGATE_OPTION = 5,             /* an option is out of range */
-    TANSYGATE_TOO_FAR = 6,            /* a bus with two finite coordinates has one above 10^12 in size */
-    TANSYGATE_LIST_TOO_SHORT = 7,     /* a result or work list of fixed length is too short */
-    TANSYGATE_ILL_SIZED = 8,          /* the largest side of an occupied station's box is 0, or a corner (in the
-                                         audit also a piece end) divided by it isn't at most 2^40 in size */
-    TANSYGATE_MESH = 9,               /* the mesh is ill-formed */
-    TANSYGATE_CROSSINGS = 10,         /* crossings, those of cleared paths included, outnumber the crossing list */
-    TANSYGATE_PIECES = 11,            /* pieces outnumber the lent piece lists */
-    TANSYGATE_NO_FIT = 13,            /* the audited drawing doesn't fit its network */
-    TANSYGATE_VOLTAGE = 15            /* a kv isn't finite and above zero */
+    TANSYGATE_TOO_FAR = 6,            /* a map point with a coordinate beyond 10^12 */
+    TANSYGATE_LIST_TOO_SHORT = 7,     /* a list is shorter than its needed length */
+    TANSYGATE_ILL_SIZED = 8,          /* the longest side of the stations' boxes is 0, or a corner, or in the
+                                         audit a piece's end, isn't within 2^40 times that side */
+    TANSYGATE_MESH = 9,               /* the mesh fails its test */
+    TANSYGATE_CROSSINGS = 10,         /* more crossings, cleared walks counted, than the crossing list holds */
+    TANSYGATE_PIECES = 11,            /* more pieces than the piece lists hold */
+    TANSYGATE_NO_FIT = 13,            /* the drawing handed in doesn't belong to the network */
+    TANSYGATE_VOLTAGE = 15            /* a voltage that is 0, negative, infinite or NaN */
 };
 
 /* A twin that isn't there. */
@@ -81,8 +84,7 @@ typedef struct {
     double left, top, right, bottom;  /* bounds of the drawing */
 } tansygate_plotted;
 
-/* Draws a network into the lent lists. (Named tansygate_layout, with tansygate_options, before the options had the
-   grid's four numbers: a program written for those doesn't compile or link here.) */
+/* Draws a network into the lent lists. */
 tansygate_plotted tansygate_plot(
     /* results */
     double *positions, size_t positions_len,                /* 2n: x and y of each bar's middle */
@@ -116,7 +118,7 @@ tansygate_plotted tansygate_plot(
     const int64_t *to, size_t to_len,                       /* m: its second bus */
     const uint8_t *service, size_t service_len,             /* 0 open, else live; absent: live */
     const double *xy, size_t xy_len,                        /* 2 a bus: x and y, y down; absent or not finite: (0, 0) */
-    /* a mesh over the occupied stations by rank: three corners a triangle, and the twin of each
+    /* a mesh over the occupied stations in the order of their numbers: three corners a triangle, and the twin of each
        half-edge or TANSYGATE_NO_TWIN; both of one length, a multiple of 3, at most 24,576 */
     const uint32_t *corners, size_t corners_len,
     const uint32_t *twins, size_t twins_len);
@@ -135,7 +137,7 @@ tansygate_audited tansygate_audit(
     /* results */
     double *displacement, size_t displacement_len,          /* k: each occupied station's distance from seed to box middle */
     double *spacing, size_t spacing_len,                    /* k: its distance to the nearest other, in shorter sides of its box */
-    double *relative, size_t relative_len,                  /* one a piece: each line's drawn length over its straight length */
+    double *relative, size_t relative_len,                  /* one a piece: each stretch's drawn length over its straight length */
     /* work lists */
     uint32_t *stations, size_t stations_len,                /* 2n */
     uint32_t *index, size_t index_len,                      /* 5n */

@@ -17,7 +17,7 @@ mod random;
 mod calls;
 mod networks;
 
-/// Stress seeding waits (01), so it is left out here.
+/// Stress seeding is no part of the rules, so it is left out here.
 mod stress {
     pub fn sparse_stress(_: usize, _: &[(usize, usize)]) -> Vec<(f64, f64)> {
         panic!("stress seeding is left out")

@@ -1,4 +1,5 @@
-//! Audit: the original's `tx_layout_quality`, with layout's rule for a bus's point, behind 01's refusals, with 01's count of overlapping pairs.
+//! Audit: the original's `tx_layout_quality`, with layout's rule for a bus's point, behind the refusals of docs/RULES.md, with its
+//! count of overlapping pairs ('Overlaps').
 use crate::network::{refuse, Network};
 use crate::tx_schematic::{tx_layout_quality, TxLayout, TX_LAYOUT_VERSION, TX_ROLE_LINE};
 

@@ -11,8 +11,8 @@ use crate::random::{Random, EDGES};
 use crate::witness;
 
 /// What calls are generated: ordinary ones with slips, the same without iterations, ones of extreme scale (oracle/extremes.rs),
-/// or ones of either sort with other gaps than the four old numbers; lines with boxes in their way (oracle/detours.rs), with
-/// the four old numbers or other gaps.
+/// or ones of either sort with other gaps than the original's four numbers; lines with boxes in their way (oracle/detours.rs), with
+/// the original's four numbers or other gaps.
 #[derive(Clone, Copy, PartialEq)]
 pub enum Kind {
     Plain,
@@ -37,7 +37,7 @@ impl Kind {
         }
     }
 
-    /// Whether calls have other gaps than the four old numbers.
+    /// Whether calls have other gaps than the original's four numbers.
     fn has_gaps(self) -> bool {
         matches!(self, Self::Gaps | Self::WideDetours)
     }

@@ -1,4 +1,5 @@
-//! Change 6's formulas, written from the request's text, each operation once and in its order: what a box's interior is drawn by.
+//! The formulas by which a box's interior is drawn, with the four gaps as options, each operation once and in its order
+//! (docs/RULES.md, 'Sizes', 'Bars and row ends').
 //! `reference/build` puts them in the places of the original's constants (target/reference/gapped.rs). There the four numbers
 //! are those of the call that this thread makes.
 use std::cell::Cell;
@@ -11,7 +12,7 @@ pub struct Gaps {
     pub buffer: f64,
 }
 
-/// The four old numbers.
+/// The original's four numbers.
 pub const OLD: Gaps = Gaps { gap: 2.0, padding: 1.0, shortest: 2.0, buffer: 1.0 };
 
 impl Gaps {

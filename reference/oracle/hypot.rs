@@ -1,4 +1,4 @@
-//! `hypot` as 01 has it: the exact root of the sum of squares, correctly rounded, decided over whole numbers.
+//! `hypot` by docs/RULES.md, 'Hypot': the root of the sum of both squares, rounded once, decided over whole numbers.
 use std::cmp::Ordering;
 
 pub trait ExactHypot {

@@ -12,12 +12,12 @@ use crate::witness;
 pub enum Judge {
     /// The original.
     Original,
-    /// The original where neither it nor the second implementation by change 9 finds a detour; in the audit the original with
-    /// change 9's count of pieces through boxes.
+    /// The original where neither it nor `Nearest` finds a detour; in the audit the original with the count of pieces through
+    /// boxes of `Nearest`.
     Undetoured,
-    /// The second implementation, 01's walk over cells.
+    /// The second implementation, with the original's walk over cells.
     Second,
-    /// The second implementation, change 9.
+    /// The second implementation, with the rule of docs/RULES.md, 'The box entered first'.
     Nearest,
 }
 

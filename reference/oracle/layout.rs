@@ -1,4 +1,4 @@
-//! Layout: the original's `tx_schematic_layout` behind 01's refusals 1 to 11.
+//! Layout: the original's `tx_schematic_layout` behind refusals 1 to 11 of docs/RULES.md.
 use crate::gaps;
 use crate::network::{refuse, Mesh, Network, Options};
 use crate::tx_schematic::{tx_schematic_layout, TxLayout};
@@ -49,7 +49,7 @@ impl Lent {
 const NO_TWIN: u32 = u32::MAX;
 const LONGEST: usize = 24_576;
 
-/// Whether 01's test passes the mesh.
+/// Whether a mesh passes its test (docs/RULES.md, 'Mesh').
 pub fn well_formed(mesh: &Mesh, occupied: usize) -> bool {
     let (c, t) = (&mesh.corners, &mesh.twins);
     let length = c.len();
@@ -85,7 +85,7 @@ pub fn layout(net: &Network, options: &Options, mesh: &Mesh, lent: &Lent) -> Res
     net.near()?;
     refuse(7, lent.short(net))?;
     let input = net.original();
-    assert!(cfg!(gaps) || options.gaps == gaps::OLD, "the original has the four old numbers; compile with --cfg gaps");
+    assert!(cfg!(gaps) || options.gaps == gaps::OLD, "the original has the original's four numbers; compile with --cfg gaps");
     gaps::set(options.gaps);
     // Boxes do not depend on routing.
     let mut drawing = tx_schematic_layout(&input, &Options { iterations: 0, ..options.clone() }.original());

@@ -1,4 +1,4 @@
-//! The oracle: the original Rust's answers, as 01 wants them. Its subcommands are listed below.
+//! The oracle: the original's answers, behind the refusals of docs/RULES.md. Its subcommands are listed below.
 #[cfg_attr(not(gaps), path = "../../target/reference/tx_schematic.rs")]
 #[cfg_attr(gaps, path = "../../target/reference/gapped.rs")]
 mod tx_schematic;
@@ -27,7 +27,7 @@ mod words;
 #[path = "../second/mod.rs"]
 mod second;
 
-/// Stress seeding waits (01), so it is left out here.
+/// Stress seeding is no part of the rules, so it is left out here.
 mod stress {
     pub fn sparse_stress(_: usize, _: &[(usize, usize)]) -> Vec<(f64, f64)> {
         panic!("stress seeding is left out")
@@ -37,7 +37,7 @@ mod stress {
 use std::io::{stdin, stdout, BufRead, BufWriter, Read, Write};
 
 const USAGE: &str = "usage: oracle SUBCOMMAND
-  drawlist                          01's program: standard input to standard output
+  drawlist                          the program drawlist: standard input to standard output
   generate SEED COUNT CLASS         drawlist inputs, each closed by ====  (CLASS: any, small, large, grid, far, odd, malformed)
   compare PROGRAM SEED COUNT CLASS  runs PROGRAM and drawlist on generated inputs
   vectors SEED COUNT                single calls of the original's functions, COUNT lines of each name
@@ -46,7 +46,7 @@ const USAGE: &str = "usage: oracle SUBCOMMAND
   calls SEED COUNT BUSES [KIND]     layout calls for networks of up to BUSES buses (KIND: plain, straight, extreme, detours)
   audits SEED COUNT BUSES [KIND]    audit calls likewise
   hypot [second]                    a line of two patterns in, the exact hypot's pattern out; that of reference/second
-  selfcheck                         the scope's worked examples";
+  selfcheck                         the worked cases of docs/RULES.md";
 
 fn everything() -> Vec<u8> {
     let mut text = Vec::new();

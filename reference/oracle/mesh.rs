@@ -1,4 +1,4 @@
-//! Meshes for generated calls: Delaunay triangles of given points (in floats, so only nearly), and odd ones that 01's test passes.
+//! Meshes for generated calls: Delaunay triangles of given points (in floats, so only nearly), and odd ones that pass the mesh's test.
 use std::collections::{HashMap, HashSet};
 
 use crate::network::Mesh;
@@ -105,7 +105,7 @@ fn any_triangle(r: &mut Random, n: usize) -> [usize; 3] {
     [a, (a + b) % n, (a + c) % n]
 }
 
-/// A mesh over the points' numbers that 01's test passes, mostly none of theirs: corners permuted, triangles of other points, mirrored or repeated ones,
+/// A mesh over the points' numbers that passes the mesh's test, mostly none of theirs: corners permuted, triangles of other points, mirrored or repeated ones,
 /// a strip, apart from each other, or any triangles over few corners, which lines go round in.
 pub fn twisted(r: &mut Random, points: &[P]) -> Mesh {
     let n = points.len();

@@ -1,4 +1,4 @@
-//! Nearest and near neighbours over all pairs, as 01 has them.
+//! Nearest and near neighbours over all pairs (docs/RULES.md, 'Spacing and unit', 'Scales').
 use crate::hypot::hypot;
 
 /// For each point the least positive distance to another; infinite where there is none.

@@ -189,7 +189,7 @@ impl AuditCall {
     }
 }
 
-/// Zeros are written as +0: 01 compares results as numbers.
+/// Zeros are written as +0: results are compared as numbers (docs/RULES.md, 'Equality of results').
 fn floats(name: &str, list: &[f64]) -> String {
     line(name, list.iter().map(|&x| float(x, true)))
 }

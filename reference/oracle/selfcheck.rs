@@ -1,4 +1,4 @@
-//! The scope's worked examples and the places where a quick reading of it goes wrong: each said, run by the original and by the
+//! Worked cases of docs/RULES.md and the places where a quick reading of it goes wrong: each said, run by the original and by the
 //! second implementation, and compared.
 use crate::audit::{Drawing, Figures, Room};
 use crate::drawlist::drawlist;
@@ -241,7 +241,7 @@ fn orders(c: &mut Check) {
     c.that("exits on the right of both", s[2] == b[2] && s[s.len() - 4] == b[6]);
 }
 
-/// Change 9 and the walk over cells, by the second implementation.
+/// The box entered first and the walk over cells, by the second implementation.
 fn boxes_met(c: &mut Check) {
     let none = usize::MAX;
     let met = |boxes: &[Frame], p: Point, q: Point| {

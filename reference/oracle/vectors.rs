@@ -10,7 +10,8 @@
 //!   wit n radius x0 y0 .. c0 ..                       near neighbours
 //!   med n v0.. kind m                                 median; kind 0 none
 //!
-//! Left out: arguments on which the original's clamp panics, and NaNs that its maximum and minimum drop where 01's keep them.
+//! Left out: arguments on which the original's clamp panics, and NaNs that its maximum and minimum drop where those of docs/RULES.md
+//! keep them.
 use crate::audit::overlap;
 use crate::random::{Random, EDGES};
 use crate::tx_schematic::inside::{self, P};

@@ -1,4 +1,4 @@
-//! Change 11: networks that meet its premises, most of them near an edge of one, drawn and drawn with every coordinate
+//! Doubling (docs/RULES.md): networks that meet its premises, most of them near an edge of one, drawn and drawn with every coordinate
 //! scaled by 2^k. The original's two drawings are compared bit for bit, and ours with the original's in both calls.
 #[path = "../../target/reference/tx_schematic.rs"]
 mod tx_schematic;
@@ -40,7 +40,7 @@ mod layouts;
 mod library;
 mod lists;
 
-/// Stress seeding waits (01), so it is left out here.
+/// Stress seeding is no part of the rules, so it is left out here.
 mod stress {
     pub fn sparse_stress(_: usize, _: &[(usize, usize)]) -> Vec<(f64, f64)> {
         panic!("stress seeding is left out")
@@ -143,7 +143,7 @@ fn lent(r: &mut Random, net: &Network, pieces: usize) -> Lent {
     lent
 }
 
-/// The seeds of the occupied stations, as 01 has them.
+/// The seeds of the occupied stations (docs/RULES.md, 'Seeds').
 fn seeds(net: &Network) -> Vec<(f64, f64)> {
     let seed = |&s: &usize| {
         let buses = (0..net.sub.len()).filter(|&i| net.sub[i] as usize == s);
@@ -154,7 +154,7 @@ fn seeds(net: &Network) -> Vec<(f64, f64)> {
     net.occupied().iter().map(seed).collect()
 }
 
-/// Whether change 11's premises hold, with 2^k for 2.
+/// Whether the premises of doubling hold, with 2^k for 2.
 fn asked(call: &Call, k: u32) -> bool {
     let allowed = |x: f64| (x == 0.0 || x.abs() >= least()) && (x * power(k)).abs() <= LIMIT;
     let points = (0..call.net.sub.len()).filter_map(|i| call.net.point(i));
@@ -253,7 +253,7 @@ fn lone(sub: &[u32], xy: &[f64]) -> Call {
     Call { net, options, mesh: Mesh::default(), lent: Lent { work_short: false, ..lent } }
 }
 
-/// Without a premise the claim is false: inputs on which the two calls differ (docs/DECISIONS.md).
+/// Without a premise the claim is false: inputs on which the two calls differ (docs/RULES.md, 'Doubling').
 fn needed() {
     let cases = [
         ("a coordinate below 2^-500", lone(&[0, 1], &[0.0, 0.0, 2e-323, 0.0])),

@@ -49,7 +49,7 @@ mod lists;
 #[path = "../second/beside.rs"]
 mod beside;
 
-/// Stress seeding waits (01), so it is left out here.
+/// Stress seeding is no part of the rules, so it is left out here.
 mod stress {
     pub fn sparse_stress(_: usize, _: &[(usize, usize)]) -> Vec<(f64, f64)> {
         panic!("stress seeding is left out")
@@ -70,22 +70,22 @@ const PATIENCE: Duration = Duration::from_secs(60);
 const USAGE: &str = "usage: compare layout SEED COUNT BUSES [KIND [JUDGE]]
        compare audit SEED COUNT BUSES [KIND [JUDGE]]
   KIND   plain; straight: every call with 0 iterations; extreme: coordinates, options, meshes and drawings of extreme scale;
-         gaps: other gaps than the four old numbers, a third of the calls extreme ones; detours: lines with boxes in their way;
+         gaps: other gaps than the original's four numbers, a third of the calls extreme ones; detours: lines with boxes in their way;
          wide-detours: the same with other gaps (gaps and wide-detours judged by the original: compiled with --cfg gaps)
-  JUDGE  original; second: the second implementation; nearest: the same with change 9; undetoured: the original where
+  JUDGE  original; second: the second implementation; nearest: the same by the box entered first; undetoured: the original where
          neither it nor `nearest` finds a detour";
 
 /// One kind of call: how a case arises, what the oracle answers, and what is wrong with ours.
 trait Compared: Clone + Send + 'static {
     type Want: Send + 'static;
-    /// Whether a detour makes the original no judge of the call, where change 9 is asked for.
+    /// Whether a detour makes the original no judge of the call, by the rule of the box entered first.
     const LEAVES_DETOURS: bool;
     fn case(seed: u64, case: u64, most: usize, kind: Kind) -> Self;
     fn want(&self, salt: u64) -> Self::Want;
     fn number(want: &Self::Want) -> u32;
     /// Whether some bus has no map point.
     fn unsurveyed(&self) -> bool;
-    /// What change 9 changes: whether a detour is found, before or after it, and whether an answer differs then.
+    /// What the rule of the box entered first changes: whether a detour is found by either rule, and whether an answer differs.
     fn moved(&self, salt: u64) -> (bool, bool);
     /// Whether a line is led through a mesh or round a box.
     fn routed(&self, want: &Self::Want) -> bool;
@@ -235,7 +235,8 @@ fn patiently<T: Send + 'static>(work: impl FnOnce() -> T + Send + 'static) -> Ou
     }
 }
 
-/// What a call is judged by: the answer wanted, whether a detour is found, and whether change 9 makes another answer.
+/// What a call is judged by: the answer wanted, whether a detour is found, and whether the rule of the box entered first makes another
+/// answer.
 fn judged<C: Compared>(call: &C, salt: u64) -> (C::Want, bool, bool) {
     let want = call.want(salt);
     let led = witness::seen().detours > 0;
@@ -318,7 +319,7 @@ fn compare<C: Compared>(seed: u64, count: u64, most: usize, kind: Kind) -> bool 
     println!("  answer 0 with lines led through a mesh or round boxes: {routed}");
     println!("  with buses that have no map point: {unsurveyed}");
     if judge::chosen() != Judge::Original {
-        println!("  with a line led round a box, or through one in the audit: {detoured}; by change 9 another answer: {moved}; left out for it: {left_out}");
+        println!("  with a line led round a box, or through one in the audit: {detoured}; by the box entered first another answer: {moved}; left out for it: {left_out}");
     }
     differing.sort_by_key(|(_, call)| call.size());
     if let Some((i, call)) = differing.first() {

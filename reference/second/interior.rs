@@ -12,7 +12,7 @@ pub struct Interior {
     pub size: Vec<(f64, f64)>,
 }
 
-/// Where each of a station's branch ends stands in 01's order: inside before outside, seed y of the other station, branch.
+/// Where each of a station's branch ends stands in the order of rows: inside before outside, seed y of the other station, branch.
 #[derive(PartialEq)]
 struct End {
     outside: bool,

@@ -1,8 +1,8 @@
-//! A second implementation of layout and audit, written from the two requests' text (01 with 02's changes 1, 4, 6 and 7), and
-//! not from the original nor from crates/*/src. It judges what the original can't: other gaps, and change 9's detours.
+//! A second implementation of layout and audit, written from the rules that docs/RULES.md states, and not from the original
+//! nor from crates/*/src. It judges what the original can't: other gaps, and detours round the box entered first.
 //! Loops are plain and over all stations; nothing is shared with the original's code, `hypot` included.
 //!
-//! Where 01 names a function of the original and gives no text, that function was read and written anew:
+//! These functions of the original were read and written anew:
 //!   the walk of a line over the mesh, the rounds (`route_lines`)                route.rs
 //!   a channel's ends and gap (`channel`), places along it (`space`)              channel.rs
 //!   the clip test, the crossing test, the place on a segment (`segment_hits_box`, `segments_cross`, `line_param`)  plane.rs
@@ -29,9 +29,9 @@ pub use root::hypot;
 /// Which box a detour goes round, and when a piece counts as running through one.
 #[derive(Clone, Copy, PartialEq)]
 pub enum Rule {
-    /// 01's walk over cells.
+    /// The original's walk over cells.
     Cells,
-    /// Change 9: the box entered first.
+    /// The box entered first.
     Nearest,
 }
 

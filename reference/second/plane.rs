@@ -23,8 +23,8 @@ pub fn hits(p: Point, q: Point, b: &Frame) -> bool {
     true
 }
 
-/// Change 9: the place where a box that is hit is entered, the largest of 0 and, in each direction the piece moves in,
-/// (edge first met − start) / (end − start).
+/// The fraction at which a piece enters a box that it hits: at least 0, and for x and for y, where the piece moves, at least
+/// (near edge − start) / (end − start).
 pub fn entered(p: Point, q: Point, b: &Frame) -> f64 {
     let mut place = 0.0;
     if q.0 != p.0 {

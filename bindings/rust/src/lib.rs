@@ -7,6 +7,7 @@
 //! - Each returns a `Result`: what can't be drawn or audited is refused ([`Refusal`]), and nothing panics.
 //! - The mesh for routing is handed in ([`Mesh`]): a triangulation of [`TxLayout::mesh_points`], such as `delaunator`'s.
 //! - [`TxLayoutOptions`] has no `seeding`, [`TxLayoutQuality`] no `bends` and `sharp_bends`.
+//! - A caller in Rattle uses the crate `tansygate` instead.
 //! - docs/DIFFERENCES.md of the repository lists where numbers differ, each with the smallest input that shows it.
 //!
 //! A routed drawing: draw straight, triangulate the middles, draw again.

@@ -31,8 +31,8 @@ pub struct TxLayoutInput {
     pub to: Vec<i64>,
     /// Service flag of each branch: 0 is open, any other and an absent one live.
     pub in_service: Vec<u8>,
-    /// `x, y` of each bus, y down: where substations start. A bus with an absent or non-finite coordinate counts
-    /// as (0, 0).
+    /// `x, y` of each bus, y down: where substations start. A bus of which one is absent, infinite or NaN stands
+    /// at (0, 0).
     pub xy: Vec<f64>,
 }
 
@@ -172,7 +172,7 @@ pub const EMPTY: u32 = u32::MAX;
 /// A mesh of triangles over the occupied substations, named by their rank, with `delaunator`'s names. Lines are
 /// routed through it.
 ///
-/// Both lists have one length, a multiple of 3 and at most 24,576. A triangle's three corners differ. A half-edge
+/// Both lists are equally long: three numbers a triangle, at most 24,576. A triangle's three corners differ. A half-edge
 /// runs from its corner to the triangle's next; its twin runs between the same two the other way round, and has it
 /// as its twin. Any mesh for which this holds is used; another is refused ([`Refusal::Mesh`](crate::Refusal::Mesh)).
 /// With fewer than three occupied substations, or 0 rounds, the mesh isn't looked at. The empty mesh is allowed:

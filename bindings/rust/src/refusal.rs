@@ -1,7 +1,7 @@
 //! Why a network isn't drawn, or a drawing isn't audited.
 use std::fmt;
 
-/// A refusal: the first that applies, in the scope's order. Its number is the scope's; 15 comes directly after 4.
+/// A refusal: the first that applies, by docs/RULES.md of the repository, 'Order of refusals'; 15 comes directly after 4.
 ///
 /// [`tx_schematic_layout`](crate::tx_schematic_layout) gives 1 to 4, 15, 5, 6, 8 and 9,
 /// [`tx_layout_quality`](crate::tx_layout_quality) 1 to 4, 15, 6, 13 and 8. Numbers 7, 10 and 11 are about lists that
@@ -16,32 +16,32 @@ use std::fmt;
 #[derive(Clone, Copy, Debug, PartialEq, Eq, PartialOrd, Ord, Hash)]
 #[repr(u32)]
 pub enum Refusal {
-    /// More than 4,096 buses or 8,192 branches.
+    /// Above 4,096 buses, or above 8,192 branches.
     TooMany = 1,
-    /// `kv` isn't as long as `bus_substation`.
+    /// `kv` and `bus_substation` differ in length.
     KvLength = 2,
-    /// `to` isn't as long as `from`.
+    /// `to` and `from` differ in length.
     ToLength = 3,
-    /// A substation number is not below the bus count.
+    /// A substation number that isn't below the number of buses.
     StationNumber = 4,
     /// An option is out of range.
     Option = 5,
-    /// A bus with two finite coordinates has one above 10^12 in size.
+    /// A map point with a coordinate beyond 10^12.
     TooFar = 6,
-    /// A result or work list of fixed length is too short.
+    /// A lent list is shorter than its needed length.
     ListTooShort = 7,
-    /// The largest side of an occupied substation's box is 0, or a corner (in the audit also a segment's end)
-    /// divided by it isn't at most 2^40 in size.
+    /// The longest side of the substations' boxes is 0, or a corner (or, in the audit, a segment's end) isn't
+    /// within 2^40 times that side.
     IllSized = 8,
     /// The mesh is ill-formed.
     Mesh = 9,
-    /// Crossings, those of cleared paths included, outnumber the lent crossing list.
+    /// More crossings, cleared walks counted, than the crossing list holds.
     Crossings = 10,
     /// Segments outnumber the lent lists.
     Pieces = 11,
     /// The audited drawing doesn't fit its network.
     NoFit = 13,
-    /// A `kv` isn't finite and above zero.
+    /// A voltage that is 0, negative, infinite or NaN.
     Voltage = 15,
 }
 

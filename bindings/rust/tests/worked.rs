@@ -1,4 +1,4 @@
-//! The scope's worked drawings, and what signs of zero and NaNs do.
+//! Worked drawings (docs/RULES.md, 'Worked cases'), and what signs of zero and NaNs do.
 use tansygate::*;
 
 /// n substations of one bus each, all at (0, 0).

@@ -2,11 +2,11 @@
 use mathlib.Core.Path.{◌≡◌, sym, ap, ◌∙◌}
 use lib.ListN.{length}
 use Rattle.std.specs.Prelude.{Option, Some, None, Result, Err}
-use Rattle.refusals.specs.declared.Refusal.{Refusal}
-use Rattle.findings.specs.declared.answer.Figures.{Figures}
-use Rattle.findings.specs.Drawn.{Drawn, Lists, Work, room_of}
-use Rattle.findings.specs.Answer.{early, cleared, call, call_late, call_early, audit_of, Answered, Inner}
-use Rattle.findings.proofs.Number.{answered}
+use Rattle.network.specs.declared.refusals.Refusal.{Refusal}
+use Rattle.audit.specs.declared.findings.answer.Figures.{Figures}
+use Rattle.audit.specs.Drawn.{Drawn, Lists, Work, room_of}
+use Rattle.audit.specs.Answer.{early, cleared, call, call_late, call_early, audit_of, Answered, Inner}
+use Rattle.audit.proofs.findings.Number.{answered}
 
 module _ (D : Drawn) (L : Lists) (W : Work) where
   pub call_refused : (r : Refusal) → Some r ≡ early D (room_of L W) → Answered D L W (call (Err r) L W)

@@ -1,23 +1,20 @@
 // Work lists back to zeros.
 ghost use Rattle.std.specs.Prelude.{◌≡◌};
-ghost use Rattle.findings.specs.Answer.{cleared};
+ghost use Rattle.audit.specs.Answer.{cleared};
+ghost use Rattle.audit.specs.Held.{held_work, SameWork};
 
-// All work lists hold zeros.
-#[tactic(auto, unfolding(findings::specs::Answer::cleared))]
-pub(crate) fn clear_work(
-    stations: &mut [u32],
-    index: &mut [u32],
-    spare: &mut [u32],
-    keys: &mut [u64],
-    points: &mut [f64],
-    path: &mut [f64],
-)
-    ensures { record { stations = stations.new; index = index.new; spare = spare.new; keys = keys.new; points = points.new; path = path.new } ≡ cleared (record { stations = stations.old; index = index.old; spare = spare.old; keys = keys.old; points = points.old; path = path.old }) }
+use crate::lists::Work;
+
+// Writes zeros into all work lists.
+#[tactic(auto, unfolding(crate::specs::Answer::cleared))]
+pub(crate) fn clear_work(work: &mut Work<'_>)
+    ensures same { SameWork work.new work.old }
+    ensures is { held_work work.new ≡ cleared (held_work work.old) }
 {
-    stations.fill(0);
-    index.fill(0);
-    spare.fill(0);
-    keys.fill(0);
-    points.fill(0.0);
-    path.fill(0.0);
+    work.stations.fill(0);
+    work.index.fill(0);
+    work.spare.fill(0);
+    work.keys.fill(0);
+    work.points.fill(0.0);
+    work.path.fill(0.0);
 }

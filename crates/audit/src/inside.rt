@@ -1,46 +1,49 @@
 // An audit once its input has passed: refusals 13 and 8, and the figures.
 ghost use Rattle.std.specs.Prelude.{◌*◌, ◌≤◌, length};
 ghost use Rattle.network.specs.Words.{station_count};
-ghost use Rattle.findings.specs.Drawn.{drawn};
-ghost use Rattle.findings.specs.Answer.{Inner};
+ghost use Rattle.audit.specs.Answer.{Inner};
+ghost use Rattle.audit.specs.Held.{held_drawing, held_lists, SameLists, SameWork, LongWork};
+ghost use Rattle.audit.specs.Stages.Views.{FigureRoom, SortRoom};
 
-use audit_figures::stages::figures_of;
-use findings::answer::Figures;
-use fit::drawn::FewBuses;
-use fit::fit::fits;
-use fit::scale::ill_drawn;
+use crate::accepted::figures_of;
+use crate::findings::answer::Figures;
+use crate::fit::drawn::FewBuses;
+use crate::fit::fit::fits;
+use crate::fit::scale::ill_drawn;
+use crate::lists::{FigureLists, Work};
 use network::lists::Placed;
+use network::refusals::Refusal;
 use network::words::{bus_counts, station_count};
-use refusals::Refusal;
 
-// 13 or 8, or the figures.
-// The lists that are written stand as the public call takes them: `figures_of` lends some of them to each stage.
+// Refusal 13 or 8, or the figures, in the result lists and the answer.
 pub(crate) fn audited(
     drawing: &FewBuses<'_>,
-    displacement: &mut [f64],
-    spacing: &mut [f64],
-    relative: &mut [f64],
-    stations: &mut [u32],
-    index: &mut [u32],
-    spare: &mut [u32],
-    keys: &mut [u64],
-    points: &mut [f64],
-    path: &mut [f64],
+    lists: &mut FigureLists<'_>,
+    work: &mut Work<'_>,
 ) -> Result<Figures, Refusal>
-    requires sub_len_bound { (station_count drawing.now.lists.sub.now ≤ length drawing.now.lists.sub.now) × (2 * length drawing.now.lists.sub.now ≤ length stations.old) }
-    requires sub_in_bounds { (station_count drawing.now.lists.sub.now ≤ length displacement.old) × (station_count drawing.now.lists.sub.now ≤ length spacing.old) × (length drawing.now.lists.branches.now ≤ length relative.old) × (2 * length drawing.now.lists.sub.now ≤ length points.old) × (2 * length drawing.now.lists.sub.now ≤ length path.old) }
-    requires sub_in_bounds_2 { (length drawing.now.lists.sub.now ≤ length index.old) × (length drawing.now.lists.sub.now ≤ length spare.old) × (length drawing.now.lists.sub.now ≤ length keys.old) }
-    ensures { Inner (drawn drawing.now.lists.sub.now drawing.now.lists.kv.now drawing.now.lists.from.now drawing.now.lists.to.now drawing.now.lists.xy.now drawing.now.lists.boxes.now drawing.now.lists.roles.now drawing.now.lists.pieces.now drawing.now.lists.branches.now)
-        (record { displacement = displacement.old; spacing = spacing.old; relative = relative.old }) result (record { displacement = displacement.new; spacing = spacing.new; relative = relative.new }) }
+    requires few_stations { station_count drawing.now.lists.sub.now
+        ≤ length drawing.now.lists.sub.now }
+    requires count_room { 2 * length drawing.now.lists.sub.now ≤ length work.old.stations.now }
+    requires figure_room { FigureRoom (station_count drawing.now.lists.sub.now)
+        (length drawing.now.lists.branches.now) (held_lists lists.old) }
+    requires point_room { 2 * length drawing.now.lists.sub.now ≤ length work.old.points.now }
+    requires path_room { 2 * length drawing.now.lists.sub.now ≤ length work.old.path.now }
+    requires sort_room { SortRoom (length drawing.now.lists.sub.now) work.old.index.now
+        work.old.spare.now work.old.keys.now }
+    ensures same { SameLists lists.new lists.old × SameWork work.new work.old }
+    ensures long { LongWork work.new work.old }
+    ensures is { Inner (held_drawing drawing.now.lists) (held_lists lists.old) result
+        (held_lists lists.new) }
 {
     if !fits(drawing) {
         return Err(Refusal::NoFit);
     }
-    let k = station_count(drawing.lists.sub);
-    bus_counts(drawing.lists.sub, k, stations);
+    let stations = station_count(drawing.lists.sub);
+    let counts = &mut *work.stations;
+    bus_counts(drawing.lists.sub, stations, counts);
     let placed = Placed {
-        k,
-        stations,
+        k: stations,
+        stations: counts,
         frames: drawing.lists.boxes,
     };
     if ill_drawn(&placed, drawing.lists.pieces) {
@@ -48,15 +51,15 @@ pub(crate) fn audited(
     }
     Ok(figures_of(
         drawing,
-        k,
         stations,
-        displacement,
-        spacing,
-        relative,
-        index,
-        spare,
-        keys,
-        points,
-        path,
+        counts,
+        lists.displacement,
+        lists.spacing,
+        lists.relative,
+        work.index,
+        work.spare,
+        work.keys,
+        work.points,
+        work.path,
     ))
 }

@@ -1,77 +1,45 @@
 // The public call.
-ghost use Rattle.findings.specs.Answer.{call, Answered};
+ghost use Rattle.audit.specs.Answer.{call, Answered};
+ghost use Rattle.audit.specs.Held.{held_drawing, held_lists, held_work, SameLists, SameWork};
 
 use crate::clear::clear_work;
+use crate::findings::answer::Figures;
+use crate::findings::room::Room;
+use crate::fit::drawn::{Drawn, FewBuses};
 use crate::inside::audited;
-use audit_limits::refuse::check_input;
-use findings::answer::Figures;
-use findings::room::Room;
-use fit::drawn::{Drawn, FewBuses};
-use refusals::Refusal;
+use crate::limits::check_input;
+use crate::lists::{FigureLists, Work};
+use network::refusals::Refusal;
 
-// Audits a drawing: the figures of each station and line in the result lists, the others in the answer.
-// The lists stand as C hands them over, each with its length.
+/// Audits a drawing: the figures of each station and line go into the result lists, the others are
+/// the answer.
+///
+/// Or answers the refusal that applies first: 1 to 4, 15, 6, 7, 13 or 8 (docs/RULES.md, 'Order of
+/// refusals'). A refused call changes no result list; refusals 1 to 7 and 15 leave every list as it
+/// was, and after any other answer the work lists hold zeros ('After a refusal').
 pub fn tx_layout_quality(
-    displacement: &mut [f64],
-    spacing: &mut [f64],
-    relative: &mut [f64],
-    stations: &mut [u32],
-    index: &mut [u32],
-    spare: &mut [u32],
-    keys: &mut [u64],
-    points: &mut [f64],
-    path: &mut [f64],
-    sub: &[u32],
-    kv: &[u64],
-    from: &[i64],
-    to: &[i64],
-    xy: &[f64],
-    boxes: &[f64],
-    roles: &[u8],
-    pieces: &[f64],
-    branches: &[u32],
+    lists: &mut FigureLists<'_>,
+    work: &mut Work<'_>,
+    drawing: &Drawn<'_>,
 ) -> Result<Figures, Refusal>
-    ensures { Answered
-        (record { station = sub.now; kv = kv.now; from = from.now; to = to.now; xy = xy.now; boxes = boxes.now; roles = roles.now; pieces = pieces.now; branches = branches.now })
-        (record { displacement = displacement.old; spacing = spacing.old; relative = relative.old }) (record { stations = stations.old; index = index.old; spare = spare.old; keys = keys.old; points = points.old; path = path.old })
-        (call result (record { displacement = displacement.new; spacing = spacing.new; relative = relative.new }) (record { stations = stations.new; index = index.new; spare = spare.new; keys = keys.new; points = points.new; path = path.new })) }
+    ensures same { SameLists lists.new lists.old × SameWork work.new work.old }
+    ensures is { Answered (held_drawing drawing.now) (held_lists lists.old) (held_work work.old)
+        (call result (held_lists lists.new) (held_work work.new)) }
 {
     let room = Room {
-        displacement: displacement.len(),
-        spacing: spacing.len(),
-        relative: relative.len(),
-        stations: stations.len(),
-        index: index.len(),
-        spare: spare.len(),
-        keys: keys.len(),
-        points: points.len(),
-        path: path.len(),
+        displacement: lists.displacement.len(),
+        spacing: lists.spacing.len(),
+        relative: lists.relative.len(),
+        stations: work.stations.len(),
+        index: work.index.len(),
+        spare: work.spare.len(),
+        keys: work.keys.len(),
+        points: work.points.len(),
+        path: work.path.len(),
     };
-    let lists = Drawn {
-        sub,
-        kv,
-        from,
-        to,
-        xy,
-        boxes,
-        roles,
-        pieces,
-        branches,
-    };
-    check_input(&lists, room)?;
-    let drawing = FewBuses { lists };
-    let a = audited(
-        &drawing,
-        displacement,
-        spacing,
-        relative,
-        stations,
-        index,
-        spare,
-        keys,
-        points,
-        path,
-    );
-    clear_work(stations, index, spare, keys, points, path);
+    check_input(drawing, room)?;
+    let drawing = FewBuses { lists: *drawing };
+    let a = audited(&drawing, lists, work);
+    clear_work(work);
     a
 }

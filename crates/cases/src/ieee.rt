@@ -1,41 +1,41 @@
 // IEEE 754 test values: the operations, comparisons, floor, hypot and total order.
 use crate::words::same;
-use float::bits::of_bits;
-use float::floor::{floor, floor_to_i64};
-use float::key::key_of_bits;
+use numbers::float::bits::of_bits;
+use numbers::float::floor::{floor, floor_to_i64};
+use numbers::float::key::key_of_bits;
 
 // 2^52: a float of this size or above is whole.
 const WHOLE: f64 = 4503599627370496.0;
 
-// 1 where a < b, 2 where they are equal, 4 where a > b, 0 where they are unordered.
-fn compared<T: PartialOrd + Copy>(a: T, b: T) -> u64 {
-    u64::from(a < b) + 2 * u64::from(a == b) + 4 * u64::from(a > b)
+// 1 where the left is less, 2 where they are equal, 4 where it is greater, 0 where they are
+// unordered.
+fn compared<T: PartialOrd + Copy>(left: T, right: T) -> u64 {
+    u64::from(left < right) + 2 * u64::from(left == right) + 4 * u64::from(left > right)
 }
 
-// Whether both floors of the float p are the float r.
-pub(crate) fn floors(p: u64, r: u64) -> bool {
-    let x = of_bits(p);
-    let ok = same(floor(x), r);
+// Whether both floors of a float are the wanted one, given their patterns.
+pub(crate) fn floors(pattern: u64, wanted: u64) -> bool {
+    let x = of_bits(pattern);
+    let ok = same(floor(x), wanted);
     if -WHOLE < x && x < WHOLE {
-        ok && std::num::nearest_i64_to_f64(floor_to_i64(x)) == of_bits(r)
+        ok && std::num::nearest_i64_to_f64(floor_to_i64(x)) == of_bits(wanted)
     } else {
         ok
     }
 }
 
-// Whether a test with two operands agrees.
-pub(crate) fn agrees(name: &[u8], p: u64, q: u64, r: u64) -> bool {
-    let a = of_bits(p);
-    let b = of_bits(q);
-    // no table of closures: each arm is another operation, on floats or on patterns, and compares in its own way
+// Whether a test with two operands agrees, given the patterns of these and of the wanted result.
+pub(crate) fn agrees(name: &[u8], left: u64, right: u64, wanted: u64) -> bool {
+    let a = of_bits(left);
+    let b = of_bits(right);
     match name {
-        b"add" => same(a + b, r),
-        b"sub" => same(a - b, r),
-        b"mul" => same(a * b, r),
-        b"div" => same(a / b, r),
-        b"cmp" => compared(a, b) == r,
-        b"hyp" => same(hypot::hypot(a, b), r),
-        b"tot" => compared(key_of_bits(p), key_of_bits(q)) == r,
+        b"add" => same(a + b, wanted),
+        b"sub" => same(a - b, wanted),
+        b"mul" => same(a * b, wanted),
+        b"div" => same(a / b, wanted),
+        b"cmp" => compared(a, b) == wanted,
+        b"hyp" => same(numbers::hypot::hypot(a, b), wanted),
+        b"tot" => compared(key_of_bits(left), key_of_bits(right)) == wanted,
         _ => false,
     }
 }

@@ -1,13 +1,14 @@
-// Runs stored test values and prints how many were compared and how many differ.
-//
-// Standard input has one test a line: a name of three letters, then operands and expected results as 16 hexadecimal digits
-// each, every one after a space. Expected IEEE values come from exact whole-number arithmetic (reference/ieee_values.py), those of
-// other names from the original (reference/oracle, `vectors 1 100`).
+//! Runs stored test values and prints how many were compared and how many differ.
+//!
+//! Standard input has one test a line: a name of three letters, then operands and expected results
+//! as 16 hexadecimal digits each, every one after a space. Expected IEEE values come from exact
+//! whole-number arithmetic (reference/ieee_values.py), those of other names from the original
+//! (reference/oracle, `vectors 1 100`).
 #![tactic(auto)]
 
 mod ieee;
 mod lists;
-mod plane;
+mod planar;
 mod words;
 
 use std::io;
@@ -38,12 +39,11 @@ fn agrees(line: &[u8]) -> bool {
     let w = words(digits);
     let count = digits.len().div_ceil(WORD);
     let name = line.get(..3).unwrap_or(&[]);
-    // no table of functions: most arms hand on all words, but the last two test the count and hand on single words, each to a function of other parameters
     match name {
-        b"hit" => plane::hit_agrees(&w),
-        b"crs" => plane::cross_agrees(&w),
-        b"par" => plane::param_agrees(&w),
-        b"ovl" => plane::overlap_agrees(&w),
+        b"hit" => planar::hit_agrees(&w),
+        b"crs" => planar::cross_agrees(&w),
+        b"par" => planar::param_agrees(&w),
+        b"ovl" => planar::overlap_agrees(&w),
         b"chn" => lists::channel_agrees(&w),
         b"spa" => lists::space_agrees(&w),
         b"nea" => lists::nearest_agrees(&w),
@@ -54,6 +54,7 @@ fn agrees(line: &[u8]) -> bool {
     }
 }
 
+// Counts the tests of a text, a line each.
 fn run(text: &[u8]) -> Tally {
     let mut tally = Tally::default();
     for line in text.split_inclusive(|b| *b == b'\n') {
@@ -63,7 +64,6 @@ fn run(text: &[u8]) -> Tally {
 }
 
 fn main(rt: HostRuntime) -> io::Result<()> {
-    // all at once: `rt.lines` would allocate each line, and fail where one is no UTF-8
     let mut text = Vec::new(rt.alloc());
     rt.reader().take(MOST_BYTES).read_to_end(&mut text)?;
     let Tally { compared, differ } = run(&text);

@@ -1,33 +1,33 @@
 // Numbers of a test, compared with its words and taken from them.
-use float::bits::of_bits;
-use stored::{float_at, padded, word_at};
+use numbers::float::bits::of_bits;
+use text::stored::{float_at, padded, word_at};
 
 // How far one word of a line begins after another: sixteen digits and a space.
 pub(crate) const WORD: usize = 17;
 
-// The first 32 words of a line's digits, 0 past their end; a word that lacks digits is read as with zeros behind it.
+// The first 32 words of a line's digits, 0 past their end; a word that lacks digits is read as with
+// zeros behind it.
 pub(crate) fn words(digits: &[u8]) -> [u64; 32] {
     std::array::from_fn(|i| padded(digits.get(WORD * i..).unwrap_or(&[])))
 }
 
-// Whether x has the pattern `bits`, or both are NaNs.
-// The library has no such equality: `==` takes +0 for -0 and no NaN for another, and bits tell NaNs apart.
-pub(crate) fn same(x: f64, bits: u64) -> bool {
-    if x.is_nan() {
+// Whether a float has the pattern `bits`, or both are NaNs.
+pub(crate) fn same(value: f64, bits: u64) -> bool {
+    if value.is_nan() {
         of_bits(bits).is_nan()
     } else {
-        x.to_bits() == bits
+        value.to_bits() == bits
     }
 }
 
 // The floats from word `from` on.
-pub(crate) fn floats<const N: usize>(w: &[u64], from: usize) -> [f64; N] {
-    std::array::from_fn(|i| float_at(w, from.wrapping_add(i)))
+pub(crate) fn floats<const N: usize>(words: &[u64], from: usize) -> [f64; N] {
+    std::array::from_fn(|i| float_at(words, from.wrapping_add(i)))
 }
 
 // Whether a list's floats have the patterns from word `from` on.
-pub(crate) fn all_same(list: &[f64], w: &[u64], from: usize) -> bool {
+pub(crate) fn all_same(list: &[f64], words: &[u64], from: usize) -> bool {
     list.iter()
         .enumerate()
-        .all(|(i, x)| same(*x, word_at(w, from.wrapping_add(i))))
+        .all(|(i, x)| same(*x, word_at(words, from.wrapping_add(i))))
 }

@@ -9,26 +9,26 @@ use lib.Dec.{ltb}
 use lib.ListN.{length, get_or}
 use lib.Ieee.{Float}
 use Rattle.std.specs.Prelude.{Option, Some, None, Err}
-use Rattle.order.specs.Table.{table}
-use Rattle.order.proofs.Tables.{length_table, get_d_table}
-use Rattle.geometry.specs.declared.Point.{Point}
-use Rattle.options.specs.declared.Options.{Options}
-use Rattle.refusals.specs.declared.Refusal.{Refusal}
-use Rattle.refusals.specs.declared.Refusal.TheVariants as Refusals
-use Rattle.refusals.specs.Refusal.{unless}
+use Rattle.numbers.specs.Table.{table}
+use Rattle.numbers.proofs.order.Tables.{length_table, get_d_table}
+use Rattle.plane.specs.declared.geometry.Point.{Point}
+use Rattle.network.specs.declared.options.Options.{Options}
+use Rattle.network.specs.declared.refusals.Refusal.{Refusal}
+use Rattle.network.specs.declared.refusals.Refusal.TheVariants as Refusals
+use Rattle.network.specs.Refusal.{unless}
 use Rattle.network.specs.Words.{station_of, kinds, occupied}
 use Rattle.network.specs.Views.{counts_in, from_rows_in, to_rows_in, points_in, boxes_in}
-use Rattle.sized.specs.Sized.{ill_sized}
+use Rattle.placement.specs.Sized.{ill_sized}
 use Rattle.runs.specs.Run as Run
 use Rattle.runs.specs.Run.{Scene}
 use Rattle.runs.specs.Stages.Views.{held, lead}
-use Rattle.survey.specs.Stages.Runs.{runs_in}
-use Rattle.crossings.specs.Route as Route
-use Rattle.crossings.specs.Stages.Views.{Grid, grid, lines_in}
-use Rattle.crossings.specs.Gap.{gap_of}
-use Rattle.exits.proofs.Keeping.{exited_rows}
-use Rattle.routes.specs.Routes.{mesh_fits, crossings_of, route_refusal}
-use Rattle.routes.specs.Stages.Routed.{routed_in, Routes}
+use Rattle.results.specs.Stages.Runs.{runs_in}
+use Rattle.routing.specs.Route as Route
+use Rattle.routing.specs.Stages.Views.{Grid, grid, lines_in}
+use Rattle.routing.specs.Gap.{gap_of}
+use Rattle.routing.proofs.exits.Keeping.{exited_rows}
+use Rattle.routing.specs.Routes.{mesh_fits, crossings_of, route_refusal}
+use Rattle.routing.specs.Stages.Routed.{routed_in, Routes}
 use Rattle.drawing.specs.Network.{Network}
 use Rattle.drawing.specs.Drawing as Drawing
 use Rattle.drawing.specs.Drawing.{measures_of, planned, drawing, straight_scene, led_scene, routed_scene, routed_of, scene_of}

@@ -7,22 +7,22 @@ use mathlib.Core.List.{List, map}
 use lib.ListN.{length}
 use lib.Ieee.{Float}
 use mir.ValLaws.{to_z-of_z}
-use Rattle.order.proofs.Tables.{table_ext}
-use Rattle.geometry.specs.declared.Point.{Point}
-use Rattle.geometry.specs.Plane.{point_at}
-use Rattle.options.specs.declared.Options.{Options}
-use Rattle.options.specs.Options.{search_of}
+use Rattle.numbers.proofs.order.Tables.{table_ext}
+use Rattle.plane.specs.declared.geometry.Point.{Point}
+use Rattle.plane.specs.Plane.{point_at}
+use Rattle.network.specs.declared.options.Options.{Options}
+use Rattle.network.specs.Options.{search_of}
 use Rattle.network.specs.Words.{station_of, station_count, kinds}
 use Rattle.network.proofs.Stations.{station_below}
 use Rattle.network.specs.Views.{columns_in, from_rows_in, to_rows_in, points_in, boxes_in}
-use Rattle.free_places.specs.Search.{Frame}
+use Rattle.placement.specs.Search.{Frame}
 use Rattle.placement.specs.Stages.Views.{frames_in}
-use Rattle.plan.specs.Stages.Plan.{Interiors, Settled}
-use Rattle.bars.specs.Bar as Bars
-use Rattle.spans.specs.Stages.Span.{spans_in}
+use Rattle.placement.specs.Stages.Plan.{Interiors, Settled}
+use Rattle.stations.specs.Bar as Bars
+use Rattle.stations.specs.Stages.Span.{spans_in}
 use Rattle.results.specs.Stages.Bars.{bars_in}
-use Rattle.crossings.specs.Stages.Views.{grid}
-use Rattle.exits.specs.Stages.Exits.{Exited}
+use Rattle.routing.specs.Stages.Views.{grid}
+use Rattle.routing.specs.Stages.Exits.{Exited}
 use Rattle.drawing.specs.Network.{Network}
 use Rattle.drawing.specs.Drawing.{measures_of, planned, straight_scene}
 use Rattle.chart.specs.Stages.Laid.{Holds, Laid}

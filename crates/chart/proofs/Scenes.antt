@@ -7,52 +7,52 @@ use mathlib.Core.List.{List, [], ◌∷◌, ◌++◌, map}
 use lib.IntN.{ℤ}
 use lib.ListN.{length, get_or}
 use lib.Ieee.{Float, nan}
-use Rattle.float.specs.Ops.{f0, f1, ◌⊗◌}
-use Rattle.order.specs.Table.{table_from, table}
-use Rattle.order.proofs.Tables.{length_table, get_d_table, table_ext}
-use Rattle.order.proofs.Strides.{get_d_first, get_d_strided}
-use Rattle.geometry.specs.declared.Point.{Point}
-use Rattle.geometry.specs.declared.Box.{Box}
-use Rattle.geometry.specs.Plane.{origin, no_box, box_in}
-use Rattle.options.specs.declared.Gaps.{Gaps}
-use Rattle.options.specs.declared.Options.{Options}
-use Rattle.options.specs.Options.{search_of}
+use Rattle.numbers.specs.Ops.{f0, f1, ◌⊗◌}
+use Rattle.numbers.specs.Table.{table_from, table}
+use Rattle.numbers.proofs.order.Tables.{length_table, get_d_table, table_ext}
+use Rattle.numbers.proofs.order.Strides.{get_d_first, get_d_strided}
+use Rattle.plane.specs.declared.geometry.Point.{Point}
+use Rattle.plane.specs.declared.geometry.Box.{Box}
+use Rattle.plane.specs.Plane.{origin, no_box, box_in}
+use Rattle.network.specs.declared.options.Gaps.{Gaps}
+use Rattle.network.specs.declared.options.Options.{Options}
+use Rattle.network.specs.Options.{search_of}
 use Rattle.network.specs.declared.words.Kind.{Kind}
 use Rattle.network.specs.declared.words.Kind.TheVariants.{Undrawn, Open, Internal, Line}
 use Rattle.network.specs.Words.{station_of, bus_counts, kind_of, kinds, Safe, occupied}
-use Rattle.seeds.specs.Seed as Seed
+use Rattle.network.specs.Seed as Seed
 use Rattle.network.specs.Views.{counts_in, columns_in, from_rows_in, to_rows_in, points_in, boxes_in}
 use Rattle.network.proofs.Views.{get_d_points, get_d_boxes}
 use Rattle.network.proofs.Branches.{kind_safe}
-use Rattle.columns.specs.Column as Column
-use Rattle.rows.specs.Row as Row
-use Rattle.measures.specs.declared.Measures.{Measures}
-use Rattle.sizes.specs.Size as Sizes
-use Rattle.sizes.specs.Size.{Size, size_at}
-use Rattle.units.specs.Unit.{spacing, typical, unit_for}
-use Rattle.scales.specs.Scale as Scale
-use Rattle.sizes.specs.Stages.Views.{size_in, sizes_in, scales_in}
+use Rattle.stations.specs.Column as Column
+use Rattle.stations.specs.Row as Row
+use Rattle.stations.specs.declared.measures.Measures.{Measures}
+use Rattle.stations.specs.Size as Sizes
+use Rattle.stations.specs.Size.{Size, size_at}
+use Rattle.stations.specs.Unit.{spacing, typical, unit_for}
+use Rattle.stations.specs.Scale as Scale
+use Rattle.stations.specs.Stages.Views.{size_in, sizes_in, scales_in}
 use Rattle.offsets.specs.Offset.{offsets}
-use Rattle.turns.specs.Turns.{placement_order}
+use Rattle.placement.specs.Turns.{placement_order}
 use Rattle.placement.specs.Place as Place
-use Rattle.free_places.specs.Search as PlaceSearch
-use Rattle.free_places.specs.Search.{Frame, frame_for}
+use Rattle.placement.specs.Search as PlaceSearch
+use Rattle.placement.specs.Search.{Frame, frame_for}
 use Rattle.placement.specs.Stages.Views.{frames_in}
-use Rattle.bars.specs.declared.Bar.{Bar}
-use Rattle.bars.specs.Bar as Bars
-use Rattle.bars.specs.Bar.{Span, bare, bar_for, block_at, bar_at, row_end}
-use Rattle.spans.specs.Stages.Span.{span_at, spans_in}
-use Rattle.bars.specs.Exit.{exit}
+use Rattle.stations.specs.declared.bars.Bar.{Bar}
+use Rattle.stations.specs.Bar as Bars
+use Rattle.stations.specs.Bar.{Span, bare, bar_for, block_at, bar_at, row_end}
+use Rattle.stations.specs.Stages.Span.{span_at, spans_in}
+use Rattle.stations.specs.Exit.{exit}
 use Rattle.runs.specs.Run as Run
 use Rattle.runs.specs.Run.{Scene, slot, led_path, line_points, run_for, run_of}
-use Rattle.detour.specs.Stages.Paths.{path_in}
+use Rattle.boxes.specs.Stages.Paths.{path_in}
 use Rattle.runs.specs.Stages.Views.{RunLists, held, lead, block_of, bar_of, slot_of, exit_of, first_exit, second_exit, open_from, internal_from, led_in, led_run, line_from, run_from, way_of, way_count, run_in}
-use Rattle.crossings.specs.Stages.Views as Routing
-use Rattle.crossings.specs.Stages.Views.{grid, exit_at, line_between, line_in, lines_in}
-use Rattle.exits.specs.Stages.Exits.{exits_of, exits_in, Exited}
-use Rattle.survey.specs.Stages.Runs.{runs_in}
+use Rattle.routing.specs.Stages.Views as Routing
+use Rattle.routing.specs.Stages.Views.{grid, exit_at, line_between, line_in, lines_in}
+use Rattle.routing.specs.Stages.Exits.{exits_of, exits_in, Exited}
+use Rattle.results.specs.Stages.Runs.{runs_in}
 use Rattle.results.specs.Stages.Bars.{bars_in}
-use Rattle.plan.specs.Stages.Plan.{Interiors, Settled}
+use Rattle.placement.specs.Stages.Plan.{Interiors, Settled}
 use Rattle.drawing.specs.Network.{Network}
 use Rattle.drawing.specs.Drawing.{measures_of, straight_scene, led_scene, line_for, line_of, planned}
 use Rattle.chart.specs.Stages.Laid.{Holds}

@@ -6,14 +6,14 @@ use Prim.Native.Nat.{ℕ, ◌+◌, ◌*◌, ◌-◌, ◌^◌, ◌≤◌, ◌<◌
 use native.Mathlib.Omega.{arith}
 use lib.IntN.{ℤ}
 use lib.ListN.{length, get_or}
-use Rattle.order.proofs.Tables.{get_d_table, length_table, how_many_le}
-use Rattle.order.proofs.Strides.{get_d_first, get_d_strided}
-use Rattle.geometry.specs.declared.Point.{Point}
+use Rattle.numbers.proofs.order.Tables.{get_d_table, length_table, how_many_le}
+use Rattle.numbers.proofs.order.Strides.{get_d_first, get_d_strided}
+use Rattle.plane.specs.declared.geometry.Point.{Point}
 use Rattle.network.specs.declared.words.Kind.{Kind}
 use Rattle.network.specs.declared.words.Kind.TheVariants.{Undrawn, Open, Internal, Line}
 use Rattle.network.specs.Words.{kinds, kind_at}
 use Rattle.network.specs.Views.{from_rows_in, to_rows_in}
-use Rattle.rows.specs.Row.{row, from_row, to_row, from_rows, to_rows}
+use Rattle.stations.specs.Row.{row, from_row, to_row, from_rows, to_rows}
 
 module _ (sub : List ℕ) (seeds : List Point) (ks : List Kind) where
   row_le : (s e : ℕ) → row sub seeds ks s e ≤ length ks

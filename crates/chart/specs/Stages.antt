@@ -1,2 +1,3 @@
-pub mod Charted
+pub mod Lengths
 pub mod Laid
+pub mod Charted

@@ -5,18 +5,18 @@ use Prim.Native.Nat.{ℕ, ◌*◌, ◌^◌, ◌≤◌}
 use native.Mathlib.Nat.{le_refl, le_trans, mul-le-mul_right}
 use lib.Dec.{lit≤, lit<}
 use lib.Ieee.{Float, fits, lt, of_bits}
-use Rattle.float.specs.Small.{is_finite}
-use Rattle.float.specs.Hypot.{grains}
-use Rattle.float.specs.Ops.{num, f½, f2, ◌⊕◌, ◌⊖◌, ◌⊗◌, ◌⊘◌}
-use Rattle.float.specs.Double.{Stepped, Doubles}
-use Rattle.float.proofs.DoubleRange.{widen_to, add_stepped, mul_stepped}
-use Rattle.float.proofs.DoublePairs.{lt_of_doubles, widen_doubles, add_doubles, sub_doubles, mul_doubles_2, div_doubles, num_stepped}
-use Rattle.order.specs.Order.{pick}
-use Rattle.geometry.specs.declared.Box.{Box}
-use Rattle.options.specs.declared.Gaps.{Gaps}
-use Rattle.bars.specs.declared.Bar.{Bar}
-use Rattle.bars.specs.Bar.{Span, bare, rows, bar_x, row_y, reach, bar_middle, lengthened, bar_for}
-use Rattle.free_places.specs.Doubles.{DoublesBox}
+use Rattle.numbers.specs.Small.{is_finite}
+use Rattle.numbers.specs.Hypot.{grains}
+use Rattle.numbers.specs.Ops.{num, f½, f2, ◌⊕◌, ◌⊖◌, ◌⊗◌, ◌⊘◌}
+use Rattle.numbers.specs.Double.{Stepped, Doubles}
+use Rattle.numbers.proofs.float.DoubleRange.{widen_to, add_stepped, mul_stepped}
+use Rattle.numbers.proofs.float.DoublePairs.{lt_of_doubles, widen_doubles, add_doubles, sub_doubles, mul_doubles_2, div_doubles, num_stepped}
+use Rattle.numbers.specs.Order.{pick}
+use Rattle.plane.specs.declared.geometry.Box.{Box}
+use Rattle.network.specs.declared.options.Gaps.{Gaps}
+use Rattle.stations.specs.declared.bars.Bar.{Bar}
+use Rattle.stations.specs.Bar.{Span, bare, rows, bar_x, row_y, reach, bar_middle, lengthened, bar_for}
+use Rattle.placement.specs.Doubles.{DoublesBox}
 use Rattle.doubling.specs.Doubling.{EachGap}
 use Rattle.doubling.proofs.Sizes.{Gap, power, two, two_positive}
 

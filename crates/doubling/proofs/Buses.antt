@@ -9,21 +9,22 @@ use lib.Dec.{T, eqb}
 use lib.ListN.{length, get_or}
 use lib.Ieee.{Float, nan, binary64, fits}
 use lib.Ieee.Fits.{mul-fits}
-use Rattle.float.specs.Small.{is_finite}
-use Rattle.float.specs.Ops.{f2}
-use Rattle.float.specs.Double.{scaled}
-use Rattle.float.proofs.DoubleLaws.{finite_twice}
-use Rattle.order.specs.Order.{pick}
-use Rattle.order.proofs.Tables.{table_ext}
-use Rattle.geometry.specs.declared.Point.{Point}
-use Rattle.geometry.specs.Plane.{point, origin}
-use Rattle.options.specs.declared.Options.{Options}
+use Rattle.numbers.specs.Small.{is_finite}
+use Rattle.numbers.specs.Ops.{f2}
+use Rattle.numbers.specs.Double.{scaled}
+use Rattle.numbers.proofs.float.DoubleLaws.{finite_twice}
+use Rattle.numbers.specs.Order.{pick}
+use Rattle.numbers.proofs.order.Tables.{table_ext}
+use Rattle.plane.specs.declared.geometry.Point.{Point}
+use Rattle.plane.specs.Plane.{point, origin}
+use Rattle.network.specs.declared.options.Options.{Options}
 use Rattle.network.specs.Words.{station_count, station_of, buses_in}
-use Rattle.seeds.specs.Seed.{point_of, bus_point, plus, sum_to, mean, seed_of, seeds}
+use Rattle.network.specs.Seed.{point_of, bus_point, plus, sum_to, mean, seed_of, seeds}
 use Rattle.drawing.specs.Network.{Network}
 use Rattle.drawing.specs.Drawing.{planned, routed_of, scene_of, drawing}
 use Rattle.doubling.specs.Doubling.{HasPoint, Allowed, ScaledBus, with_map}
-use Rattle.doubling.proofs.Powers.{times2, times, at_times, scaled_front, both_true, had, absent_next, times_number, allowed_next}
+use Rattle.doubling.proofs.Powers.{at_times, scaled_front, both_true, had, absent_next, times_number, allowed_next}
+use Rattle.doubling.specs.Example.{times2, times}
 
 -- ---- maps with the same points
 sum_ext : (sub : List ℕ) (xy xy' : List Float) (s n : ℕ) → ((i : ℕ) → i < n → bus_point xy' i ≡ bus_point xy i) → sum_to sub xy' s n ≡ sum_to sub xy s n

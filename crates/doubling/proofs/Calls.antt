@@ -1,4 +1,4 @@
--- Change 11: two calls of layout, one of them with every coordinate scaled by 2 ^ k. Both give the same number, and where it is drawn the result lists hold the drawing scaled (`scaling`). Assumes nothing.
+-- Doubling: two calls of layout, one of them with every coordinate scaled by 2 ^ k. Both give the same number, and where it is drawn the result lists hold the drawing scaled (`scaling`). Assumes nothing.
 use mathlib.Core.Path.{◌≡◌, refl, sym, ap, ◌∙◌, subst}
 use mathlib.Core.List.{List, [], ◌∷◌, map}
 use Prim.Native.Nat.{ℕ, suc, ◌+◌, ◌*◌, ◌≤◌, ◌<◌}
@@ -6,20 +6,20 @@ use native.Mathlib.Omega.{arith}
 use lib.ListN.{length, take, drop, length-append, length-map}
 use lib.Seq.{take_at, drop_at}
 use lib.Ieee.{Float}
-use Rattle.float.specs.Double.{scaled}
-use Rattle.order.proofs.Tables.{length_table}
-use Rattle.options.specs.declared.Options.{Options}
+use Rattle.numbers.specs.Double.{scaled}
+use Rattle.numbers.proofs.order.Tables.{length_table}
+use Rattle.network.specs.declared.options.Options.{Options}
 use Rattle.network.specs.Words.{station_count, bus_counts, kind_of, kinds}
-use Rattle.seeds.specs.Seed.{bus_point}
-use Rattle.scales.specs.Scale.{scales}
+use Rattle.network.specs.Seed.{bus_point}
+use Rattle.stations.specs.Scale.{scales}
 use Rattle.placement.specs.Place.{boxes}
-use Rattle.bars.specs.Bar.{bars, position}
+use Rattle.stations.specs.Bar.{bars, position}
 use Rattle.runs.specs.Run.{Piece, role}
 use Rattle.runs.specs.Lists.{flat, point_numbers, box_numbers, bar_numbers, piece_numbers, after}
-use Rattle.order.specs.Over.{over}
+use Rattle.numbers.specs.Over.{over}
 use Rattle.std.specs.Prelude.{Option, Some, None, Result, Ok, Err}
-use Rattle.refusals.specs.declared.Refusal.{Refusal}
-use Rattle.refusals.specs.Refusal.{number_of}
+use Rattle.network.specs.declared.refusals.Refusal.{Refusal}
+use Rattle.network.specs.Refusal.{number_of}
 use Rattle.drawing.specs.declared.room.Room.{Room}
 use Rattle.drawing.specs.declared.answer.Plot.{Plot}
 use Rattle.drawing.specs.Network.{Network, Lists, Work, Crossings}
@@ -28,7 +28,8 @@ use Rattle.drawing.specs.Answer.{room_of, early, late, lists_of, lists_after, pl
 use Rattle.doubling.specs.Doubling.{Asked, ScaledMap, ScaledList, SameList, ScaledDrawing, ScaledCalls, with_map}
 use Rattle.doubling.proofs.Stage.{counts_length}
 use Rattle.doubling.proofs.Passed.{Passed}
-use Rattle.doubling.proofs.Powers.{times, Times, times_of}
+use Rattle.doubling.proofs.Powers.{Times, times_of}
+use Rattle.doubling.specs.Example.{times}
 use Rattle.doubling.proofs.Buses.{seeds_ext, drawing_ext, same_bus, bus_moved, bus_times}
 use Rattle.doubling.proofs.Early.{cut_at, cut_seeds, passed, early_same}
 
@@ -160,7 +161,7 @@ module _ (k : ℕ) (O : Options) (N : Network) (xy' : List Float) (T : Times k (
       drawn : (p : Plot) → ◌≡◌ {A = Result Plot Refusal} (Ok plot) (Ok p) → (p' : Plot) × ◌≡◌ {A = Result Plot Refusal} (Ok plot') (Ok p') × ScaledDrawing k N L L' (call_late None (drawing O N) L W X) (call_late None (drawing O (with_map N xy')) L' W' X') p p'
       drawn p e = (plot', refl, subst (λ (q : Plot). ScaledDrawing k N L L' (call_late None (drawing O N) L W X) (call_late None (drawing O (with_map N xy')) L' W' X') q plot') (drawn_plot plot p e) drawing-of)
 
--- ---- change 11
+-- ---- doubling
 module _ (k : ℕ) (O : Options) (N : Network) (A : Asked k O N) (xy' : List Float) (S : ScaledMap k (length N.station) N.xy xy') where
   -- both drawings, through the map cut to the buses' coordinates
   drawings : (R : Room) → early O N R ≡ None → Times k (drawing O N) (drawing O (with_map N xy'))

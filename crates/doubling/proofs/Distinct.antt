@@ -11,13 +11,13 @@ use lib.Dec.{T, leb, eqb}
 use lib.Ieee.{Float, nan, inf, fin, lt, of_bits}
 use lib.Ieee.Bits.{is_true}
 use borrow.Author.Tests.{ne_eqb}
-use Rattle.float.specs.Small.{is_finite, min_of}
-use Rattle.float.specs.Ops.{f0, order_key}
-use Rattle.order.specs.Order.{pick}
-use Rattle.order.specs.Table.{table_from, table}
-use Rattle.order.specs.Median.{finite_of, insert_float, sort_floats, middle, median_of}
-use Rattle.geometry.specs.Plane.{point_at}
-use Rattle.proximity.specs.Near.{distance, nearer, nearest_to, nearest}
+use Rattle.numbers.specs.Small.{is_finite, min_of}
+use Rattle.numbers.specs.Ops.{f0, order_key}
+use Rattle.numbers.specs.Order.{pick}
+use Rattle.numbers.specs.Table.{table_from, table}
+use Rattle.numbers.specs.Median.{finite_of, insert_float, sort_floats, middle, median_of}
+use Rattle.plane.specs.Plane.{point_at}
+use Rattle.plane.specs.Near.{distance, nearer, nearest_to, nearest}
 
 -- ---- the least positive distance so far: infinite, or finite
 abbrev Least : Float → Type 0

@@ -1,4 +1,4 @@
--- Change 11 for the whole drawing: `drawing` of a network and of the same with every coordinate doubled (DoubledMap), without iterations. The refusals are the same; of the result lists the lengths are doubled,
+-- Doubling for the whole drawing: `drawing` of a network and of the same with every coordinate doubled (DoubledMap), without iterations. The refusals are the same; of the result lists the lengths are doubled,
 -- and scales, roles and the pieces' branches are the same. Assumes nothing.
 use mathlib.Core.Path.{◌≡◌, refl, sym, ap, ◌∙◌, subst}
 use mathlib.Core.Bool.{Bool, true, false, ◌&&◌}
@@ -10,33 +10,33 @@ use native.Mathlib.Decide.{dec_le}
 use lib.Dec.{leb, ltb}
 use lib.ListN.{length, get_or, get_or-eq_default}
 use lib.Ieee.{Float}
-use Rattle.float.specs.Ops.{f0}
-use Rattle.float.specs.Double.{twice, Doubles}
-use Rattle.order.specs.Order.{pick, up_from}
-use Rattle.order.specs.Table.{table}
-use Rattle.order.proofs.Tables.{length_table, get_d_table}
-use Rattle.geometry.specs.declared.Point.{Point}
-use Rattle.geometry.specs.declared.Box.{Box}
-use Rattle.options.specs.declared.Options.{Options}
-use Rattle.options.specs.Options.{search_of}
+use Rattle.numbers.specs.Ops.{f0}
+use Rattle.numbers.specs.Double.{twice, Doubles}
+use Rattle.numbers.specs.Order.{pick, up_from}
+use Rattle.numbers.specs.Table.{table}
+use Rattle.numbers.proofs.order.Tables.{length_table, get_d_table}
+use Rattle.plane.specs.declared.geometry.Point.{Point}
+use Rattle.plane.specs.declared.geometry.Box.{Box}
+use Rattle.network.specs.declared.options.Options.{Options}
+use Rattle.network.specs.Options.{search_of}
 use Rattle.network.specs.declared.words.Kind.{Kind}
 use Rattle.network.specs.Words.{bus_counts, kinds, occupied}
-use Rattle.geometry.specs.Plane.{no_box}
+use Rattle.plane.specs.Plane.{no_box}
 use Rattle.placement.specs.Place.{boxes}
-use Rattle.sized.specs.Sized.{ill_sized}
-use Rattle.bars.specs.declared.Bar.{Bar}
-use Rattle.bars.specs.Bar.{bars, position}
-use Rattle.crossings.specs.Route as Route
-use Rattle.routes.specs.Routes.{mesh_used, crossings_of}
-use Rattle.routes.proofs.Few.{length_rounds, routing_short}
+use Rattle.placement.specs.Sized.{ill_sized}
+use Rattle.stations.specs.declared.bars.Bar.{Bar}
+use Rattle.stations.specs.Bar.{bars, position}
+use Rattle.routing.specs.Route as Route
+use Rattle.routing.specs.Routes.{mesh_used, crossings_of}
+use Rattle.routing.proofs.routes.Few.{length_rounds, routing_short}
 use Rattle.runs.specs.Run.{Scene, Piece, runs, run_of}
 use Rattle.runs.specs.Lists.{flat, point_numbers, box_numbers, bar_numbers, piece_numbers}
 use Rattle.drawing.specs.declared.room.Room.{Room}
 use Rattle.drawing.specs.Network.{Network}
 use Rattle.drawing.specs.Drawing.{Plan, planned, straight_scene, led_scene, routed_of, routed_scene, ways_of, scene_of, drawing}
 use Rattle.drawing.specs.Answer.{crossing_room, routed_by, late_by, late, lists_of}
-use Rattle.units.specs.Doubles.{DoublesPoint, Paired}
-use Rattle.free_places.specs.Doubles.{DoublesBox}
+use Rattle.stations.specs.Doubles.{DoublesPoint, Paired}
+use Rattle.placement.specs.Doubles.{DoublesBox}
 use Rattle.doubling.specs.Twice.{TwiceBox, Twice, DoubledMap}
 use Rattle.doubling.specs.Doubling.{with_map}
 use Rattle.doubling.proofs.Bars.{DoublesBar}

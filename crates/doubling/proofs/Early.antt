@@ -14,28 +14,28 @@ use lib.Seq.{get_or-take, get_or-append_seam}
 use lib.Ieee.{Float, nan, inf, fin, down, binary64, fits, lt, le, eq, of_bits}
 use lib.Ieee.Fits.{down_pos}
 use borrow.Author.Tests.{ltb-true, ltb-false}
-use Rattle.float.specs.Small.{abs_of, is_finite}
-use Rattle.float.specs.Ops.{f0, f1}
-use Rattle.float.specs.Double.{scaled}
-use Rattle.float.specs.Size.{most_test, AtMost}
-use Rattle.float.proofs.Signs.{abs_at}
-use Rattle.float.proofs.Keys.{not_both}
-use Rattle.float.proofs.SizeLaws.{between_most, most_lit}
-use Rattle.order.specs.Table.{how_many, which}
-use Rattle.order.proofs.Tables.{how_many_zero, how_many_no, which_suc, which_yes, length_table}
-use Rattle.geometry.specs.declared.Point.{Point}
-use Rattle.geometry.specs.Plane.{point_at}
-use Rattle.options.specs.declared.Gaps.{Gaps}
-use Rattle.options.specs.declared.Options.{Options}
-use Rattle.options.specs.Options.{between, search_fits, gap_fits, gaps_fit, in_range}
+use Rattle.numbers.specs.Small.{abs_of, is_finite}
+use Rattle.numbers.specs.Ops.{f0, f1}
+use Rattle.numbers.specs.Double.{scaled}
+use Rattle.numbers.specs.Size.{most_test, AtMost}
+use Rattle.numbers.proofs.float.Signs.{abs_at}
+use Rattle.numbers.proofs.float.Keys.{not_both}
+use Rattle.numbers.proofs.float.SizeLaws.{between_most, most_lit}
+use Rattle.numbers.specs.Table.{how_many, which}
+use Rattle.numbers.proofs.order.Tables.{how_many_zero, how_many_no, which_suc, which_yes, length_table}
+use Rattle.plane.specs.declared.geometry.Point.{Point}
+use Rattle.plane.specs.Plane.{point_at}
+use Rattle.network.specs.declared.options.Gaps.{Gaps}
+use Rattle.network.specs.declared.options.Options.{Options}
+use Rattle.network.specs.Options.{between, search_fits, gap_fits, gaps_fit, in_range}
 use Rattle.network.specs.Words.{station_count, bus_counts, is_occupied, occupied, kind_of, kinds}
-use Rattle.seeds.specs.Seed.{seeds, place_at}
+use Rattle.network.specs.Seed.{seeds, place_at}
 use Rattle.std.specs.Prelude.{Option, Some, None}
 use Rattle.std.specs.Option.{option_or}
-use Rattle.refusals.specs.declared.Refusal.{Refusal}
-use Rattle.refusals.specs.declared.Refusal.TheVariants as Refusals
-use Rattle.refusals.specs.Refusal.{too_many, above, far_out, too_far, refuse, shape_refusal}
-use Rattle.units.specs.Unit.{coordinates}
+use Rattle.network.specs.declared.refusals.Refusal.{Refusal}
+use Rattle.network.specs.declared.refusals.Refusal.TheVariants as Refusals
+use Rattle.network.specs.Refusal.{too_many, above, far_out, too_far, refuse, shape_refusal}
+use Rattle.stations.specs.Unit.{coordinates}
 use Rattle.drawing.specs.declared.room.Room.{Room}
 use Rattle.drawing.specs.Network.{Network}
 use Rattle.drawing.specs.Answer.{mesh_length, short_results, short_work, early}

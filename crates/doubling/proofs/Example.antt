@@ -9,47 +9,28 @@ use native.Mathlib.Omega.{arith}
 use lib.Dec.{T}
 use lib.ListN.{get_or}
 use lib.Ieee.{Float, nan, binary64, fits, eq, of_bits, lt, le, add, sub, mul, div, of_int, to_bits}
-use Rattle.float.specs.Small.{abs_of, is_finite, min_of, max_of}
-use Rattle.float.specs.Hypot.{hypot_of}
-use Rattle.float.specs.Key.{key_of}
-use Rattle.float.specs.Ops.{f0, f1, f2, f3, f4}
-use Rattle.float.specs.Double.{twice, scaled}
-use Rattle.order.specs.Order.{up_from, count, keep}
-use Rattle.order.specs.Table.{table_from}
-use Rattle.order.specs.Median.{median_of}
-use Rattle.proximity.specs.Near.{nearest}
-use Rattle.options.specs.declared.Options.{Options}
-use Rattle.options.specs.Options.{defaults}
+use Rattle.numbers.specs.Small.{abs_of, is_finite, min_of, max_of}
+use Rattle.numbers.specs.Hypot.{hypot_of}
+use Rattle.numbers.specs.Key.{key_of}
+use Rattle.numbers.specs.Ops.{f0, f1, f2, f3, f4}
+use Rattle.numbers.specs.Double.{twice, scaled}
+use Rattle.numbers.specs.Order.{up_from, count, keep}
+use Rattle.numbers.specs.Table.{table_from}
+use Rattle.numbers.specs.Median.{median_of}
+use Rattle.plane.specs.Near.{nearest}
+use Rattle.network.specs.declared.options.Options.{Options}
+use Rattle.network.specs.Options.{defaults}
 use Rattle.network.specs.Words.{past_to, station_count, buses_in, bus_counts, occupied}
-use Rattle.seeds.specs.Seed.{bus_point, point_of, sum_to, mean, seed_of, seeds}
-use Rattle.refusals.specs.Refusal.{above}
-use Rattle.rows.specs.Row.{rows_in}
-use Rattle.sizes.specs.Size.{size_for, sizes, sides}
-use Rattle.units.specs.Unit.{coordinates, spacing, spacing_of, typical, unit_for}
+use Rattle.network.specs.Seed.{bus_point, point_of, sum_to, mean, seed_of, seeds}
+use Rattle.network.specs.Refusal.{above}
+use Rattle.stations.specs.Row.{rows_in}
+use Rattle.stations.specs.Size.{size_for, sizes, sides}
+use Rattle.stations.specs.Unit.{coordinates, spacing, spacing_of, typical, unit_for}
 use Rattle.drawing.specs.Network.{Network, network}
 use Rattle.doubling.specs.Doubling.{HasPoint, Allowed, Asked}
-use Rattle.doubling.proofs.Powers.{times2}
-
-abbrev straight : Options
-straight = record {
-  fill = defaults.fill;
-  tier_radius = defaults.tier_radius;
-  tier_count_1 = defaults.tier_count_1;
-  tier_count_2 = defaults.tier_count_2;
-  tier_scale_1 = defaults.tier_scale_1;
-  tier_scale_2 = defaults.tier_scale_2;
-  search = defaults.search;
-  route_iterations = 0;
-  gaps = defaults.gaps;
-}
-
-abbrev pair : List Float → Network
-pair xy = network (0 ∷ 1 ∷ []) (0 ∷ 0 ∷ []) [] [] [] xy [] []
+use Rattle.doubling.specs.Example.{times2, straight, pair, points, close, unit_of}
 
 -- ---- met
-abbrev points : List Float
-points = f0 ∷ f0 ∷ f3 ∷ f4 ∷ []
-
 held : (k : ℕ) → T (fits binary64 (get_or points k nan))
 unfolding fits of_bits
 held zero = tt
@@ -94,15 +75,6 @@ asked = record {
 }
 
 -- ---- needed
--- the unit of stations without branches, at these points: the bits of a float
-unfoldable pub unit_of : List ℕ → List Float → ℕ
-unfolding defaults unit_for spacing spacing_of typical sizes size_for sides rows_in median_of nearest coordinates seeds seed_of sum_to mean bus_point point_of occupied bus_counts buses_in station_count past_to table_from up_from count keep eq le lt add sub mul div of_int of_bits to_bits hypot_of key_of min_of max_of is_finite
-unit_of sub xy = to_bits binary64 (unit_for straight.fill (spacing (seeds sub xy) (bus_counts sub)) (typical (sizes straight.gaps sub [] (bus_counts sub)) (bus_counts sub)))
-
--- 2 ^ -1072, four times the least positive f64
-abbrev close : List Float
-close = f0 ∷ f0 ∷ of_bits binary64 4 ∷ f0 ∷ []
-
 pub close_unit : unit_of (0 ∷ 1 ∷ []) close ≡ 0
 unfolding unit_of
 close_unit = refl

@@ -1,4 +1,4 @@
--- The scales, the frames and the boxes of two drawings, the second one's seeds doubled, with the ranges that 01's limits give. Assumes nothing.
+-- The scales, the frames and the boxes of two drawings, the second one's seeds doubled, with the ranges that the limits of seeds and options give. Assumes nothing.
 use mathlib.Core.Path.{◌≡◌, refl, sym, ap, ◌∙◌, subst}
 use mathlib.Core.Bool.{Bool, true, false}
 use mathlib.Core.List.{List, [], ◌∷◌}
@@ -7,27 +7,27 @@ use native.Mathlib.Nat.{le_refl, le_of_suc-le-suc, not-suc-le-zero, mul-le-mul_r
 use native.Mathlib.Omega.{arith}
 use lib.ListN.{length, get_or}
 use lib.Ieee.{Float, nan}
-use Rattle.float.specs.Ops.{f1, f2, ◌⊗◌, ◌⊘◌}
-use Rattle.float.specs.Double.{Stepped, Limit, Doubles}
-use Rattle.float.proofs.DoublePairs.{widen_doubles, mul_doubles, mul_doubles_2, div_doubles}
-use Rattle.order.specs.Order.{pick}
-use Rattle.order.specs.Table.{table_from}
-use Rattle.geometry.specs.declared.Point.{Point}
-use Rattle.geometry.specs.Plane.{point, point_at}
-use Rattle.proximity.specs.Near.{neighbours}
-use Rattle.options.specs.declared.Gaps.{Gaps}
-use Rattle.options.specs.declared.Options.{Options}
+use Rattle.numbers.specs.Ops.{f1, f2, ◌⊗◌, ◌⊘◌}
+use Rattle.numbers.specs.Double.{Stepped, Limit, Doubles}
+use Rattle.numbers.proofs.float.DoublePairs.{widen_doubles, mul_doubles, mul_doubles_2, div_doubles}
+use Rattle.numbers.specs.Order.{pick}
+use Rattle.numbers.specs.Table.{table_from}
+use Rattle.plane.specs.declared.geometry.Point.{Point}
+use Rattle.plane.specs.Plane.{point, point_at}
+use Rattle.plane.specs.Near.{neighbours}
+use Rattle.network.specs.declared.options.Gaps.{Gaps}
+use Rattle.network.specs.declared.options.Options.{Options}
 use Rattle.network.specs.Words.{is_occupied, occupied}
-use Rattle.seeds.specs.Seed.{place_at}
-use Rattle.sizes.specs.Size.{Size}
-use Rattle.units.specs.Unit.{coordinates}
-use Rattle.scales.specs.Scale.{tier, occupied_below, scale_at, scales_of, scales}
-use Rattle.scales.proofs.NearScales.{occupied_below_lem}
-use Rattle.free_places.specs.Search.{frame_for}
-use Rattle.units.specs.Doubles.{DoublesPoint}
-use Rattle.free_places.specs.Doubles.{DoublesFrame}
+use Rattle.network.specs.Seed.{place_at}
+use Rattle.stations.specs.Size.{Size}
+use Rattle.stations.specs.Unit.{coordinates}
+use Rattle.stations.specs.Scale.{tier, occupied_below, scale_at, scales_of, scales}
+use Rattle.stations.proofs.scales.NearScales.{occupied_below_lem}
+use Rattle.placement.specs.Search.{frame_for}
+use Rattle.stations.specs.Doubles.{DoublesPoint}
+use Rattle.placement.specs.Doubles.{DoublesFrame}
 use Rattle.doubling.proofs.Sizes.{Gap, two, two_positive}
-use Rattle.units.proofs.SpacingDoubles.{neighbours_of_doubles}
+use Rattle.stations.proofs.units.SpacingDoubles.{neighbours_of_doubles}
 
 -- ---- the seeds of some stations, as numbers side by side
 coordinate_even : (a b : Float) (l : List Float) (k : ℕ) → get_or (a ∷ b ∷ l) (2 * suc k) nan ≡ get_or l (2 * k) nan

@@ -1,4 +1,4 @@
--- The premises of change 11 as tests of floats, and the ranges that they give (`in_ranges`). Assumes nothing.
+-- The premises of doubling as tests of floats, and the ranges that they give (`in_ranges`). Assumes nothing.
 use mathlib.Core.Path.{◌≡◌, refl, sym, ap, ◌∙◌, subst}
 use mathlib.Core.Logic.{◌⊎◌, inl, inr}
 use mathlib.Core.Bool.{Bool, true, false, ◌&&◌, ◌||◌, beq, true≢false}
@@ -11,25 +11,25 @@ use lib.Dec.{T, ltb, eqb, lit≤, lit<}
 use lib.ListN.{length, get_or}
 use lib.Ieee.{Float, nan, inf, fin, up, down, binary64, fits, lt, le, eq, sub, of_bits}
 use borrow.Author.Tests.{lt-ltb, ltb-false, eq-eqb}
-use Rattle.float.specs.Small.{abs_of, is_finite}
-use Rattle.float.specs.Hypot.{grains, hypot_of}
-use Rattle.float.specs.Ops.{f0, f1, ◌⊖◌}
-use Rattle.float.specs.Double.{twice, Finite, Stepped}
-use Rattle.float.proofs.Keys.{plus, not_both}
-use Rattle.float.proofs.Sums.{sub_zero}
-use Rattle.float.proofs.Hypots.{hypot_above, hypot_comm}
-use Rattle.float.proofs.Bounds.{hypot_plus}
-use Rattle.float.proofs.DoubleKeys.{lt_abs}
-use Rattle.float.proofs.DoubleRange.{sub_stepped, hypot_stepped}
-use Rattle.geometry.specs.declared.Point.{Point}
-use Rattle.geometry.specs.Plane.{point_at}
-use Rattle.proximity.specs.Near.{distance}
-use Rattle.options.specs.declared.Options.{Options}
+use Rattle.numbers.specs.Small.{abs_of, is_finite}
+use Rattle.numbers.specs.Hypot.{grains, hypot_of}
+use Rattle.numbers.specs.Ops.{f0, f1, ◌⊖◌}
+use Rattle.numbers.specs.Double.{twice, Finite, Stepped}
+use Rattle.numbers.proofs.float.Keys.{plus, not_both}
+use Rattle.numbers.proofs.float.Sums.{sub_zero}
+use Rattle.numbers.proofs.float.Hypots.{hypot_above, hypot_comm}
+use Rattle.numbers.proofs.float.Bounds.{hypot_plus}
+use Rattle.numbers.proofs.float.DoubleKeys.{lt_abs}
+use Rattle.numbers.proofs.float.DoubleRange.{sub_stepped, hypot_stepped}
+use Rattle.plane.specs.declared.geometry.Point.{Point}
+use Rattle.plane.specs.Plane.{point_at}
+use Rattle.plane.specs.Near.{distance}
+use Rattle.network.specs.declared.options.Options.{Options}
 use Rattle.network.specs.declared.words.Kind.{Kind}
 use Rattle.network.specs.Words.{bus_counts, occupied}
-use Rattle.seeds.specs.Seed.{seeds}
-use Rattle.units.specs.Unit.{coordinates}
-use Rattle.units.specs.Doubles.{DoublesPoint}
+use Rattle.network.specs.Seed.{seeds}
+use Rattle.stations.specs.Unit.{coordinates}
+use Rattle.stations.specs.Doubles.{DoublesPoint}
 use Rattle.doubling.specs.Doubling.{sixty_fourth, Allowed, EachGap}
 use Rattle.doubling.proofs.Sizes.{Gap, power, sizeless}
 use Rattle.doubling.proofs.Seeds.{bus_doubles, seeds_doubles}

@@ -11,29 +11,30 @@ use lib.ListN.{length, get_or, get_or-map}
 use lib.Ieee.{Float, nan, inf, fin, up, down, binary64, fits, lt, eq, mul, of_bits}
 use lib.Ieee.Fits.{mul-fits}
 use borrow.Author.Tests.{le-ltb}
-use Rattle.float.specs.Small.{abs_of, is_finite}
-use Rattle.float.specs.Hypot.{grains}
-use Rattle.float.specs.Ops.{f0, f2, ◌⊗◌}
-use Rattle.float.specs.Double.{twice, scaled, Doublable}
-use Rattle.float.proofs.Bounds.{mul_finite}
-use Rattle.float.proofs.DoubleLaws.{eq_twice}
-use Rattle.float.proofs.DoubleOps.{grains_twice, twice_finite}
-use Rattle.float.proofs.DoubleKeys.{lt_abs, twice_mul}
-use Rattle.float.proofs.DoubleRange.{stepped_doublable}
-use Rattle.float.proofs.DoublePairs.{eq_of_doubles}
-use Rattle.geometry.specs.Plane.{point_at}
-use Rattle.options.specs.declared.Options.{Options}
+use Rattle.numbers.specs.Small.{abs_of, is_finite}
+use Rattle.numbers.specs.Hypot.{grains}
+use Rattle.numbers.specs.Ops.{f0, f2, ◌⊗◌}
+use Rattle.numbers.specs.Double.{twice, scaled, Doublable}
+use Rattle.numbers.proofs.float.Bounds.{mul_finite}
+use Rattle.numbers.proofs.float.DoubleLaws.{eq_twice}
+use Rattle.numbers.proofs.float.DoubleOps.{grains_twice, twice_finite}
+use Rattle.numbers.proofs.float.DoubleKeys.{lt_abs, twice_mul}
+use Rattle.numbers.proofs.float.DoubleRange.{stepped_doublable}
+use Rattle.numbers.proofs.float.DoublePairs.{eq_of_doubles}
+use Rattle.plane.specs.Plane.{point_at}
+use Rattle.network.specs.declared.options.Options.{Options}
 use Rattle.network.specs.declared.words.Kind.{Kind}
 use Rattle.network.specs.Words.{bus_counts, occupied, kinds}
-use Rattle.seeds.specs.Seed.{seeds}
-use Rattle.refusals.specs.Refusal.{above}
-use Rattle.units.specs.Unit.{coordinates}
+use Rattle.network.specs.Seed.{seeds}
+use Rattle.network.specs.Refusal.{above}
+use Rattle.stations.specs.Unit.{coordinates}
 use Rattle.drawing.specs.Network.{Network}
 use Rattle.drawing.specs.declared.room.Room.{Room}
 use Rattle.drawing.specs.Drawing.{Drawing, drawing}
 use Rattle.drawing.specs.Answer.{late, lists_of}
-use Rattle.units.specs.Doubles.{DoublesPoint}
+use Rattle.stations.specs.Doubles.{DoublesPoint}
 use Rattle.doubling.specs.Twice.{DoubledMap, Twice}
+use Rattle.doubling.specs.Example.{times, times2}
 use Rattle.doubling.specs.Doubling.{least, HasPoint, Allowed, ScaledBox, with_map}
 use Rattle.doubling.proofs.Passed.{Passed}
 use Rattle.doubling.proofs.Sizes.{power}
@@ -42,10 +43,6 @@ use Rattle.doubling.proofs.Frames.{coordinates_doubles}
 use Rattle.doubling.proofs.Stage.{sum_limit, buses_le}
 use Rattle.doubling.proofs.Premises.{coordinate_stepped, mapped, least_number, least_plus, at_least, farthest, farthest_number, farthest_plus, above_twice}
 use Rattle.doubling.proofs.Drawn.{doubling}
-
--- 2 times each number of a list
-abbrev pub times2 : List Float → List Float
-times2 xy = map (λ x. f2 ⊗ x) xy
 
 nan_twice : f2 ⊗ nan ≡ nan
 unfolding mul of_bits
@@ -203,12 +200,6 @@ module _ (k : ℕ) (O : Options) (sub : List ℕ) (ks : List Kind) (xy : List Fl
     second = P.second;
     different = different_at P.i P.j P.first P.second P.different;
   }
-
--- ---- doubled k times
--- each number of a list times 2, k times
-abbrev pub times : ℕ → List Float → List Float
-times zero xy = xy
-times (suc k) xy = times k (times2 xy)
 
 -- what is the same in two drawings, and what is scaled
 pub record Times (k : ℕ) (d d' : Drawing) : Type 0 where

@@ -1,4 +1,4 @@
--- What change 11 asks of a coordinate, as tests of floats, gives its range: a nonzero one is at least 2 ^ -500 and at most 5 × 10 ^ 11 in size. Assumes nothing.
+-- What doubling asks of a coordinate, as tests of floats, gives its range: a nonzero one is at least 2 ^ -500 and at most 5 × 10 ^ 11 in size. Assumes nothing.
 use mathlib.Core.Path.{◌≡◌, refl, sym, ap, ◌∙◌, subst}
 use mathlib.Core.Logic.{◌⊎◌, inl, inr}
 use mathlib.Core.Bool.{Bool, true, false, ◌&&◌}
@@ -9,16 +9,16 @@ use lib.Dec.{T, lit≤}
 use lib.ListN.{get_or, get_or-map}
 use lib.Ieee.{Float, nan, binary64, fits, lt, eq, of_bits}
 use borrow.Author.Tests.{ltb-false}
-use Rattle.float.specs.Small.{abs_of, is_finite}
-use Rattle.float.specs.Hypot.{grains}
-use Rattle.float.specs.Ops.{f0}
-use Rattle.float.specs.Double.{twice, scaled, Finite, Stepped}
-use Rattle.float.proofs.Signs.{abs_at}
-use Rattle.float.proofs.Whole.{abs_grains}
-use Rattle.float.proofs.DoubleLaws.{lt_twice, abs_twice, finite_twice}
-use Rattle.float.proofs.DoubleKeys.{lt_abs}
-use Rattle.float.proofs.DoubleRange.{number_stepped}
-use Rattle.refusals.specs.Refusal.{above}
+use Rattle.numbers.specs.Small.{abs_of, is_finite}
+use Rattle.numbers.specs.Hypot.{grains}
+use Rattle.numbers.specs.Ops.{f0}
+use Rattle.numbers.specs.Double.{twice, scaled, Finite, Stepped}
+use Rattle.numbers.proofs.float.Signs.{abs_at}
+use Rattle.numbers.proofs.float.Whole.{abs_grains}
+use Rattle.numbers.proofs.float.DoubleLaws.{lt_twice, abs_twice, finite_twice}
+use Rattle.numbers.proofs.float.DoubleKeys.{lt_abs}
+use Rattle.numbers.proofs.float.DoubleRange.{number_stepped}
+use Rattle.network.specs.Refusal.{above}
 use Rattle.doubling.specs.Twice.{DoubledMap}
 use Rattle.doubling.specs.Doubling.{least, Allowed}
 use Rattle.doubling.proofs.Seeds.{Mapped}

@@ -6,29 +6,29 @@ use Prim.Native.Nat.{ℕ, zero, suc, ◌^◌, ◌≤◌}
 use lib.Dec.{lit≤, lit<}
 use lib.ListN.{length, get_or}
 use lib.Ieee.{Float, le}
-use Rattle.float.specs.Small.{is_finite, min_of, max_of}
-use Rattle.float.specs.Ops.{f0, f1}
-use Rattle.float.specs.Double.{twice, Doubles}
-use Rattle.float.proofs.DoubleLaws.{min_twice, max_twice, finite_twice}
-use Rattle.float.proofs.DoublePairs.{lt_of_doubles, le_of_doubles, widen_doubles, abs_doubles, add_doubles, sub_doubles, div_doubles, zero_doubles}
-use Rattle.order.specs.Order.{pick}
-use Rattle.order.specs.Table.{joined}
-use Rattle.geometry.specs.declared.Point.{Point}
-use Rattle.geometry.specs.declared.Box.{Box}
-use Rattle.options.specs.declared.Gaps.{Gaps}
+use Rattle.numbers.specs.Small.{is_finite, min_of, max_of}
+use Rattle.numbers.specs.Ops.{f0, f1}
+use Rattle.numbers.specs.Double.{twice, Doubles}
+use Rattle.numbers.proofs.float.DoubleLaws.{min_twice, max_twice, finite_twice}
+use Rattle.numbers.proofs.float.DoublePairs.{lt_of_doubles, le_of_doubles, widen_doubles, abs_doubles, add_doubles, sub_doubles, div_doubles, zero_doubles}
+use Rattle.numbers.specs.Order.{pick}
+use Rattle.numbers.specs.Table.{joined}
+use Rattle.plane.specs.declared.geometry.Point.{Point}
+use Rattle.plane.specs.declared.geometry.Box.{Box}
+use Rattle.network.specs.declared.options.Gaps.{Gaps}
 use Rattle.network.specs.declared.words.Kind.{Kind}
 use Rattle.network.specs.declared.words.Kind.TheVariants.{Undrawn, Open, Internal, Line}
 use Rattle.network.specs.Words.{kind_at, station_of}
-use Rattle.seeds.specs.Seed.{place_at}
-use Rattle.geometry.specs.Plane.{box_in}
-use Rattle.detour.specs.Detour.{detour}
-use Rattle.bars.specs.declared.Bar.{Bar}
-use Rattle.bars.specs.Bar.{block_at, bar_at, position, row_end}
-use Rattle.bars.specs.Exit.{exit_x, exit}
+use Rattle.network.specs.Seed.{place_at}
+use Rattle.plane.specs.Plane.{box_in}
+use Rattle.boxes.specs.Detour.{detour}
+use Rattle.stations.specs.declared.bars.Bar.{Bar}
+use Rattle.stations.specs.Bar.{block_at, bar_at, position, row_end}
+use Rattle.stations.specs.Exit.{exit_x, exit}
 use Rattle.runs.specs.Run.{Scene, Piece, slot, led_path, line_points, run_for, run_of, apart, pieces, is_line, all_pieces}
 use Rattle.results.specs.Bounds.{around, around_all, nowhere, bounds_of}
-use Rattle.units.specs.Doubles.{DoublesPoint, Paired}
-use Rattle.free_places.specs.Doubles.{DoublesBox}
+use Rattle.stations.specs.Doubles.{DoublesPoint, Paired}
+use Rattle.placement.specs.Doubles.{DoublesBox}
 use Rattle.doubling.specs.Doubling.{EachGap}
 use Rattle.doubling.specs.Twice.{TwiceBox}
 use Rattle.doubling.proofs.Sizes.{Gap, power, two, two_positive}

@@ -11,25 +11,25 @@ use lib.ListN.{length, get_or, get_or-eq_default}
 use lib.Pow.{pow_pos}
 use lib.Ieee.{Float, nan}
 use borrow.Author.Tests.{lt-ltb, le-ltb}
-use Rattle.float.specs.Small.{is_finite}
-use Rattle.float.specs.Hypot.{grains}
-use Rattle.float.specs.Ops.{num, order_key, ◌⊘◌}
-use Rattle.float.specs.Double.{twice, Doublable, Stepped, Limit, Doubles}
-use Rattle.float.proofs.DoubleLaws.{finite_twice}
-use Rattle.float.proofs.DoubleKeys.{key_ltb_twice, key_eqb_twice}
-use Rattle.float.proofs.DoubleRange.{widen_to, stepped_doublable}
-use Rattle.float.proofs.DoublePairs.{widen_doubles, add_doubles, div_doubles, zero_doubles, num_stepped, num_grains}
-use Rattle.order.specs.Order.{pick, count, up_from, before}
-use Rattle.order.specs.Table.{table_from, table}
-use Rattle.order.proofs.Tables.{get_d_table, length_table}
-use Rattle.geometry.specs.declared.Point.{Point}
-use Rattle.geometry.specs.Plane.{point, origin}
+use Rattle.numbers.specs.Small.{is_finite}
+use Rattle.numbers.specs.Hypot.{grains}
+use Rattle.numbers.specs.Ops.{num, order_key, ◌⊘◌}
+use Rattle.numbers.specs.Double.{twice, Doublable, Stepped, Limit, Doubles}
+use Rattle.numbers.proofs.float.DoubleLaws.{finite_twice}
+use Rattle.numbers.proofs.float.DoubleKeys.{key_ltb_twice, key_eqb_twice}
+use Rattle.numbers.proofs.float.DoubleRange.{widen_to, stepped_doublable}
+use Rattle.numbers.proofs.float.DoublePairs.{widen_doubles, add_doubles, div_doubles, zero_doubles, num_stepped, num_grains}
+use Rattle.numbers.specs.Order.{pick, count, up_from, before}
+use Rattle.numbers.specs.Table.{table_from, table}
+use Rattle.numbers.proofs.order.Tables.{get_d_table, length_table}
+use Rattle.plane.specs.declared.geometry.Point.{Point}
+use Rattle.plane.specs.Plane.{point, origin}
 use Rattle.network.specs.declared.words.Kind.{Kind}
 use Rattle.network.specs.declared.words.Kind.TheVariants.{Undrawn, Open, Internal, Line}
 use Rattle.network.specs.Words.{station_count, station_of, buses_in, kind_at}
-use Rattle.seeds.specs.Seed.{point_of, bus_point, plus, sum_to, mean, seed_of, seeds, place_at}
-use Rattle.rows.specs.Row.{has_row, row_key, row, from_row, to_row, from_rows, to_rows}
-use Rattle.units.specs.Doubles.{DoublesPoint}
+use Rattle.network.specs.Seed.{point_of, bus_point, plus, sum_to, mean, seed_of, seeds, place_at}
+use Rattle.stations.specs.Row.{has_row, row_key, row, from_row, to_row, from_rows, to_rows}
+use Rattle.stations.specs.Doubles.{DoublesPoint}
 use Rattle.doubling.specs.Twice.{DoubledMap}
 
 -- ---- the points of the buses

@@ -14,28 +14,28 @@ use lib.Pow.{pow_pos, pow-lt}
 use lib.ListN.{length, get_or, get_or-eq_default}
 use lib.Ieee.{Float, fin, binary64, fits, lt, of_bits}
 use lib.Ieee.Exact.{HasValue}
-use Rattle.float.specs.Small.{is_finite, max_of}
-use Rattle.float.specs.Hypot.{grains}
-use Rattle.float.specs.Ops.{num, f0, f1, f2, order_key, ◌⊗◌}
-use Rattle.float.specs.Double.{Finite, Stepped, Limit}
-use Rattle.float.proofs.Pack.{same_value}
-use Rattle.float.proofs.RoundLaws.{value_of}
-use Rattle.float.proofs.Extremes.{max_first, max_second}
-use Rattle.float.proofs.DoubleRange.{widen_to, stepped_cases, max_stepped, add_stepped, mul_stepped}
-use Rattle.float.proofs.DoublePairs.{num_stepped, zero_doubles}
-use Rattle.order.specs.Order.{pick}
-use Rattle.order.specs.Table.{table}
-use Rattle.order.proofs.Tables.{get_d_table, length_table, how_many_le}
-use Rattle.order.specs.Median.{finite_of, insert_float, sort_floats, middle, median_of}
-use Rattle.geometry.specs.declared.Point.{Point}
-use Rattle.options.specs.declared.Gaps.{Gaps}
-use Rattle.options.specs.declared.Options.{Options}
+use Rattle.numbers.specs.Small.{is_finite, max_of}
+use Rattle.numbers.specs.Hypot.{grains}
+use Rattle.numbers.specs.Ops.{num, f0, f1, f2, order_key, ◌⊗◌}
+use Rattle.numbers.specs.Double.{Finite, Stepped, Limit}
+use Rattle.numbers.proofs.float.Pack.{same_value}
+use Rattle.numbers.proofs.float.RoundLaws.{value_of}
+use Rattle.numbers.proofs.float.Extremes.{max_first, max_second}
+use Rattle.numbers.proofs.float.DoubleRange.{widen_to, stepped_cases, max_stepped, add_stepped, mul_stepped}
+use Rattle.numbers.proofs.float.DoublePairs.{num_stepped, zero_doubles}
+use Rattle.numbers.specs.Order.{pick}
+use Rattle.numbers.specs.Table.{table}
+use Rattle.numbers.proofs.order.Tables.{get_d_table, length_table, how_many_le}
+use Rattle.numbers.specs.Median.{finite_of, insert_float, sort_floats, middle, median_of}
+use Rattle.plane.specs.declared.geometry.Point.{Point}
+use Rattle.network.specs.declared.options.Gaps.{Gaps}
+use Rattle.network.specs.declared.options.Options.{Options}
 use Rattle.network.specs.declared.words.Kind.{Kind}
 use Rattle.network.specs.Words.{buses_in, bus_counts, is_occupied, occupied}
-use Rattle.rows.specs.Row.{rows_in}
-use Rattle.sizes.specs.Size.{Size, width_for, height_for, size_for, sizes, size_at, sides}
-use Rattle.units.specs.Unit.{typical}
-use Rattle.scales.specs.Scale.{tier, scale_at, scales_of, scales}
+use Rattle.stations.specs.Row.{rows_in}
+use Rattle.stations.specs.Size.{Size, width_for, height_for, size_for, sizes, size_at, sides}
+use Rattle.stations.specs.Unit.{typical}
+use Rattle.stations.specs.Scale.{tier, scale_at, scales_of, scales}
 use Rattle.doubling.specs.Doubling.{EachGap}
 
 -- ---- constants

@@ -11,42 +11,42 @@ use lib.Dec.{lit≤, lit<}
 use lib.Pow.{pow_mono, shl_lt}
 use lib.ListN.{length, get_or, get_or-eq_default}
 use lib.Ieee.{Float}
-use Rattle.float.specs.Ops.{f0, f1}
-use Rattle.float.specs.Double.{Stepped, Limit, Doubles}
-use Rattle.float.proofs.DoublePairs.{widen_doubles, mul_doubles_2, zero_doubles}
-use Rattle.order.specs.Table.{table}
-use Rattle.order.specs.Median.{median_of}
-use Rattle.order.proofs.Tables.{get_d_table, length_table, how_many_le}
-use Rattle.geometry.specs.declared.Point.{Point}
-use Rattle.proximity.specs.Near.{nearest}
-use Rattle.options.specs.declared.Gaps.{Gaps}
-use Rattle.options.specs.declared.Options.{Options}
+use Rattle.numbers.specs.Ops.{f0, f1}
+use Rattle.numbers.specs.Double.{Stepped, Limit, Doubles}
+use Rattle.numbers.proofs.float.DoublePairs.{widen_doubles, mul_doubles_2, zero_doubles}
+use Rattle.numbers.specs.Table.{table}
+use Rattle.numbers.specs.Median.{median_of}
+use Rattle.numbers.proofs.order.Tables.{get_d_table, length_table, how_many_le}
+use Rattle.plane.specs.declared.geometry.Point.{Point}
+use Rattle.plane.specs.Near.{nearest}
+use Rattle.network.specs.declared.options.Gaps.{Gaps}
+use Rattle.network.specs.declared.options.Options.{Options}
 use Rattle.network.specs.declared.words.Kind.{Kind}
 use Rattle.network.specs.Words.{station_count, buses_in, bus_counts, occupied}
-use Rattle.seeds.specs.Seed.{seed_of, seeds, place_at}
-use Rattle.rows.specs.Row.{from_rows, to_rows}
-use Rattle.sizes.specs.Size.{Size, sizes, size_at}
-use Rattle.units.specs.Unit.{coordinates, spacing, typical, unit_for}
-use Rattle.scales.specs.Scale.{scales}
+use Rattle.network.specs.Seed.{seed_of, seeds, place_at}
+use Rattle.stations.specs.Row.{from_rows, to_rows}
+use Rattle.stations.specs.Size.{Size, sizes, size_at}
+use Rattle.stations.specs.Unit.{coordinates, spacing, typical, unit_for}
+use Rattle.stations.specs.Scale.{scales}
 use Rattle.offsets.specs.Offset.{offsets}
-use Rattle.geometry.specs.Plane.{box_in}
+use Rattle.plane.specs.Plane.{box_in}
 use Rattle.placement.specs.Place.{places, boxes}
-use Rattle.free_places.specs.Search.{Frame, frame_for, frames, frame_at}
-use Rattle.turns.specs.Turns.{placement_order}
-use Rattle.sized.specs.Sized.{ill_sized}
-use Rattle.turns.specs.Stages.Listed.{Turns}
-use Rattle.turns.proofs.Queue.{order_turns}
-use Rattle.units.specs.Doubles.{DoublesPoint}
-use Rattle.free_places.specs.Doubles.{DoublesBox, DoublesFrame, Reach}
+use Rattle.placement.specs.Search.{Frame, frame_for, frames, frame_at}
+use Rattle.placement.specs.Turns.{placement_order}
+use Rattle.placement.specs.Sized.{ill_sized}
+use Rattle.placement.specs.Stages.Listed.{Turns}
+use Rattle.placement.proofs.turns.Queue.{order_turns}
+use Rattle.stations.specs.Doubles.{DoublesPoint}
+use Rattle.placement.specs.Doubles.{DoublesBox, DoublesFrame, Reach}
 use Rattle.drawing.specs.Drawing.{measures_of}
 use Rattle.doubling.specs.Doubling.{EachGap}
 use Rattle.doubling.specs.Twice.{DoubledMap}
 use Rattle.doubling.proofs.Seeds.{Mapped, bus_doubles, seeds_doubles, from_rows_lem, to_rows_lem}
-use Rattle.units.proofs.SpacingDoubles.{spacing_doubles, unit_doubles}
+use Rattle.stations.proofs.units.SpacingDoubles.{spacing_doubles, unit_doubles}
 use Rattle.doubling.proofs.Sizes.{Gap, Blocks, power, sizes_stepped, typical_stepped, typical_positive, scales_stepped}
 use Rattle.doubling.proofs.Frames.{coordinates_doubles, scales_same, frame_doubles}
 use Rattle.placement.proofs.PlaceDoubles.{offsets_small, places_doubles, boxes_doubles}
-use Rattle.sized.proofs.SizedDoubles.{ill_sized_of_doubles}
+use Rattle.placement.proofs.sized.SizedDoubles.{ill_sized_of_doubles}
 
 -- ---- limits: up to 2 ^ 53 - 1 times a power of two
 limit : (q k : ℕ) → q < 2 ^ 53 → k ≤ 2044 → Limit (q * 2 ^ k)
@@ -106,7 +106,7 @@ pub counts_length : (sub : List ℕ) → length (bus_counts sub) ≡ station_cou
 unfolding bus_counts
 counts_length sub = length_table (buses_in sub) (station_count sub)
 
--- ---- what change 11 asks of the input, as ranges: 522 is 1074 - 500 - 52, 1016 is 1074 - 6 - 52
+-- ---- what doubling asks of the input, as ranges: 522 is 1074 - 500 - 52, 1016 is 1074 - 6 - 52
 pub record InRanges (O : Options) (sub : List ℕ) (ks : List Kind) (xy : List Float) : Type 0 where
   pub buses : length sub ≤ 2 ^ 12
   pub branches : length ks ≤ 2 ^ 13

@@ -11,30 +11,30 @@ use lib.Dec.{T, eqb, lit≤}
 use lib.ListN.{length, get_or, get_or-map, get_or-eq_default}
 use lib.Ieee.{Float, nan, inf, fin, lt}
 use lib.Ieee.Bits.{is_true}
-use Rattle.float.specs.Small.{is_finite, min_of}
-use Rattle.float.specs.Ops.{f0}
-use Rattle.float.specs.Double.{Doubles}
-use Rattle.float.proofs.DoublePairs.{widen_doubles, zero_doubles}
-use Rattle.order.specs.Order.{pick}
-use Rattle.order.specs.Table.{table}
-use Rattle.order.proofs.Tables.{get_d_table, length_table, how_many_le}
-use Rattle.geometry.specs.declared.Point.{Point}
-use Rattle.geometry.specs.declared.Box.{Box}
-use Rattle.options.specs.declared.Options.{Options}
+use Rattle.numbers.specs.Small.{is_finite, min_of}
+use Rattle.numbers.specs.Ops.{f0}
+use Rattle.numbers.specs.Double.{Doubles}
+use Rattle.numbers.proofs.float.DoublePairs.{widen_doubles, zero_doubles}
+use Rattle.numbers.specs.Order.{pick}
+use Rattle.numbers.specs.Table.{table}
+use Rattle.numbers.proofs.order.Tables.{get_d_table, length_table, how_many_le}
+use Rattle.plane.specs.declared.geometry.Point.{Point}
+use Rattle.plane.specs.declared.geometry.Box.{Box}
+use Rattle.network.specs.declared.options.Options.{Options}
 use Rattle.network.specs.declared.words.Kind.{Kind}
 use Rattle.network.specs.declared.words.Kind.TheVariants.{Undrawn, Open, Internal, Line}
 use Rattle.network.specs.Words.{kind_at, station_of, occupied, bus_counts}
-use Rattle.seeds.specs.Seed.{seeds}
-use Rattle.columns.specs.Column.{column, columns}
-use Rattle.rows.specs.Row.{row, from_row, to_row, from_rows, to_rows}
-use Rattle.geometry.specs.Plane.{box_in}
+use Rattle.network.specs.Seed.{seeds}
+use Rattle.stations.specs.Column.{column, columns}
+use Rattle.stations.specs.Row.{row, from_row, to_row, from_rows, to_rows}
+use Rattle.plane.specs.Plane.{box_in}
 use Rattle.placement.specs.Place.{boxes}
-use Rattle.free_places.specs.Search.{Frame, frame_at}
-use Rattle.bars.specs.declared.Bar.{Bar}
-use Rattle.bars.specs.Bar.{Span, bare, rows, include, include_end, include_branch, span_to, spans, bar_for, bars, bar_at, block_at}
+use Rattle.placement.specs.Search.{Frame, frame_at}
+use Rattle.stations.specs.declared.bars.Bar.{Bar}
+use Rattle.stations.specs.Bar.{Span, bare, rows, include, include_end, include_branch, span_to, spans, bar_for, bars, bar_at, block_at}
 use Rattle.results.specs.Bounds.{around, around_all, nowhere, bounds_of}
-use Rattle.units.specs.Doubles.{DoublesPoint}
-use Rattle.free_places.specs.Doubles.{DoublesBox, DoublesFrame}
+use Rattle.stations.specs.Doubles.{DoublesPoint}
+use Rattle.placement.specs.Doubles.{DoublesBox, DoublesFrame}
 use Rattle.doubling.specs.Twice.{TwiceBox, DoubledMap}
 use Rattle.doubling.proofs.Bars.{DoublesBar, Block, Rows, bar_doubles}
 use Rattle.doubling.proofs.Runs.{bounds_doubled}

@@ -1,16 +1,18 @@
--- Change 11: what it asks of a network and its options, and what it says of two calls of layout, one of them with every coordinate scaled by 2 ^ k (k = 1: doubled). Definitions only.
-use Rattle.std.specs.Prelude.{◌≡◌, ◌⊎◌, true, false, ◌&&◌, List, map, ℕ, ◌+◌, ◌*◌, ◌≤◌, ◌<◌, T, length, get_or, take, drop, Float, Ok}
+-- Doubling (docs/RULES.md, 'Doubling'): what it asks of a network and its options, and what it says of two calls of
+-- layout, one of them with every coordinate scaled by 2 ^ k (k = 1: doubled). Definitions only.
+use Rattle.std.specs.Prelude.{◌≡◌, ◌⊎◌, true, false, ◌&&◌, List, map, ℕ, ◌+◌, ◌*◌, ◌≤◌, ◌<◌, T, length, get_or, take}
+use Rattle.std.specs.Prelude.{drop, Float, Ok}
 use Rattle.std.specs.Float.{nan, binary64}
 use Rattle.std.specs.Float.Ieee.{fits, lt, le, eq, of_bits}
-use Rattle.float.specs.Small.{abs_of, is_finite}
-use Rattle.float.specs.Ops.{f0}
-use Rattle.float.specs.Double.{scaled}
-use Rattle.geometry.specs.declared.Box.{Box}
-use Rattle.options.specs.declared.Gaps.{Gaps}
-use Rattle.options.specs.declared.Options.{Options}
+use Rattle.numbers.specs.Small.{abs_of, is_finite}
+use Rattle.numbers.specs.Ops.{f0}
+use Rattle.numbers.specs.Double.{scaled}
+use Rattle.plane.specs.declared.geometry.Box.{Box}
+use Rattle.network.specs.declared.options.Gaps.{Gaps}
+use Rattle.network.specs.declared.options.Options.{Options}
 use Rattle.network.specs.Words.{station_count, bus_counts, is_occupied}
-use Rattle.seeds.specs.Seed.{seeds, place_at}
-use Rattle.refusals.specs.Refusal.{above, number_of}
+use Rattle.network.specs.Seed.{seeds, place_at}
+use Rattle.network.specs.Refusal.{above, number_of}
 use Rattle.drawing.specs.declared.answer.Plot.{Plot}
 use Rattle.drawing.specs.Network.{Network, Lists}
 use Rattle.drawing.specs.Answer.{Call}
@@ -49,13 +51,15 @@ pub record InFormat (O : Options) (N : Network) : Type 0 where
   pub gaps : EachGap (λ x. T (fits binary64 x)) O.gaps
   pub map : (i : ℕ) → T (fits binary64 (get_or N.xy i nan))
 
--- Nothing is asked of the other options, of the number of buses and branches, of voltages, of the mesh or of the lent lists: what is refused is refused in both calls.
+-- Nothing is asked of the other options, of the number of buses and branches, of voltages, of the mesh or of the lent
+-- lists: what is refused is refused in both calls.
 pub record Asked (k : ℕ) (O : Options) (N : Network) : Type 0 where
   pub held : InFormat O N
   pub iterations : O.route_iterations ≡ 0
   pub fill : le sixty_fourth O.fill ≡ true
   pub radius : (eq O.tier_radius f0 ≡ true) ⊎ (le sixty_fourth O.tier_radius ≡ true)
-  pub points : (i : ℕ) → i < length N.station → HasPoint N.xy i → Allowed k (get_or N.xy (2 * i) nan) × Allowed k (get_or N.xy (2 * i + 1) nan)
+  pub points : (i : ℕ) → i < length N.station → HasPoint N.xy i
+      → Allowed k (get_or N.xy (2 * i) nan) × Allowed k (get_or N.xy (2 * i + 1) nan)
   -- two occupied stations, s and t, on different seeds
   pub s : ℕ
   pub t : ℕ
@@ -65,18 +69,30 @@ pub record Asked (k : ℕ) (O : Options) (N : Network) : Type 0 where
       (eq (place_at (seeds N.station N.xy) t).x (place_at (seeds N.station N.xy) s).x ≡ false)
       ⊎ (eq (place_at (seeds N.station N.xy) t).y (place_at (seeds N.station N.xy) s).y ≡ false)
 
--- The second map is the first times 2 ^ k, for the first n buses: a bus with a map point has that point scaled, one without has none.
+-- The second map is the first times 2 ^ k, for the first n buses: a bus with a map point has that point scaled, one
+-- without has none.
 pub record ScaledBus (k : ℕ) (xy xy' : List Float) (i : ℕ) : Type 0 where
   pub first : HasPoint xy i → get_or xy' (2 * i) nan ≡ scaled k (get_or xy (2 * i) nan)
   pub second : HasPoint xy i → get_or xy' (2 * i + 1) nan ≡ scaled k (get_or xy (2 * i + 1) nan)
-  pub absent : is_finite (get_or xy (2 * i) nan) && is_finite (get_or xy (2 * i + 1) nan) ≡ false → is_finite (get_or xy' (2 * i) nan) && is_finite (get_or xy' (2 * i + 1) nan) ≡ false
+  pub absent : is_finite (get_or xy (2 * i) nan) && is_finite (get_or xy (2 * i + 1) nan) ≡ false
+      → is_finite (get_or xy' (2 * i) nan) && is_finite (get_or xy' (2 * i + 1) nan) ≡ false
 
 abbrev pub ScaledMap : ℕ → ℕ → List Float → List Float → Type 0
 ScaledMap k n xy xy' = (i : ℕ) → i < n → ScaledBus k xy xy' i
 
 -- a network with other coordinates
 abbrev pub with_map : Network → List Float → Network
-with_map N xy' = record { station = N.station; kv = N.kv; from = N.from; to = N.to; service = N.service; xy = xy'; corners = N.corners; twins = N.twins }
+with_map N xy' =
+    record {
+      station = N.station;
+      kv = N.kv;
+      from = N.from;
+      to = N.to;
+      service = N.service;
+      xy = xy';
+      corners = N.corners;
+      twins = N.twins;
+    }
 
 -- ---- what is said
 
@@ -86,7 +102,8 @@ pub record ScaledBox (k : ℕ) (b b' : Box) : Type 0 where
   pub right : b'.right ≡ scaled k b.right
   pub bottom : b'.bottom ≡ scaled k b.bottom
 
--- A result list after each of two calls, of which the drawing fills the first n places: these numbers are scaled, and what stands past them is what stood there before the call.
+-- A result list after each of two calls, of which the drawing fills the first n places: these numbers are scaled, and
+-- what stands past them is what stood there before the call.
 pub record ScaledList (k n : ℕ) (before l before' l' : List Float) : Type 0 where
   pub filled : n ≤ length l
   pub filled' : n ≤ length l'

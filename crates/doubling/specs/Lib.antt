@@ -1,2 +1,4 @@
 pub mod Twice
 pub mod Doubling
+pub mod Example
+pub mod Laws

@@ -1,18 +1,22 @@
--- One doubling: two lists of coordinates, the second one's doubled, and two drawings, the second one's lengths doubled. Definitions only.
+-- One doubling: two lists of coordinates, the second one's doubled, and two drawings, the second one's lengths doubled.
+-- Definitions only.
 use Rattle.std.specs.Prelude.{◌≡◌, true, false, ◌&&◌, List, map, ℕ, ◌+◌, ◌*◌, length, get_or, Float}
 use Rattle.std.specs.Float.{nan}
-use Rattle.float.specs.Small.{is_finite}
-use Rattle.float.specs.Double.{twice}
-use Rattle.geometry.specs.declared.Box.{Box}
+use Rattle.numbers.specs.Small.{is_finite}
+use Rattle.numbers.specs.Double.{twice}
+use Rattle.plane.specs.declared.geometry.Box.{Box}
 use Rattle.drawing.specs.declared.room.Room.{Room}
 use Rattle.drawing.specs.Drawing.{Drawing}
 use Rattle.drawing.specs.Answer.{late, lists_of}
 
 -- the coordinates of bus i
 pub record DoubledBus (xy xy' : List Float) (i : ℕ) : Type 0 where
-  pub first : is_finite (get_or xy (2 * i) nan) ≡ true → is_finite (get_or xy (2 * i + 1) nan) ≡ true → get_or xy' (2 * i) nan ≡ twice (get_or xy (2 * i) nan)
-  pub second : is_finite (get_or xy (2 * i) nan) ≡ true → is_finite (get_or xy (2 * i + 1) nan) ≡ true → get_or xy' (2 * i + 1) nan ≡ twice (get_or xy (2 * i + 1) nan)
-  pub absent : is_finite (get_or xy (2 * i) nan) && is_finite (get_or xy (2 * i + 1) nan) ≡ false → is_finite (get_or xy' (2 * i) nan) && is_finite (get_or xy' (2 * i + 1) nan) ≡ false
+  pub first : is_finite (get_or xy (2 * i) nan) ≡ true → is_finite (get_or xy (2 * i + 1) nan) ≡ true
+      → get_or xy' (2 * i) nan ≡ twice (get_or xy (2 * i) nan)
+  pub second : is_finite (get_or xy (2 * i) nan) ≡ true → is_finite (get_or xy (2 * i + 1) nan) ≡ true
+      → get_or xy' (2 * i + 1) nan ≡ twice (get_or xy (2 * i + 1) nan)
+  pub absent : is_finite (get_or xy (2 * i) nan) && is_finite (get_or xy (2 * i + 1) nan) ≡ false
+      → is_finite (get_or xy' (2 * i) nan) && is_finite (get_or xy' (2 * i + 1) nan) ≡ false
 
 abbrev pub DoubledMap : List Float → List Float → Type 0
 DoubledMap xy xy' = (i : ℕ) → DoubledBus xy xy' i

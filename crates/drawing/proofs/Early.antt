@@ -1,10 +1,10 @@
 -- Refusals 1 to 7 by their tests.
 -- Assumes nothing.
 use mathlib.Core.Path.{◌≡◌, sym}
-use Rattle.options.specs.declared.Options.{Options}
+use Rattle.network.specs.declared.options.Options.{Options}
 use Rattle.std.specs.Prelude.{Some}
-use Rattle.refusals.specs.declared.Refusal.{Refusal}
-use Rattle.refusals.specs.Refusal.{shape_refusal}
+use Rattle.network.specs.declared.refusals.Refusal.{Refusal}
+use Rattle.network.specs.Refusal.{shape_refusal}
 use Rattle.drawing.specs.declared.room.Room.{Room}
 use Rattle.drawing.specs.Network.{Network}
 use Rattle.drawing.specs.Answer.{early}

@@ -1,5 +1,5 @@
 -- No number of a drawing is lost: where refusals 1 to 7, 15 and 9 let an input pass, each seed, the unit, each box corner, bar end, crossing place and route point is finite.
--- It is shown for every list of seeds within 10 ^ 12, whatever they come from; those of 01 are within it by refusal 6. Assumes nothing.
+-- It is shown for every list of seeds within 10 ^ 12, whatever they come from; a network's are within it by refusal 6. Assumes nothing.
 use mathlib.Core.Path.{◌≡◌, refl, sym, ap, ◌∙◌, subst}
 use mathlib.Core.Logic.{⊎_elim}
 use Prim.Native.Nat.{ℕ, zero, suc, ◌+◌, ◌^◌, ◌≤◌, ◌<◌, zero-le}
@@ -14,72 +14,72 @@ use lib.Dec.{T, ltb, eqb, lit≤}
 use lib.IntN.{ℤ, pos, negsuc}
 use lib.ListN.{length, get_or, get_or-map, get_or-eq_default}
 use lib.Ieee.{Float, nan, lt, le, binary64, of_bits, of_fields, odd}
-use Rattle.float.specs.Ops.{f0, f1}
-use Rattle.float.specs.Small.{is_finite}
-use Rattle.float.specs.Size.{AtMost, most_test}
-use Rattle.float.proofs.Keys.{plus}
-use Rattle.float.proofs.SizeLaws.{most_weaken, most_lit, mul_most, limit_most, f0_most}
-use Rattle.float.proofs.Quotients.{mul_plus}
-use Rattle.order.specs.Order.{pick, up_from, before, keep}
-use Rattle.order.specs.Table.{table, which}
-use Rattle.order.proofs.Laws.{all_at, get_d_up, length_up}
-use Rattle.order.proofs.Merging.{le_or_lt}
-use Rattle.order.proofs.Tables.{length_table, get_d_table, how_many_le, all_which}
-use Rattle.geometry.specs.declared.Point.{Point}
-use Rattle.geometry.specs.declared.Box.{Box}
-use Rattle.geometry.specs.Plane.{origin, box_in, no_box}
-use Rattle.geometry.proofs.PointSizes.{Near, Edges}
-use Rattle.mesh.specs.Mesh.{mesh_ok}
-use Rattle.mesh.proofs.Meshes.{Sound, mesh_sound}
-use Rattle.options.specs.declared.Options.{Options}
+use Rattle.numbers.specs.Ops.{f0, f1}
+use Rattle.numbers.specs.Small.{is_finite}
+use Rattle.numbers.specs.Size.{AtMost, most_test}
+use Rattle.numbers.proofs.float.Keys.{plus}
+use Rattle.numbers.proofs.float.SizeLaws.{most_weaken, most_lit, mul_most, limit_most, f0_most}
+use Rattle.numbers.proofs.float.Quotients.{mul_plus}
+use Rattle.numbers.specs.Order.{pick, up_from, before, keep}
+use Rattle.numbers.specs.Table.{table, which}
+use Rattle.numbers.proofs.order.Laws.{all_at, get_d_up, length_up}
+use Rattle.numbers.proofs.order.Merging.{le_or_lt}
+use Rattle.numbers.proofs.order.Tables.{length_table, get_d_table, how_many_le, all_which}
+use Rattle.plane.specs.declared.geometry.Point.{Point}
+use Rattle.plane.specs.declared.geometry.Box.{Box}
+use Rattle.plane.specs.Plane.{origin, box_in, no_box}
+use Rattle.plane.proofs.geometry.PointSizes.{Near, Edges}
+use Rattle.network.specs.Mesh.{mesh_ok}
+use Rattle.network.proofs.mesh.Meshes.{Sound, mesh_sound}
+use Rattle.network.specs.declared.options.Options.{Options}
 use Rattle.network.specs.declared.words.Kind.{Kind}
 use Rattle.network.specs.declared.words.Kind.TheVariants.{Undrawn, Open, Internal, Line}
-use Rattle.options.specs.Options.{in_range, between, search_fits, gaps_fit, search_of}
+use Rattle.network.specs.Options.{in_range, between, search_fits, gaps_fit, search_of}
 use Rattle.network.specs.Words.{station_count, buses_in, bus_counts, station_of, is_occupied, occupied, kind_of, kinds, kind_at, Safe}
 use Rattle.std.specs.Option.{option_or}
-use Rattle.refusals.specs.declared.Refusal.TheVariants as Refusals
-use Rattle.refusals.specs.Refusal.{refuse, too_far}
-use Rattle.seeds.specs.Seed as Seed
-use Rattle.seeds.specs.Seed.{place_at, seed_of}
-use Rattle.refusals.proofs.SeedSizes.{Times, seed_times}
+use Rattle.network.specs.declared.refusals.Refusal.TheVariants as Refusals
+use Rattle.network.specs.Refusal.{refuse, too_far}
+use Rattle.network.specs.Seed as Seed
+use Rattle.network.specs.Seed.{place_at, seed_of}
+use Rattle.network.proofs.refusals.SeedSizes.{Times, seed_times}
 use Rattle.network.proofs.Stations.{station_below}
 use Rattle.network.proofs.Branches.{kind_safe}
-use Rattle.columns.specs.Column as Column
-use Rattle.columns.specs.Column.{falling, voltage}
-use Rattle.rows.specs.Row as Row
-use Rattle.rows.specs.Row.{has_row, row_key, row}
-use Rattle.rows.proofs.RowLaw as RowLaw
-use Rattle.sizes.specs.Size as Sizes
-use Rattle.units.specs.Unit.{coordinates, spacing, typical, unit_for}
-use Rattle.scales.specs.Scale as Scale
-use Rattle.units.proofs.UnitSizes.{spacing_most, spacing_plus, typical_least, typical_positive, unit_most, unit_plus, coordinates_each, coordinates_length, point_near}
-use Rattle.sizes.proofs.SideSizes.{table_at, Sides, Narrow, gaps_narrow, sizes_most}
-use Rattle.scales.proofs.ScaleSizes.{Scaled, scale_in, scales_all, scales_at}
+use Rattle.stations.specs.Column as Column
+use Rattle.stations.specs.Column.{falling, voltage}
+use Rattle.stations.specs.Row as Row
+use Rattle.stations.specs.Row.{has_row, row_key, row}
+use Rattle.stations.proofs.rows.RowLaw as RowLaw
+use Rattle.stations.specs.Size as Sizes
+use Rattle.stations.specs.Unit.{coordinates, spacing, typical, unit_for}
+use Rattle.stations.specs.Scale as Scale
+use Rattle.stations.proofs.units.UnitSizes.{spacing_most, spacing_plus, typical_least, typical_positive, unit_most, unit_plus, coordinates_each, coordinates_length, point_near}
+use Rattle.stations.proofs.sizes.SideSizes.{table_at, Sides, Narrow, gaps_narrow, sizes_most}
+use Rattle.stations.proofs.scales.ScaleSizes.{Scaled, scale_in, scales_all, scales_at}
 use Rattle.offsets.specs.Offset as Offset
-use Rattle.turns.specs.Turns.{placement_order}
-use Rattle.turns.specs.Stages.Listed.{Turns}
-use Rattle.turns.proofs.Queue.{order_turns}
-use Rattle.turns.proofs.OrderLaw.{bus_occupied}
-use Rattle.sized.specs.Sized.{ill_sized}
+use Rattle.placement.specs.Turns.{placement_order}
+use Rattle.placement.specs.Stages.Listed.{Turns}
+use Rattle.placement.proofs.turns.Queue.{order_turns}
+use Rattle.placement.proofs.turns.OrderLaw.{bus_occupied}
+use Rattle.placement.specs.Sized.{ill_sized}
 use Rattle.placement.specs.Place as Place
-use Rattle.free_places.specs.Search as PlaceSearch
-use Rattle.free_places.specs.Search.{Frame, frame_at}
+use Rattle.placement.specs.Search as PlaceSearch
+use Rattle.placement.specs.Search.{Frame, frame_at}
 use Rattle.placement.proofs.PlaceSizes.{frames_most, places_near, offsets_near, boxes_most}
-use Rattle.bars.specs.declared.Bar.{Bar}
-use Rattle.bars.specs.Bar as Bars
-use Rattle.bars.specs.Bar.{block_at, bar_at}
-use Rattle.bars.proofs.BarSizes.{Barred, spans_spanned, bars_most, exit_near}
-use Rattle.detour.proofs.DetourSizes.{Points}
+use Rattle.stations.specs.declared.bars.Bar.{Bar}
+use Rattle.stations.specs.Bar as Bars
+use Rattle.stations.specs.Bar.{block_at, bar_at}
+use Rattle.stations.proofs.bars.BarSizes.{Barred, spans_spanned, bars_most, exit_near}
+use Rattle.boxes.proofs.detour.DetourSizes.{Points}
 use Rattle.runs.specs.Run as Run
 use Rattle.runs.specs.Run.{slot}
 use Rattle.runs.specs.Finite.{all_of, finite_point, finite_box, finite_bar}
 use Rattle.runs.proofs.RunSizes.{most_finite, near_finite, edges_finite, barred_finite, all_of_lem, all_each, Bounded, slot_near, runs_finite}
-use Rattle.crossings.specs.Route as Route
-use Rattle.crossings.specs.Route.{vertex_of}
-use Rattle.crossings.specs.Gap.{gap_of}
-use Rattle.rounds.proofs.CrossedSizes.{Lined, Firm}
-use Rattle.routes.specs.Routes.{mesh_used, mesh_fits, crossings_of, route_refusal}
-use Rattle.routes.proofs.RoundSizes.{crossings_most, ways_near}
+use Rattle.routing.specs.Route as Route
+use Rattle.routing.specs.Route.{vertex_of}
+use Rattle.routing.specs.Gap.{gap_of}
+use Rattle.routing.proofs.rounds.CrossedSizes.{Lined, Firm}
+use Rattle.routing.specs.Routes.{mesh_used, mesh_fits, crossings_of, route_refusal}
+use Rattle.routing.proofs.routes.RoundSizes.{crossings_most, ways_near}
 use Rattle.drawing.specs.Network.{Network}
 use Rattle.drawing.specs.Drawing.{measures_of, straight_scene, planned, led_scene, line_for, line_of, routed_scene, routed_of, ways_of, scene_of, Drawing, drawing}
 use Rattle.drawing.specs.declared.room.Room.{Room}
@@ -339,7 +339,7 @@ module _ (O : Options) (N : Network) (R : Ranged O) (few-buses : length N.statio
       at : (Narrow scene.gaps → ((s : ℕ) → Edges (1074 + 70) (box_in scene.boxes s)) → ((s : ℕ) → AtMost (1074 + 46) (block_at scene.blocks s)) → ((i : ℕ) → Barred (1074 + 73) (bar_at scene.bars i)) → Near (1074 + 73) (slot scene i row)) → Near (1074 + 73) (slot scene i row)
       at f = unfold straight_scene in f R.gaps boxed blocked barred
 
-  left_by : (s t i row : ℕ) → row ≤ 2 ^ 13 → Near 1184 (Rattle.bars.specs.Exit.exit boxes places s t (slot scene i row).y)
+  left_by : (s t i row : ℕ) → row ≤ 2 ^ 13 → Near 1184 (Rattle.stations.specs.Exit.exit boxes places s t (slot scene i row).y)
   left_by s t i row l = exit_near 1184 boxes places s t (slot scene i row).y (lit≤ tt) (boxed s) (most_weaken (1074 + 73) 1184 (slot scene i row).y (lit≤ tt) (slotted i row l).y)
 
   line_lined : (ra rb : ℕ) (c : Kind) (l : Route.Line) → ra ≤ 2 ^ 13 → rb ≤ 2 ^ 13 → Safe sub c → line_for scene ra rb c ≡ some l → Lined 1184 routed l
@@ -450,7 +450,7 @@ module _ (O : Options) (N : Network) (R : Ranged O) (few-buses : length N.statio
     all_finite_lem : (all_of finite_point seeds && (is_finite unit && (all_of finite_box boxes && (all_of finite_bar bars && (all_of is_finite (crossings_of routed O.route_iterations) && all_of (all_of finite_point) (Run.runs led)))))) ≡ true
     all_finite_lem = rw (seeds_finite, most_finite (1074 + 46) unit unit_is_most, boxes_finite, bars_finite, crossings_finite, points_finite)
 
--- ---- the drawing of 01's seeds
+-- ---- the drawing of a network's seeds
 
 -- every seed of a drawing lies within 10 ^ 12 either way
 abbrev pub SeedsWithin : Drawing → Type 0

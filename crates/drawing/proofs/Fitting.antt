@@ -9,20 +9,20 @@ use lib.IntN.{ℤ, pos, negsuc}
 use lib.ListN.{length}
 use lib.Ieee.{binary64, lt, le, of_bits}
 use borrow.Author.Tests.{ltb-false, leb-true}
-use Rattle.options.specs.declared.Options.{Options}
-use Rattle.float.specs.Ops.{f0, f1}
-use Rattle.options.specs.Options.{in_range, between, search_fits, gaps_fit, search_of}
+use Rattle.network.specs.declared.options.Options.{Options}
+use Rattle.numbers.specs.Ops.{f0, f1}
+use Rattle.network.specs.Options.{in_range, between, search_fits, gaps_fit, search_of}
 use Rattle.network.specs.Words.{station_count}
 use Rattle.std.specs.Prelude.{Option, Some, None}
 use Rattle.std.specs.Option.{option_or}
-use Rattle.refusals.specs.declared.Refusal.{Refusal}
-use Rattle.refusals.specs.declared.Refusal.TheVariants as Refusals
-use Rattle.refusals.specs.Refusal.{refuse, shape_refusal, too_far}
-use Rattle.box_cells.specs.Length.{index_length}
+use Rattle.network.specs.declared.refusals.Refusal.{Refusal}
+use Rattle.network.specs.declared.refusals.Refusal.TheVariants as Refusals
+use Rattle.network.specs.Refusal.{refuse, shape_refusal, too_far}
+use Rattle.boxes.specs.Length.{index_length}
 use Rattle.drawing.specs.declared.room.Room.{Room}
 use Rattle.drawing.specs.Network.{Network}
 use Rattle.drawing.specs.Answer.{early, mesh_length, sorting, short_results, short_work, crossing_room}
-use Rattle.refusals.proofs.Shapes.{Shape, shape_fits, test_on}
+use Rattle.network.proofs.refusals.Shapes.{Shape, shape_fits, test_on}
 
 -- The lent lists have the lengths that a network of this shape asks.
 pub record Fits (o : Options) (N : Network) (R : Room) : Type 0 where

@@ -8,9 +8,9 @@ use lib.Dec.{ltb}
 use borrow.Author.Tests.{ltb-false}
 use Rattle.std.specs.Prelude.{Option, Some, None}
 use Rattle.std.specs.Option.{option_or}
-use Rattle.refusals.specs.declared.Refusal.{Refusal}
-use Rattle.refusals.specs.declared.Refusal.TheVariants as Refusals
-use Rattle.refusals.specs.Refusal.{refuse}
+use Rattle.network.specs.declared.refusals.Refusal.{Refusal}
+use Rattle.network.specs.declared.refusals.Refusal.TheVariants as Refusals
+use Rattle.network.specs.Refusal.{refuse}
 use Rattle.drawing.specs.Answer.{piece_room, late_by}
 
 enough : (r : Option Refusal) (b : Bool) → option_or r (refuse b (Some Refusals.Pieces) None) ≡ None → b ≡ false

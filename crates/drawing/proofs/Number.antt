@@ -1,20 +1,20 @@
--- The number of a call is the chain of 01's table, which the definitions of its stages give part by part. Assumes nothing.
+-- The number of a call is the chain of the table of refusals, which the definitions of its stages give part by part. Assumes nothing.
 use Prim.Native.Nat.{ℕ}
 use mathlib.Core.Path.{◌≡◌, refl, ap, ◌∙◌}
 use mathlib.Core.Bool.{Bool, true, false, not, ◌||◌}
 use lib.Dec.{ltb}
 use lib.ListN.{length}
-use Rattle.options.specs.declared.Options.{Options}
-use Rattle.options.specs.Options.{in_range}
+use Rattle.network.specs.declared.options.Options.{Options}
+use Rattle.network.specs.Options.{in_range}
 use Rattle.network.specs.Words.{station_count, occupied}
 use Rattle.std.specs.Prelude.{Option, Some, None}
 use Rattle.std.specs.Option.{option_or}
-use Rattle.refusals.specs.declared.Refusal.{Refusal}
-use Rattle.refusals.specs.declared.Refusal.TheVariants as Refusals
-use Rattle.refusals.proofs.Numbers.{number_or, number_later, number_unless}
-use Rattle.refusals.specs.Refusal.{refuse, number_of, too_many, kv_unlike, to_unlike, number_too_high, stray_voltage, too_far, shape_refusal}
-use Rattle.sized.specs.Sized.{ill_sized}
-use Rattle.routes.specs.Routes.{route_refusal}
+use Rattle.network.specs.declared.refusals.Refusal.{Refusal}
+use Rattle.network.specs.declared.refusals.Refusal.TheVariants as Refusals
+use Rattle.network.proofs.refusals.Numbers.{number_or, number_later, number_unless}
+use Rattle.network.specs.Refusal.{refuse, number_of, too_many, kv_unlike, to_unlike, number_too_high, stray_voltage, too_far, shape_refusal}
+use Rattle.placement.specs.Sized.{ill_sized}
+use Rattle.routing.specs.Routes.{route_refusal}
 use Rattle.drawing.specs.Network.{Network, Lists, Work, Crossings}
 use Rattle.drawing.specs.Drawing.{drawing}
 use Rattle.drawing.specs.Answer.{room_of, mesh_length, short_results, short_work, crossing_room, piece_room, early, routed_by, late_by, late, answer_for, Call, call_late, call_early, layout_of}

@@ -2,12 +2,12 @@
 use mathlib.Core.Path.{◌≡◌, refl}
 use mathlib.Core.List.{List, ◌++◌, map}
 use lib.ListN.{length, drop}
-use Rattle.bars.specs.declared.Bar.{Bar}
-use Rattle.bars.specs.Bar.{position}
+use Rattle.stations.specs.declared.bars.Bar.{Bar}
+use Rattle.stations.specs.Bar.{position}
 use Rattle.runs.specs.Run.{Piece}
 use Rattle.runs.specs.Lists.{flat, point_numbers, box_numbers, bar_numbers, piece_numbers, after}
 use Rattle.std.specs.Prelude.{None}
-use Rattle.order.specs.Over.{over}
+use Rattle.numbers.specs.Over.{over}
 use Rattle.drawing.specs.Network.{Lists}
 use Rattle.drawing.specs.Drawing.{Drawing}
 use Rattle.drawing.specs.Answer.{lists_of, lists_after}

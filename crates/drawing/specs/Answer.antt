@@ -1,21 +1,22 @@
 -- Answers of a call: what layout returns, and what each lent list holds after it. Definitions only.
-use Rattle.std.specs.Prelude.{ℕ, ◌+◌, ◌*◌, ◌/◌, min, Bool, not, ◌&&◌, ◌||◌, List, map, ltb, length, replicate, Float, Option, Some, None, Result, Err}
+use Rattle.std.specs.Prelude.{ℕ, ◌+◌, ◌*◌, ◌/◌, min, Bool, not, ◌&&◌, ◌||◌, List, map, ltb, length, replicate, Float}
+use Rattle.std.specs.Prelude.{Option, Some, None, Result, Err}
 use Rattle.std.specs.Option.{option_or}
-use Rattle.float.specs.Small.{is_finite}
-use Rattle.float.specs.Ops.{f0}
-use Rattle.options.specs.declared.Options.{Options}
-use Rattle.options.specs.Options.{in_range}
+use Rattle.numbers.specs.Small.{is_finite}
+use Rattle.numbers.specs.Ops.{f0}
+use Rattle.network.specs.declared.options.Options.{Options}
+use Rattle.network.specs.Options.{in_range}
 use Rattle.network.specs.Words.{station_count, occupied}
-use Rattle.refusals.specs.declared.Refusal.{Refusal}
-use Rattle.refusals.specs.declared.Refusal.TheVariants as Refusals
-use Rattle.refusals.specs.Refusal.{refuse, unless, shape_refusal, too_far}
-use Rattle.sized.specs.Sized.{ill_sized}
-use Rattle.box_cells.specs.Length.{index_length}
-use Rattle.bars.specs.Bar.{position}
+use Rattle.network.specs.declared.refusals.Refusal.{Refusal}
+use Rattle.network.specs.declared.refusals.Refusal.TheVariants as Refusals
+use Rattle.network.specs.Refusal.{refuse, unless, shape_refusal, too_far}
+use Rattle.placement.specs.Sized.{ill_sized}
+use Rattle.boxes.specs.Length.{index_length}
+use Rattle.stations.specs.Bar.{position}
 use Rattle.drawing.specs.declared.room.Room.{Room}
 use Rattle.drawing.specs.declared.answer.Plot.{Plot}
 use Rattle.drawing.specs.Network.{Network, Lists, Work, Crossings, crossings}
-use Rattle.routes.specs.Routes.{route_refusal}
+use Rattle.routing.specs.Routes.{route_refusal}
 use Rattle.runs.specs.Run.{Piece}
 use Rattle.runs.specs.Finite.{all_of, finite_point, finite_box, finite_bar}
 use Rattle.runs.specs.Lists.{flat, point_numbers, box_numbers, bar_numbers, piece_numbers, after}
@@ -51,12 +52,13 @@ room_of L W X =
 abbrev pub mesh_length : Network → ℕ
 mesh_length N = min (length N.corners) 24576
 
--- 7: a result or work list of fixed length is too short, for n buses, m branches, k stations and the mesh length (docs/WORK.md)
+-- 7: a result or work list of fixed length is too short, for n buses, m branches, k stations and the mesh length
+-- (docs/WORK.md)
 unfoldable pub short_results : ℕ → ℕ → ℕ → Room → Bool
 short_results n m k R =
     ltb R.positions (2 * n) || (ltb R.bars (4 * n) || (ltb R.boxes (4 * k) || (ltb R.scales k || ltb R.roles m)))
 
--- the length of the three lists that sorts use; `sorted` also holds the tree of boxes
+-- the length of the three lists that sorts use; `sorted` also holds the grid of boxes
 abbrev pub sorting : ℕ → ℕ → ℕ → ℕ
 sorting n m mesh = n + 2 * m + mesh
 
@@ -64,7 +66,8 @@ unfoldable pub short_work : ℕ → ℕ → ℕ → Room → Bool
 short_work n m mesh R =
     ltb R.stations (2 * n) || (ltb R.buses (3 * n) || (ltb R.ends (4 * m + 4 * mesh + 4)
     || (ltb R.sorted (sorting n m mesh) || (ltb R.spare (sorting n m mesh) || (ltb R.keys (sorting n m mesh)
-    || (ltb R.places (2 * n + 4 * m) || (ltb R.blocks (3 * n) || (ltb R.frames (4 * n) || (ltb R.path (2 * n + 3 * mesh + 16) || ltb R.sorted (index_length n))))))))))
+    || (ltb R.places (2 * n + 4 * m) || (ltb R.blocks (3 * n) || (ltb R.frames (4 * n)
+    || (ltb R.path (2 * n + 3 * mesh + 16) || ltb R.sorted (index_length n))))))))))
 
 -- 1 to 7 and 15, none where none applies
 unfoldable pub early : Options → Network → Room → Option Refusal
@@ -79,12 +82,14 @@ early O N R =
 unfoldable pub piece_room : ℕ → ℕ → ℕ
 piece_room numbers names = min (numbers / 4) names
 
--- 10: crossings, those of cleared paths included, outnumber the lent crossing list, which holds as many as each of its six lists
+-- 10: crossings, those of cleared paths included, outnumber the lent crossing list, which holds as many as each of its
+-- six lists
 unfoldable pub crossing_room : Room → ℕ
 crossing_room R =
     min (R.numbers / 3) (min R.crossings (min (R.ways / 2) (min R.sorted (min R.spare R.keys))))
 
--- No number of a drawing is lost: each seed, the unit, each box corner, bar end, crossing place and route point is finite. Of every drawing that 1 to 9 and 15 let pass this is a theorem (proofs Finite).
+-- No number of a drawing is lost: each seed, the unit, each box corner, bar end, crossing place and route point is
+-- finite. Of every drawing that 1 to 7, 15 and 9 let pass `drawing::laws::no_lost_numbers` promises it.
 unfoldable pub all_finite : Drawing → Bool
 all_finite d =
     all_of finite_point d.seeds && (is_finite d.unit && (all_of finite_box d.boxes && (all_of finite_bar d.bars
@@ -132,7 +137,7 @@ lists_after r D L =
       branches = after r D.branches L.branches;
     }
 
--- After a call that isn't refused by 1 to 7 all work lists hold zeros.
+-- After a call that isn't refused by 1 to 7 or 15 all work lists hold zeros.
 abbrev pub zero_numbers : List ℕ → List ℕ
 zero_numbers l = replicate (length l) 0
 

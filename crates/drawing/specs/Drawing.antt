@@ -1,34 +1,35 @@
--- A drawing: what each step of 01 gives, handed on to the next. Definitions only.
+-- A drawing: what each step gives, handed on to the next. Definitions only.
+-- The steps stand in docs/RULES.md, from 'Branches and stations' to 'Runs, pieces, roles and bounds'.
 use Rattle.std.specs.Prelude.{ℕ, Bool, false, List, [], map, ltb, length, get_or, Float}
 use Rattle.std.proofs.Math.Option.{Option, none, some}
-use Rattle.float.specs.Ops.{f0}
-use Rattle.order.specs.Order.{pick}
-use Rattle.order.specs.Table.{table}
-use Rattle.geometry.specs.declared.Point.{Point}
-use Rattle.geometry.specs.declared.Box.{Box}
-use Rattle.options.specs.declared.Gaps.{Gaps}
-use Rattle.options.specs.declared.Options.{Options}
-use Rattle.options.specs.Options.{search_of}
+use Rattle.numbers.specs.Ops.{f0}
+use Rattle.numbers.specs.Order.{pick}
+use Rattle.numbers.specs.Table.{table}
+use Rattle.plane.specs.declared.geometry.Point.{Point}
+use Rattle.plane.specs.declared.geometry.Box.{Box}
+use Rattle.network.specs.declared.options.Gaps.{Gaps}
+use Rattle.network.specs.declared.options.Options.{Options}
+use Rattle.network.specs.Options.{search_of}
 use Rattle.network.specs.declared.words.Kind.{Kind}
 use Rattle.network.specs.declared.words.Kind.TheVariants.{Undrawn, Open, Internal, Line}
 use Rattle.network.specs.Words.{bus_counts, kinds, kind_at, station_of, occupied}
-use Rattle.seeds.specs.Seed as Seed
-use Rattle.columns.specs.Column as Column
-use Rattle.rows.specs.Row as Row
-use Rattle.measures.specs.declared.Measures.{Measures}
-use Rattle.sizes.specs.Size as Sizes
-use Rattle.units.specs.Unit.{coordinates, spacing, typical, unit_for}
-use Rattle.scales.specs.Scale as Scale
+use Rattle.network.specs.Seed as Seed
+use Rattle.stations.specs.Column as Column
+use Rattle.stations.specs.Row as Row
+use Rattle.stations.specs.declared.measures.Measures.{Measures}
+use Rattle.stations.specs.Size as Sizes
+use Rattle.stations.specs.Unit.{coordinates, spacing, typical, unit_for}
+use Rattle.stations.specs.Scale as Scale
 use Rattle.offsets.specs.Offset as Offset
-use Rattle.turns.specs.Turns.{placement_order}
+use Rattle.placement.specs.Turns.{placement_order}
 use Rattle.placement.specs.Place as Place
-use Rattle.free_places.specs.Search as PlaceSearch
-use Rattle.bars.specs.declared.Bar.{Bar}
-use Rattle.bars.specs.Bar as Bars
-use Rattle.bars.specs.Exit.{exit}
-use Rattle.crossings.specs.Route as Route
-use Rattle.crossings.specs.Gap.{gap_of}
-use Rattle.routes.specs.Routes.{mesh_used, mesh_fits, crossings_of}
+use Rattle.placement.specs.Search as PlaceSearch
+use Rattle.stations.specs.declared.bars.Bar.{Bar}
+use Rattle.stations.specs.Bar as Bars
+use Rattle.stations.specs.Exit.{exit}
+use Rattle.routing.specs.Route as Route
+use Rattle.routing.specs.Gap.{gap_of}
+use Rattle.routing.specs.Routes.{mesh_used, mesh_fits, crossings_of}
 use Rattle.drawing.specs.Network.{Network}
 use Rattle.runs.specs.Run as Run
 use Rattle.results.specs.Bounds.{bounds_of}
@@ -51,7 +52,8 @@ abbrev pub measures_of : Options → Float → Measures
 measures_of O unit = record { unit = unit; gaps = O.gaps }
 
 -- a scene whose lines run straight
-unfoldable pub straight_scene : List ℕ → List Kind → List ℕ → List ℕ → Gaps → List Float → List Box → List Point → List Bar → Scene
+unfoldable pub straight_scene :
+    List ℕ → List Kind → List ℕ → List ℕ → Gaps → List Float → List Box → List Point → List Bar → Scene
 straight_scene sub ks fromRows toRows gaps blocks boxes places bars =
     record {
       sub = sub;
@@ -189,7 +191,8 @@ ways_of R places = table (Route.waypoints R (Route.routing R) places) (length R.
 unfoldable pub scene_of : Options → Network → Plan → Scene
 scene_of O N P =
     let R = routed_of O N P in
-    led_scene P.scene (ltb 0 O.route_iterations) (occupied P.counts) (gap_of P.unit) (ways_of R (crossings_of R O.route_iterations))
+    led_scene P.scene (ltb 0 O.route_iterations) (occupied P.counts) (gap_of P.unit)
+    (ways_of R (crossings_of R O.route_iterations))
 
 unfoldable pub drawing : Options → Network → Drawing
 drawing O N =

@@ -2,3 +2,4 @@ pub mod Network
 pub mod Drawing
 pub mod Answer
 pub mod Number
+pub mod Laws

@@ -1,5 +1,7 @@
--- The lists that a call is lent: the network and its mesh, the result lists and the work lists. Definitions only.
+-- The lists that a call is lent: the network and its mesh, the result lists and the work lists
+-- (docs/RULES.md, 'Lists'; lengths in docs/WORK.md). Definitions only.
 use Rattle.std.specs.Prelude.{ℕ, List, ℤ, Float}
+use Rattle.network.specs.declared.lists.Network as Read
 
 -- `kv` holds the bit patterns of the voltages.
 pub record Network : Type 0 where
@@ -14,6 +16,10 @@ pub record Network : Type 0 where
 
 abbrev pub network : List ℕ → List ℕ → List ℤ → List ℤ → List ℕ → List Float → List ℕ → List ℕ → Network
 network a b c d e f g h = record { station = a; kv = b; from = c; to = d; service = e; xy = f; corners = g; twins = h }
+
+-- The network that lent lists hold.
+abbrev pub network_of : Read.Network → Network
+network_of N = network N.sub.now N.kv.now N.from.now N.to.now N.service.now N.xy.now N.mesh.corners.now N.mesh.twins.now
 
 -- the result lists
 pub record Lists : Type 0 where
@@ -38,7 +44,8 @@ pub record Work : Type 0 where
   pub frames : List Float
   pub path : List Float
 
--- The crossing list is these and the three lists that sort: for each crossing three numbers, its place, and the two numbers of its point.
+-- The crossing list is these and the three lists that sort: for each crossing three numbers, its place, and the two
+-- numbers of its point.
 pub record Crossings : Type 0 where
   pub numbers : List ℕ
   pub places : List Float

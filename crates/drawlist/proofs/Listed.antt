@@ -3,40 +3,42 @@
 use mathlib.Core.Path.{◌≡◌, refl, sym, ap, ◌∙◌, subst}
 use mathlib.Core.Bool.{Bool, true, false, cond}
 use mathlib.Core.List.{List, []}
-use Prim.Native.Nat.{ℕ, ◌*◌, ◌≤◌}
+use mathlib.Core.Logic.{◌⊎◌, inl, inr}
+use Prim.Native.Nat.{ℕ, ◌*◌, ◌≤◌, ◌<◌}
 use native.Mathlib.Omega.{arith}
 use lib.IntN.{ℤ}
 use lib.ListN.{length, take}
-use lib.Seq.{length-take-le}
+use lib.Seq.{length-take-le, take_all}
 use lib.Ieee.{Float}
-use Rattle.options.specs.declared.Options.{Options}
+use Rattle.network.specs.declared.options.Options.{Options}
 use Rattle.drawing.specs.declared.answer.Plot.{Plot}
 use Rattle.std.specs.Prelude.{Result, Ok, Err}
-use Rattle.refusals.specs.declared.Refusal.{Refusal}
-use Rattle.refusals.specs.Refusal.{number}
+use Rattle.network.specs.declared.refusals.Refusal.{Refusal}
+use Rattle.network.specs.Refusal.{number}
 use Rattle.drawing.specs.Network.{Network, network, Lists}
 use Rattle.layout.proofs.Drawn.{pieces_fit}
 use Rattle.small.specs.Small.{work_lists, crossing_lists, held_call, SmallCall}
-use Rattle.listing.specs.declared.input.Counts.{Counts}
-use Rattle.std.specs.Prelude.{Option, Some, None}
-use Rattle.listing.specs.Input.{parsed}
-use Rattle.order.specs.Over.{over}
-use Rattle.listing.specs.LinePlaces.{answer, number_of}
-use Rattle.listing.proofs.Writing.{take_over}
-use Rattle.listing.proofs.Laws.{parsed_shape, answered}
-use Rattle.listing.specs.Output.{listing, refusal}
-use Rattle.listed.specs.Output.{list_options, result_lists, plotted, Shown, text_by, text_of, network_of, output_of}
+use Rattle.text.specs.declared.listing.input.Counts.{Counts}
+use Rattle.std.specs.Prelude.{Option, Some, None, IfSome, OnOk}
+use Rattle.text.specs.Input.{parsed}
+use Rattle.numbers.specs.Over.{over}
+use Rattle.numbers.proofs.order.Merging.{le_or_lt}
+use Rattle.text.specs.LinePlaces.{answer, number_of}
+use Rattle.text.proofs.listing.Writing.{take_over}
+use Rattle.text.proofs.listing.Laws.{parsed_shape, answered, longest}
+use Rattle.text.specs.Output.{listing, refusal}
+use Rattle.small.specs.Output.{list_options, result_lists, plotted, Shown, text_by, text_of, network_of, output_of}
 
-pub shown_by : (N : Network) (L : Lists) (a : Result Plot Refusal) (L' : Lists) (o : Options)
-    → o ≡ list_options → SmallCall o N L 128 0 a L' → Shown N L a L'.roles L'.pieces L'.branches
+pub shown_by : (N : Network) (L : Lists) (a : Result Plot Refusal) (L' : Lists) (o : Options) (roles : List ℕ) (pieces : List Float) (branches : List ℕ)
+    → o ≡ list_options → SmallCall o N L 128 0 a L' → roles ≡ L'.roles → pieces ≡ L'.pieces → branches ≡ L'.branches → Shown N L a roles pieces branches
 unfolding plotted
-shown_by N L a L' o e H =
+shown_by N L a L' o roles pieces branches e H f g h =
     let P : SmallCall list_options N L 128 0 a L' = subst (λ (p : Options). SmallCall p N L 128 0 a L') e H in
     record {
       answer_is = P.answer_is;
-      roles_are = ap (λ (l : Lists). l.roles) P.lists_are;
-      pieces_are = ap (λ (l : Lists). l.pieces) P.lists_are;
-      branches_are = ap (λ (l : Lists). l.branches) P.lists_are;
+      roles_are = f ∙ ap (λ (l : Lists). l.roles) P.lists_are;
+      pieces_are = g ∙ ap (λ (l : Lists). l.pieces) P.lists_are;
+      branches_are = h ∙ ap (λ (l : Lists). l.branches) P.lists_are;
     }
 
 module _ (N : Network) (a : Result Plot Refusal) (r : List ℕ) (n : List Float) (b : List ℕ) (S : Shown N result_lists a r n b) where
@@ -59,7 +61,7 @@ same_network : {a a' b b' : List ℕ} {c c' d d' : List ℤ} {e e' : List ℕ} {
 same_network p q r s t u = rw (p, q, r, s, t, u)
 
 -- the front of a list that a text's part was written over
-front : {A : Type 0} (n : ℕ) (new old list : List A) → n ≡ length new → list ≡ over new old → take n list ≡ new
+pub front : {A : Type 0} (n : ℕ) (new old list : List A) → n ≡ length new → list ≡ over new old → take n list ≡ new
 front n new old list e h = ap (λ (l : List _). take n l) h ∙ ap (λ (k : ℕ). take k (over new old)) e ∙ take_over new old
 
 pub output_drawn : (t : List ℕ) (n : Counts) (a a' b b' : List ℕ) (c c' d d' : List ℤ) (e e' : List ℕ) (f f' : List Float)
@@ -95,6 +97,37 @@ output_malformed t h = malformed (parsed t).well_formed refl h
         → refusal 14 ≡ cond (parsed t).well_formed (text_of (network_of (parsed t))) (refusal (number_of (answer (parsed t))))
     malformed true e k = let z : ◌≡◌ {A = ℕ} 0 1 = cc in absurd (omega arith)
     malformed false e k = rw e
+
+-- ---- the front of a longer text
+past_most : (t : List ℕ) (b : Bool) → (parsed t).well_formed ≡ b → 6936 < length t → answer (parsed t) ≡ None
+unfolding answer
+past_most t true e h = absurd (omega (arith, h, longest t e))
+past_most t false e h = rw e
+
+long_malformed : (t : List ℕ) → 6936 < length t → refusal 14 ≡ output_of t
+long_malformed t h = output_malformed t (past_most t (parsed t).well_formed refl h)
+
+-- the first 6,937 bytes are enough
+pub enough : (t : List ℕ) → output_of (take 6937 t) ≡ output_of t
+enough t = by_length (le_or_lt (length t) 6937)
+  where
+    by_length : (length t ≤ 6937) ⊎ (6937 < length t) → output_of (take 6937 t) ≡ output_of t
+    by_length (inl h) = ap output_of (take_all 6937 t h)
+    by_length (inr h) =
+        let few : 6937 ≤ length t = omega arith in
+        let long : length (take 6937 t) ≡ 6937 = length-take-le 6937 t few in
+        sym (long_malformed (take 6937 t) (omega (arith, long))) ∙ long_malformed t (omega (arith, h))
+
+-- what holds of the front that was read holds of the text, where it is known
+pub known_text : (known : Option (List ℕ)) (got : List ℕ) (k : ℕ) (P : List ℕ → Type 0) → k ≡ 6937 → IfSome known (λ bytes. got ≡ take k bytes)
+    → P (output_of got) → IfSome known (λ bytes. P (output_of bytes))
+known_text None got k P e h p = tt
+known_text (Some bytes) got k P e h p = subst P (ap output_of (h ∙ ap (λ (n : ℕ). take n bytes) e) ∙ enough bytes) p
+
+pub text_written : {A E : Type 0} (r : Result A E) (known : Option (List ℕ)) (got : List ℕ) (k : ℕ) (P : List ℕ → Type 0) → k ≡ 6937
+    → IfSome known (λ bytes. got ≡ take k bytes) → OnOk r (P (output_of got)) → OnOk r (IfSome known (λ bytes. P (output_of bytes)))
+text_written (Ok v) known got k P e h p = known_text known got k P e h p
+text_written (Err v) known got k P e h p = tt
 
 -- as many buses and branches as the lists hold
 few_read : (t : List ℕ) (n : Counts) → answer (parsed t) ≡ Some n → (n.buses ≤ 64) × (n.branches ≤ 64)

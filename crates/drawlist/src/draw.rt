@@ -1,19 +1,19 @@
 // The text that drawlist writes for the text that it reads.
 ghost use Rattle.std.specs.Prelude.{◌≡◌, [], length};
 ghost use Rattle.drawing.specs.Network.{network};
-ghost use Rattle.order.specs.Over.{over};
-ghost use Rattle.listed.specs.Output.{text_of, output_of};
+ghost use Rattle.numbers.specs.Over.{over};
+ghost use Rattle.small.specs.Output.{text_of, output_of};
 
 use crate::plot::plot;
-use listing::input::parse;
-use listing::output::{print, print_refusal};
-use refusals::Refusal;
+use network::refusals::Refusal;
+use text::listing::input::parse;
+use text::listing::output::{print, print_refusal};
 
-// The length of the buffer that the text is written into, which is on the stack: the longest text has 15,960 bytes.
+// The length of the buffer that the text is written into, which is on the stack: the longest text
+// has 15,960 bytes.
 pub(crate) const ROOM: usize = 16384;
 
 // Draws a network of at most 64 buses and 64 branches, and writes its pieces or its refusal to out.
-// The lists stand as the public call takes them.
 fn list_drawing(
     sub: &[u32],
     kv: &[u64],
@@ -23,8 +23,10 @@ fn list_drawing(
     xy: &[f64],
     out: &mut [u8; ROOM],
 ) -> usize
-    ensures value { result ≡ length (text_of (network sub.now kv.now from.now to.now service.now xy.now [] [])) }
-    ensures out_after { out.new ≡ over (text_of (network sub.now kv.now from.now to.now service.now xy.now [] [])) out.old }
+    ensures byte_count { result ≡ length
+        (text_of (network sub.now kv.now from.now to.now service.now xy.now [] [])) }
+    ensures out_after { out.new ≡ over
+        (text_of (network sub.now kv.now from.now to.now service.now xy.now [] [])) out.old }
 {
     let mut roles = [0u8; 64];
     let mut pieces = [0f64; 768];
@@ -48,7 +50,7 @@ fn list_drawing(
 // What drawlist writes for a text: the pieces of its network's drawing, its refusal, or refusal 14.
 #[tactic(auto, using(crate::proofs::Listed::read_laws))]
 pub(crate) fn list_of(text: &[u8], out: &mut [u8; ROOM]) -> usize
-    ensures value { result ≡ length (output_of text.now) }
+    ensures byte_count { result ≡ length (output_of text.now) }
     ensures out_after { out.new ≡ over (output_of text.now) out.old }
 {
     let mut sub = [0u32; 64];

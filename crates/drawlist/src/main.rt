@@ -1,53 +1,60 @@
-// Reads a network from standard input and writes the pieces of its drawing (01, 'Worked drawings').
+//! Reads a network from standard input and writes the pieces of its drawing (docs/RULES.md, 'Text
+//! of drawlist').
 #![tactic(auto)]
 
 mod draw;
 mod plot;
 
-ghost use Rattle.std.specs.Prelude.{◌≡◌, take, OnOk, IfOk, IfSome};
+ghost use Rattle.std.specs.Prelude.{◌≡◌, ℕ, List, take, IfSome, IsOk, OnOk};
 ghost use Rattle.std.specs.Io.KnownBytes.{Appends};
-ghost use Rattle.listed.specs.Output.{output_of};
+ghost use Rattle.small.specs.Output.{output_of};
 
 use draw::{ROOM, list_of};
-use std::alloc::Global;
 use std::io;
-use std::io::{Read, Write};
+use streams::sink::{Sink, Writer};
+use streams::source::{Reader, Source, read_front};
 
-// The longest well-formed input has 6,936 bytes. One byte more is read, so that a longer one is seen to be malformed.
-const MOST_BYTES: u64 = 6937;
-
-// Reads until it has as many bytes or the input ends.
-fn read_text<R: Read + Drop>(alloc: Global, input: R) -> io::Result<Vec<u8>>
-    ensures { IfOk result (λ text. IfSome (R.remaining input) (λ bytes. text.items ≡ take 6937 bytes)) }
-{
-    let mut text = Vec::new(alloc);
-    input.take(MOST_BYTES).read_to_end(&mut text)?;
-    Ok(text)
-}
+// The longest well-formed input has 6,936 bytes. One byte more is read, so that a longer one is
+// seen to be malformed.
+const MOST_BYTES: usize = 6937;
 
 // Writes what comes of a text.
-#[tactic(auto, using(listing::proofs::Writing::front_laws))]
-fn write_list<W: Write>(text: &[u8], output: &mut W, out: &mut [u8; ROOM]) -> io::Result<()>
-    ensures { OnOk result (Appends (W.contents output.old) (W.contents output.new) (output_of text.now)) }
+#[tactic(auto, using(text::proofs::listing::Writing::front_laws))]
+fn write_list<W: Sink>(text: &[u8], output: &mut W, out: &mut [u8; ROOM]) -> io::Result<()>
+    ensures written { OnOk result
+        (Appends (W.contents output.old) (W.contents output.new) (output_of text.now)) }
+    ensures succeeds { W.takes output.old (output_of text.now) → IsOk result }
 {
     let count = list_of(text, out);
-    output.write_all(&out[..count])
+    output.put(&out[..count])
 }
 
-// Reads a text and writes what comes of it.
-fn run<R: Read + Drop, W: Write>(
-    alloc: Global,
-    input: R,
+/// Reads a text and writes what comes of it. Of a longer text the first 6,937 bytes are enough. No
+/// memory is asked for.
+#[tactic(auto, using(crate::proofs::Listed::enough))]
+pub fn run<R: Source, W: Sink>(
+    input: &mut R,
     output: &mut W,
+    text: &mut [u8; MOST_BYTES],
     out: &mut [u8; ROOM],
 ) -> io::Result<()>
-    ensures { OnOk result (IfSome (R.remaining input) (λ bytes. Appends (W.contents output.old) (W.contents output.new) (output_of (take 6937 bytes)))) }
+    ensures written { OnOk result (IfSome (R.left input.old) (λ bytes.
+        Appends (W.contents output.old) (W.contents output.new) (output_of bytes))) }
+    ensures succeeds { R.gives input.old → IfSome (R.left input.old) (λ bytes.
+        W.takes output.old (output_of bytes) → IsOk result) }
+    ensures enough { (bytes : List ℕ) → output_of (take 6937 bytes) ≡ output_of bytes }
 {
-    let text = read_text(alloc, input)?;
-    write_list(&text, output, out)
+    let count = read_front(input, text)?;
+    write_list(&text[..count], output, out)
 }
 
 fn main(rt: HostRuntime) -> io::Result<()> {
+    let mut text = [0u8; MOST_BYTES];
     let mut out = [0u8; ROOM];
-    run(rt.alloc(), rt.reader(), &mut io::writer(&rt), &mut out)
+    run(
+        &mut Reader(rt.reader()),
+        &mut Writer(io::writer(&rt)),
+        &mut text,
+        &mut out,
+    )
 }

@@ -1,12 +1,15 @@
-// A drawing at fill 1/2 and 0 iterations, the other options the default ones, in lists that it holds itself.
+// A drawing at fill 1/2 and 0 iterations, the other options the default ones, in lists that it
+// holds itself.
 ghost use Rattle.std.specs.Prelude.{◌≡◌, []};
 ghost use Rattle.drawing.specs.Network.{network};
-ghost use Rattle.small.specs.Small.{zeros};
-ghost use Rattle.listed.specs.Output.{list_options, Shown};
+ghost use Rattle.small.specs.Output.{list_options, lists_with, Shown};
 
 use drawing::answer::Plot;
-use options::Options;
-use refusals::Refusal;
+use lent::Lists;
+use network::lists::Network;
+use network::mesh::Mesh;
+use network::options::Options;
+use network::refusals::Refusal;
 use small::draw::draw_small;
 
 // The options of drawlist: fill 1/2, 0 iterations.
@@ -29,44 +32,44 @@ fn options() -> Options
 }
 
 // Draws, and gives what a listing shows: roles, pieces and their branches.
-// The lists stand as the public call takes them.
-pub(crate) fn plot(
-    sub: &[u32],
-    kv: &[u64],
-    from: &[i64],
-    to: &[i64],
-    service: &[u8],
-    xy: &[f64],
+pub(crate) fn plot<'a>(
+    sub: &'a [u32],
+    kv: &'a [u64],
+    from: &'a [i64],
+    to: &'a [i64],
+    service: &'a [u8],
+    xy: &'a [f64],
     roles: &mut [u8],
     pieces: &mut [f64],
     branches: &mut [u32],
 ) -> Result<Plot, Refusal>
-    ensures { Shown (network sub.now kv.now from.now to.now service.now xy.now [] []) (record { positions = zeros 128; bars = zeros 256; boxes = zeros 256; scales = zeros 64; roles = roles.old; pieces = pieces.old; branches = branches.old }) result roles.new pieces.new branches.new }
+    ensures { Shown (network sub.now kv.now from.now to.now service.now xy.now [] [])
+        (lists_with roles.old pieces.old branches.old) result roles.new pieces.new branches.new }
 {
     let mut positions = [0f64; 128];
     let mut bars = [0f64; 256];
     let mut boxes = [0f64; 256];
     let mut scales = [0f64; 64];
-    let corners = [0u32; 1];
-    let twins = [0u32; 1];
-    draw_small(
-        &mut positions,
-        &mut bars,
-        &mut boxes,
-        &mut scales,
+    let mut lists = Lists {
+        positions: &mut positions,
+        bars: &mut bars,
+        boxes: &mut boxes,
+        scales: &mut scales,
         roles,
         pieces,
         branches,
-        options(),
-        128,
-        0,
+    };
+    let network = Network {
         sub,
         kv,
         from,
         to,
         service,
         xy,
-        &corners[0..0],
-        &twins[0..0],
-    )
+        mesh: Mesh {
+            corners: &[],
+            twins: &[],
+        },
+    };
+    draw_small(&mut lists, options(), 128, 0, &network)
 }

@@ -1,16 +1,16 @@
 -- The numbers and the lists that cross, from those of the call inside. Assumes nothing.
 use mathlib.Core.Path.{◌≡◌, refl, ap, ◌∙◌}
-use Rattle.options.specs.declared.Options.{Options}
+use Rattle.network.specs.declared.options.Options.{Options}
 use Rattle.std.specs.Prelude.{Result, Ok, Err}
-use Rattle.refusals.specs.declared.Refusal.{Refusal}
-use Rattle.refusals.specs.Refusal.{number_of}
+use Rattle.network.specs.declared.refusals.Refusal.{Refusal}
+use Rattle.network.specs.Refusal.{number_of}
 use Rattle.drawing.specs.declared.answer.Plot.{Plot}
 use Rattle.drawing.specs.Network as Network
 use Rattle.drawing.specs.Answer as Layout
 use Rattle.drawing.specs.Number.{layout_number, Answered}
-use Rattle.findings.specs.declared.answer.Figures.{Figures}
-use Rattle.findings.specs.Drawn as Drawn
-use Rattle.findings.specs.Answer as Quality
+use Rattle.audit.specs.declared.findings.answer.Figures.{Figures}
+use Rattle.audit.specs.Drawn as Drawn
+use Rattle.audit.specs.Answer as Quality
 use Rattle.records.specs.declared.plain.Settings.{Settings}
 use Rattle.records.specs.declared.plain.Plotted.{Plotted}
 use Rattle.records.specs.declared.plain.Audited.{Audited}
@@ -26,7 +26,7 @@ unfolding audited number_of
 audit_numbered (Ok f) = refl
 audit_numbered (Err r) = refl
 
-pub layout_plain : (o : Options) (s : Settings) (r : Plotted) (a : Result Plot Refusal) (L' : Network.Lists) (W' : Network.Work) (X' : Network.Crossings)
+layout_plain : (o : Options) (s : Settings) (r : Plotted) (a : Result Plot Refusal) (L' : Network.Lists) (W' : Network.Work) (X' : Network.Crossings)
     (N : Network.Network) (L : Network.Lists) (W : Network.Work) (X : Network.Crossings)
     → o ≡ options_of s → r ≡ plotted a → Answered o N L W X (Layout.call a L' W' X')
     → LayoutAnswered s N L W X (drew r L' W' X')
@@ -41,7 +41,7 @@ layout_plain o s r a L' W' X' N L W X p e h =
           ∙ (ap plain_layout h.is ∙ ap (λ (t : Options). plain_layout (Layout.layout_of t N L W X)) p);
     }
 
-pub audit_plain : (r : Audited) (a : Result Figures Refusal) (L' : Drawn.Lists) (W' : Drawn.Work) (E : Drawn.Drawn) (L : Drawn.Lists) (W : Drawn.Work)
+audit_plain : (r : Audited) (a : Result Figures Refusal) (L' : Drawn.Lists) (W' : Drawn.Work) (E : Drawn.Drawn) (L : Drawn.Lists) (W : Drawn.Work)
     → r ≡ audited a → Quality.Answered E L W (Quality.call a L' W') → AuditAnswered E L W (judged r L' W')
 unfolding plain_audit
 audit_plain r a L' W' E L W e h =
@@ -49,3 +49,14 @@ audit_plain r a L' W' E L W e h =
       number = ap (λ (t : Audited). t.number) e ∙ (audit_numbered a ∙ h.number);
       is = ap (λ (t : Audited). judged t L' W') e ∙ ap plain_audit h.is;
     }
+
+-- The same where the lists stand in structs: they end as what the structs' lists hold.
+pub layout_lent : (o : Options) (s : Settings) (r : Plotted) (a : Result Plot Refusal) (L' L1 : Network.Lists) (W' W1 : Network.Work) (X' X1 : Network.Crossings)
+    (N : Network.Network) (L : Network.Lists) (W : Network.Work) (X : Network.Crossings)
+    → o ≡ options_of s → r ≡ plotted a → Answered o N L W X (Layout.call a L1 W1 X1) → L' ≡ L1 → W' ≡ W1 → X' ≡ X1
+    → LayoutAnswered s N L W X (drew r L' W' X')
+layout_lent o s r a L' L1 W' W1 X' X1 N L W X p e h f g k = rw (f, g, k) (layout_plain o s r a L1 W1 X1 N L W X p e h)
+
+pub audit_lent : (r : Audited) (a : Result Figures Refusal) (L' L1 : Drawn.Lists) (W' W1 : Drawn.Work) (E : Drawn.Drawn) (L : Drawn.Lists) (W : Drawn.Work)
+    → r ≡ audited a → Quality.Answered E L W (Quality.call a L1 W1) → L' ≡ L1 → W' ≡ W1 → AuditAnswered E L W (judged r L' W')
+audit_lent r a L' L1 W' W1 E L W e h f g = rw (f, g) (audit_plain r a L1 W1 E L W e h)

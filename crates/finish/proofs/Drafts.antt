@@ -8,28 +8,29 @@ use lib.Dec.{ltb}
 use lib.ListN.{length}
 use lib.Ieee.{Float, nan}
 use Rattle.std.specs.Prelude.{Option, Some, None, Ok, Err}
-use Rattle.order.specs.Over.{over}
-use Rattle.order.proofs.Tables.{table_ext}
-use Rattle.geometry.specs.declared.Box.{Box}
-use Rattle.options.specs.declared.Gaps.{Gaps}
-use Rattle.options.specs.declared.Options.{Options}
-use Rattle.refusals.specs.declared.Refusal.{Refusal}
-use Rattle.refusals.proofs.Unless as Unless
-use Rattle.refusals.proofs.Unless.{accepted}
+use Rattle.std.proofs.lemmas.Result.{err_from_is_err_and}
+use Rattle.numbers.specs.Over.{over}
+use Rattle.numbers.proofs.order.Tables.{table_ext}
+use Rattle.plane.specs.declared.geometry.Box.{Box}
+use Rattle.network.specs.declared.options.Gaps.{Gaps}
+use Rattle.network.specs.declared.options.Options.{Options}
+use Rattle.network.specs.declared.refusals.Refusal.{Refusal}
+use Rattle.network.proofs.refusals.Unless as Unless
+use Rattle.network.proofs.refusals.Unless.{accepted}
 use Rattle.network.specs.Words.{kinds, kind_of, occupied}
 use Rattle.network.specs.Views.{counts_in, boxes_in}
-use Rattle.sizes.specs.Stages.Views.{scales_in}
-use Rattle.bars.specs.Bar.{position}
+use Rattle.stations.specs.Stages.Views.{scales_in}
+use Rattle.stations.specs.Bar.{position}
 use Rattle.runs.specs.Run.{Piece, all_pieces, role}
 use Rattle.runs.proofs.Paths.{run_unled}
 use Rattle.runs.specs.Lists.{flat, point_numbers, box_numbers, bar_numbers, piece_numbers, after}
 use Rattle.runs.specs.Stages.Views.{RunLists, held, lead, lead_by}
-use Rattle.pieces.specs.Stages.Pieces.{branch_of}
-use Rattle.survey.specs.Stages.Runs.{runs_in}
+use Rattle.results.specs.Stages.Pieces.{branch_of}
+use Rattle.results.specs.Stages.Runs.{runs_in}
 use Rattle.results.specs.Stages.Bars.{bars_in}
 use Rattle.results.specs.Bounds.{bounds_of}
-use Rattle.crossings.specs.Gap.{gap_of}
-use Rattle.measures.specs.declared.Measures.{Measures}
+use Rattle.routing.specs.Gap.{gap_of}
+use Rattle.stations.specs.declared.measures.Measures.{Measures}
 use Rattle.drawing.specs.declared.answer.Plot.{Plot}
 use Rattle.drawing.specs.declared.room.Room.{Room}
 use Rattle.drawing.specs.Network.{Network, Lists}
@@ -158,3 +159,6 @@ module _ (o : Options) (N : Network) (k : ℕ) (R : Room) (stations buses ends :
                   (ne ∙ cc (all_pieces_lem))
                   (ee ∙ cc (all_pieces_lem)));
             }
+
+-- what `write` needs where it is refused
+pub ruleset write_laws = (accepted, err_from_is_err_and, refused)

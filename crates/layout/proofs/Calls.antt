@@ -4,9 +4,9 @@ use mathlib.Core.Path.{◌≡◌, sym, ◌∙◌}
 use Prim.Native.Nat.{ℕ, min}
 use native.Mathlib.Omega.{arith}
 use lib.ListN.{length}
-use Rattle.options.specs.declared.Options.{Options}
+use Rattle.network.specs.declared.options.Options.{Options}
 use Rattle.std.specs.Prelude.{Some, None, Result, Err}
-use Rattle.refusals.specs.declared.Refusal.{Refusal}
+use Rattle.network.specs.declared.refusals.Refusal.{Refusal}
 use Rattle.drawing.specs.declared.answer.Plot.{Plot}
 use Rattle.drawing.specs.Network.{Network, Lists, Work, Crossings}
 use Rattle.drawing.specs.Drawing.{drawing}
@@ -60,8 +60,8 @@ call_late_lem o N L L' W U W' X Y X' a e D w A x B =
     answered o N L W X (call a L' W' X') h
 
 -- the least of six, by pairs
-pub least : (a b c d e f : ℕ) → min (min (min a b) c) (min (min d e) f) ≡ min a (min b (min c (min d (min e f))))
-least a b c d e f = simp assoc
+pub six : (a b c d e f : ℕ) → min (min (min a b) c) (min (min d e) f) ≡ min a (min b (min c (min d (min e f))))
+six a b c d e f = simp assoc
   where
     assoc : (a b c : ℕ) → min (min a b) c ≡ min a (min b c)
     assoc a b c = omega arith

@@ -5,9 +5,9 @@ use Prim.Native.Nat.{◌*◌, ◌≤◌}
 use native.Mathlib.Omega.{arith}
 use lib.ListN.{length}
 use Rattle.std.specs.Prelude.{Option, Some, None, Ok}
-use Rattle.options.specs.declared.Options.{Options}
-use Rattle.refusals.specs.declared.Refusal.{Refusal}
-use Rattle.refusals.proofs.Unless.{accepted}
+use Rattle.network.specs.declared.options.Options.{Options}
+use Rattle.network.specs.declared.refusals.Refusal.{Refusal}
+use Rattle.network.proofs.refusals.Unless.{accepted}
 use Rattle.drawing.specs.declared.answer.Plot.{Plot}
 use Rattle.drawing.specs.Network.{Network, Lists, Work, Crossings}
 use Rattle.drawing.specs.Drawing.{drawing}

@@ -1,4 +1,5 @@
 // The public call.
 #![tactic(auto)]
 
+/// The call.
 pub mod call;

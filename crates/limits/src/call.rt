@@ -1,10 +1,19 @@
-// A call of layout with lists that are just long enough for 4,096 buses of one station, without branches and mesh.
+// A call of layout with lists that are just long enough for 4,096 buses of one station, without
+// branches and mesh (docs/WORK.md).
 use layout::call::tx_schematic_layout;
-use options::Options;
-use refusals::Refusal;
+use lent::{Crossings, Lists, Work};
+use network::lists::Network;
+use network::mesh::Mesh;
+use network::options::Options;
+use network::refusals::Refusal;
 
 // Whether these buses are drawn, or why they aren't.
-pub(crate) fn answer_of(o: Options, sub: &[u32], kv: &[u64], xy: &[f64]) -> Result<(), Refusal> {
+pub(crate) fn answer_of<'a>(
+    options: Options,
+    sub: &'a [u32],
+    kv: &'a [u64],
+    xy: &'a [f64],
+) -> Result<(), Refusal> {
     let mut positions = [0.0; 8192];
     let mut bars = [0.0; 16384];
     let mut boxes = [0.0; 8];
@@ -25,36 +34,43 @@ pub(crate) fn answer_of(o: Options, sub: &[u32], kv: &[u64], xy: &[f64]) -> Resu
     let mut crossing_numbers = [0; 1];
     let mut crossing_places = [0.0; 1];
     let mut crossing_ways = [0.0; 1];
-    tx_schematic_layout(
-        &mut positions,
-        &mut bars,
-        &mut boxes,
-        &mut scales,
-        &mut roles,
-        &mut pieces,
-        &mut branches,
-        &mut stations,
-        &mut buses,
-        &mut ends,
-        &mut sorted,
-        &mut spare,
-        &mut keys,
-        &mut places,
-        &mut blocks,
-        &mut frames,
-        &mut path,
-        &mut crossing_numbers,
-        &mut crossing_places,
-        &mut crossing_ways,
-        o,
+    let mut lists = Lists {
+        positions: &mut positions,
+        bars: &mut bars,
+        boxes: &mut boxes,
+        scales: &mut scales,
+        roles: &mut roles,
+        pieces: &mut pieces,
+        branches: &mut branches,
+    };
+    let mut work = Work {
+        stations: &mut stations,
+        buses: &mut buses,
+        ends: &mut ends,
+        sorted: &mut sorted,
+        spare: &mut spare,
+        keys: &mut keys,
+        places: &mut places,
+        blocks: &mut blocks,
+        frames: &mut frames,
+        path: &mut path,
+    };
+    let mut crossings = Crossings {
+        numbers: &mut crossing_numbers,
+        places: &mut crossing_places,
+        ways: &mut crossing_ways,
+    };
+    let network = Network {
         sub,
         kv,
-        &[],
-        &[],
-        &[],
+        from: &[],
+        to: &[],
+        service: &[],
         xy,
-        &[],
-        &[],
-    )
-    .map(|_| ())
+        mesh: Mesh {
+            corners: &[],
+            twins: &[],
+        },
+    };
+    tx_schematic_layout(&mut lists, &mut work, &mut crossings, options, &network).map(|_| ())
 }

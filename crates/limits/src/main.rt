@@ -1,6 +1,7 @@
-// The limits of the scope and of its changes, executed through the public call: how many buses, how wide a search, how large a number and which gaps pass.
-//
-// A line for each: what is tried, and the answer's number, 0 where it is drawn.
+//! The limits of a call, executed through the public one: how many buses, how wide a search, how
+//! large a number and which gaps pass (docs/RULES.md, 'Options' and 'Refusals').
+//!
+//! A line for each: what is tried, and the answer's number, 0 where it is drawn.
 #![tactic(auto)]
 
 ghost use Rattle.std.specs.Prelude.{◌≤◌};
@@ -8,23 +9,29 @@ ghost use Rattle.std.specs.Prelude.{◌≤◌};
 mod call;
 
 use call::answer_of;
-use options::{Gaps, Options};
-use refusals::Refusal;
+use network::options::{Gaps, Options};
+use network::refusals::Refusal;
 use std::io;
 
-// The answer for n buses of one station at (0, 0).
-fn of_buses(n: usize) -> Result<(), Refusal>
-    requires { n ≤ 4097 }
+// The answer for so many buses of one station at (0, 0).
+fn of_buses(count: usize) -> Result<(), Refusal>
+    requires { count ≤ 4097 }
 {
     let sub = [0; 4097];
     let kv = [1; 4097];
     let xy = [0.0; 8194];
-    answer_of(Options::default(), &sub[..n], &kv[..n], &xy[..2 * n])
+    answer_of(
+        Options::default(),
+        &sub[..count],
+        &kv[..count],
+        &xy[..2 * count],
+    )
 }
 
-// The answer for two stations, at (0, 0) and (x, 0), by these options.
-fn of_two(o: Options, x: f64) -> Result<(), Refusal> {
-    answer_of(o, &[0, 1], &[1, 1], &[0.0, 0.0, x, 0.0])
+// The answer for two stations, at (0, 0) and (distance, 0), by these
+// options.
+fn of_two(options: Options, distance: f64) -> Result<(), Refusal> {
+    answer_of(options, &[0, 1], &[1, 1], &[0.0, 0.0, distance, 0.0])
 }
 
 // That of two stations on one seed, by their search, bar gap and buffer.
@@ -39,8 +46,8 @@ fn of_settings(search: i32, bar_gap: f64, buffer: f64) -> Result<(), Refusal> {
 }
 
 // That of two stations so far apart.
-fn of_distance(x: f64) -> Result<(), Refusal> {
-    of_two(Options::default(), x)
+fn of_distance(distance: f64) -> Result<(), Refusal> {
+    of_two(Options::default(), distance)
 }
 
 fn main(rt: HostRuntime) -> io::Result<()> {

@@ -9,9 +9,9 @@ use native.Mathlib.Omega.{arith}
 use borrow.Author.Tests.{eq-eqb, ne_eqb}
 use lib.Dec.{eqb}
 use lib.ListN.{length, get_or, set}
-use Rattle.order.specs.Table.{table, how_many}
-use Rattle.order.proofs.Tables.{get_d_table, table_zero, table_suc, table_ext, how_many_zero, how_many_yes, how_many_no, how_many_le}
-use Rattle.order.proofs.Strides.{table_set, strided_zero, get_d_first, first_push, first_set}
+use Rattle.numbers.specs.Table.{table, how_many}
+use Rattle.numbers.proofs.order.Tables.{get_d_table, table_zero, table_suc, table_ext, how_many_zero, how_many_yes, how_many_no, how_many_le}
+use Rattle.numbers.proofs.order.Strides.{table_set, strided_zero, get_d_first, first_push, first_set}
 use Rattle.network.specs.Words.{station_of, station_count, buses_in, bus_counts}
 use Rattle.network.specs.Views.{counts_in}
 

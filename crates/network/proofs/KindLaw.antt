@@ -1,4 +1,4 @@
--- 01, 1: what a branch is, by the network's lists: open where its service flag is 0, else internal in one station and a line between two.
+-- What a branch is, by the network's lists (docs/RULES.md, 'Branches and stations'): open where its service flag is 0, else internal in one station and a line between two.
 -- Assumes nothing.
 use Prim.Native.Nat.{ℕ, ◌≤◌, ◌<◌}
 use mathlib.Core.Path.{◌≡◌, refl, ap, ◌∙◌}
@@ -10,9 +10,9 @@ use borrow.Author.Tests.{lt-ltb, ltb-true, eq-eqb, ne_eqb, eqb-false}
 use lib.Dec.{eqb, ltb}
 use lib.IntN.{ℤ, pos, negsuc}
 use lib.ListN.{length, get_or, get_or-eq_default}
-use Rattle.order.specs.Order.{pick}
-use Rattle.order.proofs.Merging.{le_or_lt}
-use Rattle.order.proofs.Tables.{get_d_any}
+use Rattle.numbers.specs.Order.{pick}
+use Rattle.numbers.proofs.order.Merging.{le_or_lt}
+use Rattle.numbers.proofs.order.Tables.{get_d_any}
 use Rattle.std.specs.Prelude.{Option, Some, None}
 use Rattle.network.specs.declared.words.Kind.TheVariants.{Undrawn, Open, Internal, Line}
 use Rattle.network.specs.Words.{station_of, known, live, kind_by, kind_for, kind_of}

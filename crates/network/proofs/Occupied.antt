@@ -9,9 +9,9 @@ use native.Mathlib.Numerals.{add-one}
 use borrow.Author.Tests.{ltb-true, ltb-false, lt-ltb, le-ltb}
 use lib.Dec.{ltb}
 use lib.ListN.{length, get_or}
-use Rattle.order.specs.Table.{how_many, which}
-use Rattle.order.proofs.Tables.{how_many_yes, how_many_no, which_yes, which_no, length_which}
-use Rattle.order.proofs.Strides.{length_strided, get_d_strided}
+use Rattle.numbers.specs.Table.{how_many, which}
+use Rattle.numbers.proofs.order.Tables.{how_many_yes, how_many_no, which_yes, which_no, length_which}
+use Rattle.numbers.proofs.order.Strides.{length_strided, get_d_strided}
 use Rattle.network.specs.Words.{is_occupied, occupied}
 use Rattle.network.specs.Views.{counts_in}
 

@@ -5,10 +5,10 @@ use Prim.Native.Nat.{ℕ, suc, ◌+◌, ◌-◌, ◌*◌, ◌≤◌, ◌<◌}
 use native.Mathlib.Omega.{arith}
 use native.Mathlib.Numerals.{add-one}
 use lib.ListN.{get_or}
-use Rattle.order.specs.Order.{up_from, keep}
-use Rattle.order.specs.Table.{table_from, which}
-use Rattle.order.proofs.Laws.{keep_yes, keep_no}
-use Rattle.order.proofs.Strides.{length_strided}
+use Rattle.numbers.specs.Order.{up_from, keep}
+use Rattle.numbers.specs.Table.{table_from, which}
+use Rattle.numbers.proofs.order.Laws.{keep_yes, keep_no}
+use Rattle.numbers.proofs.order.Strides.{length_strided}
 use Rattle.network.specs.Words.{is_occupied, occupied}
 use Rattle.network.specs.Views.{counts_in}
 use Rattle.network.proofs.Occupied.{is_occupied_lem, not_occupied}

@@ -8,12 +8,12 @@ use native.Mathlib.Omega.{arith}
 use lib.ListN.{length, get_or, set, length-set}
 use lib.Seq.{get_or-set_same, get_or-set_other}
 use lib.Ieee.{Float, nan}
-use Rattle.order.specs.Table.{table_from}
-use Rattle.order.proofs.Tables.{length_table, get_d_table, table_suc}
-use Rattle.order.proofs.Strides.{table_push, table_set}
-use Rattle.geometry.specs.declared.Point.{Point}
-use Rattle.geometry.specs.declared.Box.{Box}
-use Rattle.geometry.specs.Plane.{point, point_at, box_at}
+use Rattle.numbers.specs.Table.{table_from}
+use Rattle.numbers.proofs.order.Tables.{length_table, get_d_table, table_suc}
+use Rattle.numbers.proofs.order.Strides.{table_push, table_set}
+use Rattle.plane.specs.declared.geometry.Point.{Point}
+use Rattle.plane.specs.declared.geometry.Box.{Box}
+use Rattle.plane.specs.Plane.{point, point_at, box_at}
 use Rattle.network.specs.Views.{points_in, boxes_in}
 
 -- ---- the numbers of one element: what is read there and beside it after they were stored

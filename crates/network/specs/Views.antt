@@ -1,9 +1,9 @@
 -- How the lent work lists hold stations, buses and branches: some numbers side by side for each. Definitions only.
-use Rattle.std.specs.Prelude.{ℕ, List, Float}
-use Rattle.order.specs.Table.{table, strided}
-use Rattle.geometry.specs.declared.Point.{Point}
-use Rattle.geometry.specs.declared.Box.{Box}
-use Rattle.geometry.specs.Plane.{point_at, box_at}
+use Rattle.std.specs.Prelude.{ℕ, ◌+◌, ◌*◌, List, set, Float}
+use Rattle.numbers.specs.Table.{table, strided}
+use Rattle.plane.specs.declared.geometry.Point.{Point}
+use Rattle.plane.specs.declared.geometry.Box.{Box}
+use Rattle.plane.specs.Plane.{point_at, box_at}
 
 -- a list of two numbers for each station: how many buses it has, and the s-th station of the order of placement
 abbrev pub counts_in : ℕ → List ℕ → List ℕ
@@ -29,3 +29,10 @@ points_in k l = table (point_at l) k
 
 unfoldable pub boxes_in : ℕ → List Float → List Box
 boxes_in k l = table (box_at l) k
+
+-- a list of points after one is stored at i, a list of boxes after one is stored at i
+abbrev pub with_point : List Float → ℕ → Point → List Float
+with_point l i p = set (set l (2 * i) p.x) (2 * i + 1) p.y
+
+abbrev pub with_box : List Float → ℕ → Box → List Float
+with_box l i b = set (set (set (set l (4 * i) b.left) (4 * i + 1) b.top) (4 * i + 2) b.right) (4 * i + 3) b.bottom

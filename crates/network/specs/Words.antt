@@ -1,7 +1,9 @@
--- 01's words for the parts of a network: known and unknown buses, live and open branches, internal branches and lines, occupied stations. Definitions only.
-use Rattle.std.specs.Prelude.{ℕ, zero, suc, max, ◌<◌, ◌≡◌, ◌≢◌, Bool, true, false, not, List, eqb, ltb, ℤ, pos, negsuc, length, get_or, Option, Some, None}
-use Rattle.order.specs.Order.{pick}
-use Rattle.order.specs.Table.{table, how_many, which}
+-- The words for the parts of a network: known and unknown buses, live and open branches, internal branches and lines,
+-- occupied stations (docs/RULES.md, 'Words' and 'Branches and stations'). Definitions only.
+use Rattle.std.specs.Prelude.{ℕ, zero, suc, max, ◌<◌, ◌≡◌, ◌≢◌, Bool, true, false, not, eqb, ltb, ℤ, pos, negsuc}
+use Rattle.std.specs.Prelude.{List, length, get_or, Option, Some, None}
+use Rattle.numbers.specs.Order.{pick}
+use Rattle.numbers.specs.Table.{table, how_many, which}
 use Rattle.network.specs.declared.words.Kind.{Kind}
 use Rattle.network.specs.declared.words.Kind.TheVariants.{Undrawn, Open, Internal, Line}
 
@@ -56,7 +58,8 @@ kind_for sub isLive (Some a) (Some b) = kind_by (eqb a b) isLive (eqb (station_o
 -- what branch e is
 unfoldable pub kind_of : List ℕ → List ℤ → List ℤ → List ℕ → ℕ → Kind
 kind_of sub from to service e =
-    kind_for sub (live service e) (known (length sub) (get_or from e (negsuc 0))) (known (length sub) (get_or to e (negsuc 0)))
+    kind_for sub (live service e) (known (length sub) (get_or from e (negsuc 0)))
+    (known (length sub) (get_or to e (negsuc 0)))
 
 -- a kind's buses are known; an internal branch has both in one station, a line in two
 unfoldable pub Safe : List ℕ → Kind → Type 0

@@ -1,126 +1,138 @@
-// 01's words for the parts of a network.
+//! The words for the parts of a network (docs/RULES.md, 'Words' and 'Branches and stations').
 ghost use Rattle.std.specs.Prelude.{◌≡◌, ◌+◌, ◌*◌, ◌≤◌, ◌<◌, ◌^◌, eqb, negsuc, length, get_or};
-ghost use Rattle.order.specs.Table.{table};
-ghost use Rattle.network.specs.Words.{station_count, station_of, bus_counts, known, live, kind_by, kind_of, Safe};
+ghost use Rattle.numbers.specs.Table.{table};
+ghost use Rattle.network.specs.Words.{station_count, station_of, bus_counts, known, live};
+ghost use Rattle.network.specs.Words.{kind_by, Safe};
 ghost use Rattle.network.specs.Views.{counts_in};
+ghost use Rattle.network.specs.Lent.{kind_in};
 
 use crate::lists::Network;
 
-// What a branch is, with its two buses. One with an unknown end, or from a bus to itself, is not drawn.
+/// What a branch is, with the buses at its from end and its to end.
 #[derive(Clone, Copy)]
 pub enum Kind {
+    /// An end is unknown, or both ends are one bus: it is not drawn.
     Undrawn,
+    /// Its service flag is 0.
     Open(usize, usize),
+    /// Live, with both ends in one station.
     Internal(usize, usize),
+    /// Live, from one station to another.
     Line(usize, usize),
 }
 
-// How many stations: one more than the highest number, 0 without buses.
+/// How many stations: one more than the highest number, 0 without buses.
 #[tactic(auto, using(crate::proofs::Stations::past_none, crate::proofs::Stations::past_next), unfolding(crate::specs::Words::station_count))]
 pub fn station_count(sub: &[u32]) -> usize
-    ensures value { result ≡ station_count sub.now }
+    ensures is_count { result ≡ station_count sub.now }
     ensures upper_bound { result ≤ 2 ^ 32 }
 {
-    let mut k: usize = 0;
+    let mut count: usize = 0;
     for &s in sub {
-        k = k.max(s as usize + 1);
+        count = count.max(s as usize + 1);
     }
-    k
+    count
 }
 
-// The station of bus i, 0 past the list's end.
-pub fn station_of(sub: &[u32], i: usize) -> usize
-    ensures value { result ≡ station_of sub.now i }
+/// The station of a bus, 0 past the list's end.
+pub fn station_of(sub: &[u32], bus: usize) -> usize
+    ensures is_station { result ≡ station_of sub.now bus }
     ensures upper_bound { result < 2 ^ 32 }
 {
-    order::at(sub, i) as usize
+    numbers::order::at(sub, bus) as usize
 }
 
-// The bus that a number names, of n: one below 0 or at or past n names none.
-pub fn known_bus(n: usize, x: i64) -> Option<usize>
-    ensures { result ≡ known n x }
+// The bus that a number names, of so many: one below 0 or from their number on names none.
+pub(crate) fn known_bus(buses: usize, number: i64) -> Option<usize>
+    ensures { result ≡ known buses number }
 {
-    let i = usize::try_from(x).ok()?;
-    (i < n).then_some(i)
+    let i = usize::try_from(number).ok()?;
+    (i < buses).then_some(i)
 }
 
-// Whether branch e is live: its service flag is absent or not 0.
+// Whether a branch is live: its service flag is absent or not 0.
 #[tactic(auto, unfolding(crate::specs::Words::live))]
-pub(crate) fn live(service: &[u8], e: usize) -> bool
-    ensures { result ≡ live service.now e }
+pub(crate) fn live(service: &[u8], branch: usize) -> bool
+    ensures { result ≡ live service.now branch }
 {
-    service.get(e).copied().unwrap_or(1) != 0
+    service.get(branch).copied().unwrap_or(1) != 0
 }
 
-// The bus at the end of branch e, of n; none past the list's end. n is how many buses there are: the list has an element for each branch.
+/// The bus at a branch's end, of so many buses, where `ends` has an end of each branch; none where
+/// the end is unknown or past the list's end.
 #[tactic(auto, unfolding(crate::specs::Words::known))]
-pub fn end_of(n: usize, list: &[i64], e: usize) -> Option<usize>
-    ensures { result ≡ known n (get_or list.now e (negsuc 0)) }
+pub fn end_of(buses: usize, ends: &[i64], branch: usize) -> Option<usize>
+    ensures { result ≡ known buses (get_or ends.now branch (negsuc 0)) }
 {
-    known_bus(n, *list.get(e)?)
+    known_bus(buses, *ends.get(branch)?)
 }
 
 // What a branch between two known buses is.
 #[tactic(auto, unfolding(crate::specs::Words::kind_by))]
-fn kind_between(sub: &[u32], alive: bool, a: usize, b: usize) -> Kind
-    ensures { result ≡ kind_by (eqb a b) alive (eqb (station_of sub.now a) (station_of sub.now b)) a b }
+fn kind_between(sub: &[u32], alive: bool, from: usize, to: usize) -> Kind
+    ensures { result
+        ≡ kind_by (eqb from to) alive (eqb (station_of sub.now from) (station_of sub.now to))
+        from to }
 {
-    if a == b {
+    if from == to {
         return Kind::Undrawn;
     }
     if !alive {
-        return Kind::Open(a, b);
+        return Kind::Open(from, to);
     }
-    if station_of(sub, a) == station_of(sub, b) {
-        return Kind::Internal(a, b);
+    if station_of(sub, from) == station_of(sub, to) {
+        return Kind::Internal(from, to);
     }
-    Kind::Line(a, b)
+    Kind::Line(from, to)
 }
 
-// What branch e is.
-pub fn kind_of(net: &Network<'_>, e: usize) -> Kind
-    ensures value { result ≡ kind_of net.now.sub.now net.now.from.now net.now.to.now net.now.service.now e }
+/// What a branch is. Its buses are below the number of buses, and an internal branch's are in one
+/// station, a line's in two.
+pub fn kind_of(net: &Network<'_>, branch: usize) -> Kind
+    ensures is_kind { result ≡ kind_in net.now branch }
     ensures safe { Safe net.now.sub.now result }
 {
-    let Some(a) = end_of(net.sub.len(), net.from, e) else {
+    let Some(a) = end_of(net.sub.len(), net.from, branch) else {
         return Kind::Undrawn;
     };
-    let Some(b) = end_of(net.sub.len(), net.to, e) else {
+    let Some(b) = end_of(net.sub.len(), net.to, branch) else {
         return Kind::Undrawn;
     };
-    kind_between(net.sub, live(net.service, e), a, b)
+    kind_between(net.sub, live(net.service, branch), a, b)
 }
 
-// Sets the bus counts of k stations to 0. This and `count_buses` are the two loops of `bus_counts`, so they ask for what it asks.
-// `ranking` sets the number beside each to 0, `spans` the third of each bus: other strides, and other numbers that stay, so that one function would be told both.
+// Sets the bus count of each station to 0. The number beside it stays.
 #[tactic(auto, using(crate::proofs::Counts::cleared_none, crate::proofs::Counts::cleared_more))]
-fn clear_counts(k: usize, stations: &mut [u32])
-    requires { 2 * k ≤ length stations.old }
-    ensures { counts_in k stations.new ≡ table (λ s. 0) k }
+fn clear_counts(station_total: usize, stations: &mut [u32])
+    requires { 2 * station_total ≤ length stations.old }
+    ensures { counts_in station_total stations.new ≡ table (λ s. 0) station_total }
 {
-    for s in 0..k {
+    for s in 0..station_total {
         stations[2 * s] = 0;
     }
 }
 
 // Counts each bus in its station.
 #[tactic(auto, using(crate::proofs::Stations::station_below, crate::proofs::Counts::counting))]
-fn count_buses(sub: &[u32], k: usize, stations: &mut [u32])
-    requires { (k ≡ station_count sub.now) × (length sub.now ≤ 4096) × (2 * k ≤ length stations.old) × (counts_in k stations.old ≡ table (λ s. 0) k) }
-    ensures { counts_in k stations.new ≡ bus_counts sub.now }
+fn count_buses(sub: &[u32], station_total: usize, stations: &mut [u32])
+    requires counted { station_total ≡ station_count sub.now }
+    requires few_buses { length sub.now ≤ 4096 }
+    requires stations_room { 2 * station_total ≤ length stations.old }
+    requires all_zero { counts_in station_total stations.old ≡ table (λ s. 0) station_total }
+    ensures { counts_in station_total stations.new ≡ bus_counts sub.now }
 {
     for &s in sub {
         stations[2 * s as usize] += 1;
     }
 }
 
-// The bus counts of the k stations.
-// `stations` is written, so its length is asked as the slice's own; k is counted once for all functions.
-// `Bounded` would ask for few branches, of which this reads none.
-pub fn bus_counts(sub: &[u32], k: usize, stations: &mut [u32])
-    requires { (k ≡ station_count sub.now) × (length sub.now ≤ 4096) × (2 * k ≤ length stations.old) }
-    ensures { counts_in k stations.new ≡ bus_counts sub.now }
+/// How many buses each station has, in every second number of `stations`, from the first on.
+pub fn bus_counts(sub: &[u32], station_total: usize, stations: &mut [u32])
+    requires counted { station_total ≡ station_count sub.now }
+    requires few_buses { length sub.now ≤ 4096 }
+    requires stations_room { 2 * station_total ≤ length stations.old }
+    ensures { counts_in station_total stations.new ≡ bus_counts sub.now }
 {
-    clear_counts(k, stations);
-    count_buses(sub, k, stations);
+    clear_counts(station_total, stations);
+    count_buses(sub, station_total, stations);
 }

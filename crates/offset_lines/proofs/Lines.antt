@@ -4,11 +4,11 @@ use mathlib.Core.List.{List, [], ◌∷◌, ◌++◌, append_assoc, append-nil}
 use Prim.Native.Nat.{ℕ, ◌+◌}
 use native.Mathlib.Numerals.{add-one}
 use mir.ValLaws.{to_z-of_z}
-use Rattle.order.specs.Table.{table_from, table}
-use Rattle.order.proofs.Tables.{table_suc}
-use Rattle.fields.specs.Spell.{signed_field}
-use Rattle.fields.proofs.Spelling.{put_over}
-use Rattle.listing.proofs.Writing.{put_none, write_laws}
+use Rattle.numbers.specs.Table.{table_from, table}
+use Rattle.numbers.proofs.order.Tables.{table_suc}
+use Rattle.text.specs.Spell.{signed_field}
+use Rattle.text.proofs.fields.Spelling.{put_over}
+use Rattle.text.proofs.listing.Writing.{put_none, write_laws}
 use Rattle.offsets.specs.declared.offset.Offset.{Offset}
 use Rattle.offsets.specs.Stages.OffsetList.{offset_at, offsets_in}
 use Rattle.offsets.proofs.Grids.{side_square}

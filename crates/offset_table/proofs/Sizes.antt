@@ -10,7 +10,7 @@ use mir.Syntax.{w32, w64}
 use mir.Val.{SFits, to_z, of_z}
 use mir.Facts.{to_z-of_z}
 use Rattle.offsets.specs.declared.offset.Offset.{Offset}
-use Rattle.offset_rule.specs.Table.{inside}
+use Rattle.offset_table.specs.Table.{inside}
 
 module _ (z : ℤ) (F : SFits w32 z) where
   pub widened : SFits w64 (to_z w32 (of_z w32 z))

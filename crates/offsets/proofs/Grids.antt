@@ -14,16 +14,16 @@ use lib.IntN.{ℤ, pos, negsuc, ◌-ℤ◌}
 use lib.Ieee.{minus}
 use lib.ListN.{length, get_or, set, take, drop, get_or-append}
 use lib.Seq.{take_at, get_or-take}
-use Rattle.order.specs.Order.{sort_by, up_from, key_at}
-use Rattle.order.specs.Table.{table}
-use Rattle.order.proofs.Merging.{le_or_lt, length_sort}
-use Rattle.order.proofs.Laws.{all_map, all_below, length_up}
-use Rattle.order.proofs.Tables.{length_table, get_d_table, table_ext}
-use Rattle.neighbours.proofs.Fills.{fill_more}
+use Rattle.numbers.specs.Order.{sort_by, up_from, key_at}
+use Rattle.numbers.specs.Table.{table}
+use Rattle.numbers.proofs.order.Merging.{le_or_lt, length_sort}
+use Rattle.numbers.proofs.order.Laws.{all_map, all_below, length_up}
+use Rattle.numbers.proofs.order.Tables.{length_table, get_d_table, table_ext}
+use Rattle.plane.proofs.neighbours.Fills.{fill_more}
 use Rattle.offsets.specs.declared.offset.Offset.{Offset}
 use Rattle.offsets.specs.Offset.{square, offset_number, offset_of, grid_number, offset_grid, offsets}
 use Rattle.offsets.specs.Stages.OffsetList.{offset_at, offsets_in}
-use Rattle.order.proofs.Sorting.{map_agree, table_map, sort_map, sort_front}
+use Rattle.numbers.proofs.order.Sorting.{map_agree, table_map, sort_map, sort_front}
 
 -- ---- squares and their bounds
 pub small_square : (d : ℕ) → d ≤ 20 → d * d ≤ 400

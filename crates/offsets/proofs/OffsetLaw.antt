@@ -1,4 +1,4 @@
--- 01: offsets (a, b), both from −search to search, run by a² + b², a, b. Each of them stands in the list, and none twice. Assumes nothing.
+-- Offsets (a, b), both from −search to search, run by a² + b², a, b. Each of them stands in the list, and none twice. Assumes nothing.
 --     offsets_within, offsets_all     an offset stands in the list exactly if both its numbers are within the search
 --     offsets_rise, offsets_once      the list is strictly rising in this order, so none stands there twice
 --     offsets_complete                all four in one
@@ -13,15 +13,15 @@ use lib.IntN.{ℤ, pos, negsuc, nat_abs}
 use lib.Signed.{◌<ℤ◌, lt_z_yes, <ℤ_irrefl}
 use lib.Ieee.{minus}
 use lib.ListN.{length, get_or, length-map}
-use Rattle.order.specs.Order.{sort_by, up_from, rank}
-use Rattle.order.proofs.Merging.{le_or_lt, length_sort}
-use Rattle.order.proofs.Laws.{sorted, length_up, below_sort, rank_found, place_law, get_d_map}
-use Rattle.order.proofs.Strides.{place_element, place_offset}
+use Rattle.numbers.specs.Order.{sort_by, up_from, rank}
+use Rattle.numbers.proofs.order.Merging.{le_or_lt, length_sort}
+use Rattle.numbers.proofs.order.Laws.{sorted, length_up, below_sort, rank_found, place_law, get_d_map}
+use Rattle.numbers.proofs.order.Strides.{place_element, place_offset}
 use Rattle.offsets.specs.declared.offset.Offset.{Offset}
 use Rattle.offsets.specs.Complete.{Within, distance, Precedes, Complete}
 use Rattle.offsets.specs.Offset.{square, offset_number, offset_of, grid_number, offset_grid, offsets}
 use Rattle.offsets.proofs.Grids.{square_low, square_high, row_below, minus_high, minus_low}
-use Rattle.order.proofs.Sorting.{sort_map}
+use Rattle.numbers.proofs.order.Sorting.{sort_map}
 
 -- ---- u stands for u - 20
 abbrev pub offset : ℤ → ℤ → Offset

@@ -1,4 +1,5 @@
--- What 01 says of the offsets of a search, without a word on how they are found: each pair within it once, no other, by a² + b², a, b. Definitions only.
+-- What the offsets of a search are, without a word on how they are found: each pair within it once, no other, by
+-- a² + b², a, b. Definitions only.
 use Rattle.std.specs.Prelude.{ℕ, ◌+◌, ◌*◌, ◌≤◌, ◌<◌, ◌≡◌, ◌⊎◌, List, nat_abs, ◌<ℤ◌, length, get_or}
 use Rattle.offsets.specs.declared.offset.Offset.{Offset}
 

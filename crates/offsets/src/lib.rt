@@ -1,4 +1,4 @@
-// Offsets round a seed, in the order of the search.
+//! Offsets round a seed, in the order of the search.
 #![tactic(auto)]
 
 pub mod offset;

@@ -1,42 +1,47 @@
-// Offsets (a, b), both from −search to search, by a² + b², a, b: the numbers of the grid's pairs, sorted.
+//! Offsets (a, b), both from −search to search, by a² + b², a, b (docs/RULES.md, 'Offsets'): the
+//! numbers of the grid's pairs, sorted.
 ghost use Rattle.std.specs.Prelude.{◌≡◌, ◌++◌, suc, ◌+◌, ◌*◌, ◌^◌, ◌≤◌, length, drop};
-ghost use Rattle.order.specs.Order.{up_from};
-ghost use Rattle.order.specs.Table.{table};
+ghost use Rattle.numbers.specs.Order.{up_from};
+ghost use Rattle.numbers.specs.Table.{table};
 ghost use Rattle.offsets.specs.Offset.{square, offset_number, grid_number, offsets};
 ghost use Rattle.offsets.specs.Complete.{Complete};
 ghost use Rattle.offsets.specs.Stages.OffsetList.{offset_at, offsets_in};
 
-use order::{at, key_at, number, sort_part};
+use numbers::order::{at, key_at, number, sort_part};
 
-// An offset, in steps from the seed.
+/// An offset from the seed, in steps.
 #[derive(Clone, Copy)]
 pub struct Offset {
+    /// Steps to the right.
     pub a: i32,
+    /// Steps down.
     pub b: i32,
 }
 
-// The square of u − 20.
-fn square(u: u64) -> u64
-    requires { u ≤ 40 }
-    ensures { result ≡ square u }
+// The square of a number less 20.
+fn square(number: u64) -> u64
+    requires { number ≤ 40 }
+    ensures { result ≡ square number }
 {
-    let d = u.abs_diff(20);
+    let d = number.abs_diff(20);
     d * d
 }
 
-// The offset (u − 20, v − 20) as one number.
+// The offset (right − 20, down − 20) as one number.
 #[tactic(auto, using(crate::proofs::Grids::square_small), unfolding(crate::specs::Offset::offset_number))]
-fn offset_number(u: u64, v: u64) -> u64
-    requires { (u ≤ 40) × (v ≤ 40) }
-    ensures { result ≡ offset_number u v }
+fn offset_number(right: u64, down: u64) -> u64
+    requires right_fits { right ≤ 40 }
+    requires down_fits { down ≤ 40 }
+    ensures { result ≡ offset_number right down }
 {
-    ((square(u) + square(v)) * 41 + u) * 41 + v
+    ((square(right) + square(down)) * 41 + right) * 41 + down
 }
 
-// The numbers of the pairs, row by row.
-// The bound of a search is asked beside the number, here and in `offset_order`: a struct of one number is no plainer.
+// The numbers of the pairs, row by row, at the front of `keys`.
 fn grid_keys(search: u64, side: u64, keys: &mut [u64])
-    requires { (search ≤ 20) × (side ≡ suc (2 * search)) × (side * side ≤ length keys.old) }
+    requires search_fits { search ≤ 20 }
+    requires is_side { side ≡ suc (2 * search) }
+    requires keys_room { side * side ≤ length keys.old }
     ensures { keys.new ≡ table (grid_number search) (side * side) ++ drop (side * side) keys.old }
 {
     let first = 20 - search;
@@ -46,20 +51,25 @@ fn grid_keys(search: u64, side: u64, keys: &mut [u64])
     }
 }
 
-// Sets the first c numbers of a list to 0, 1, 2, ..
-// c is at most 2^32 so that its numbers fit a u32.
-fn number_first(list: &mut [u32], c: usize)
-    requires { (c ≤ length list.old) × (c ≤ 2 ^ 32) }
-    ensures { list.new ≡ up_from 0 c ++ drop c list.old }
+// Sets so many first numbers of a list to 0, 1, 2, ..
+fn number_first(list: &mut [u32], total: usize)
+    requires list_room { total ≤ length list.old }
+    requires small_numbers { total ≤ 2 ^ 32 }
+    ensures { list.new ≡ up_from 0 total ++ drop total list.old }
 {
-    number(&mut list[0..c]);
+    number(&mut list[0..total]);
 }
 
-// The generator: for each search from 0 to 20 every pair within it, once, in order. It returns how many there are; `offset_at` reads them.
-// `keys`, `sorted` and `spare` are written: behind one `&mut` a struct of them could hold other lists afterwards, so its contract would have to say of each that it is the one that was lent.
+/// Generates the offsets of a search from 0 to 20: every pair within it, once, in order. Gives
+/// how many they are; `offset_at` reads them from `keys` and `sorted`. `spare` is a work list.
 pub fn offset_order(search: usize, keys: &mut [u64], sorted: &mut [u32], spare: &mut [u32]) -> usize
-    requires { (search ≤ 20) × (1681 ≤ length keys.old) × (1681 ≤ length sorted.old) × (1681 ≤ length spare.old) }
-    ensures { (result ≡ suc (2 * search) * suc (2 * search)) × (offsets_in result keys.new sorted.new ≡ offsets search) × Complete search (offsets_in result keys.new sorted.new) }
+    requires search_fits { search ≤ 20 }
+    requires keys_room { 1681 ≤ length keys.old }
+    requires sorted_room { 1681 ≤ length sorted.old }
+    requires spare_room { 1681 ≤ length spare.old }
+    ensures how_many { result ≡ suc (2 * search) * suc (2 * search) }
+    ensures are_offsets { offsets_in result keys.new sorted.new ≡ offsets search }
+    ensures complete { Complete search (offsets_in result keys.new sorted.new) }
 {
     let side = 2 * search + 1;
     let count = side * side;
@@ -69,12 +79,12 @@ pub fn offset_order(search: usize, keys: &mut [u64], sorted: &mut [u32], spare: 
     count
 }
 
-// The j-th offset.
+/// The offset at this index, from 0 on, of those that `offset_order` left in `keys` and `sorted`.
 #[tactic(auto, using(crate::proofs::Grids::less_fits, crate::proofs::Grids::offset_made), unfolding(crate::specs::Stages::OffsetList::offset_at))]
-pub fn offset_at(keys: &[u64], sorted: &[u32], j: usize) -> Offset
-    ensures { result ≡ offset_at keys.now sorted.now j }
+pub fn offset_at(keys: &[u64], sorted: &[u32], index: usize) -> Offset
+    ensures { result ≡ offset_at keys.now sorted.now index }
 {
-    let c = key_at(keys, at(sorted, j));
+    let c = key_at(keys, at(sorted, index));
     Offset {
         a: (c / 41 % 41) as i32 - 20,
         b: (c % 41) as i32 - 20,

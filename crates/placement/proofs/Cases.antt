@@ -1,4 +1,4 @@
--- 01's marked cases of placement: how the offsets begin, and two stations on one seed. Floats stand by their bits. Assumes nothing.
+-- Worked cases of placement (docs/RULES.md, 'Worked cases'): how the offsets begin, and two stations on one seed. Floats stand by their bits. Assumes nothing.
 use mathlib.Core.Path.{◌≡◌, refl}
 use Prim.Native.Nat.{ℕ}
 use mathlib.Core.List.{List, [], ◌∷◌, map}
@@ -6,18 +6,18 @@ use lib.Count.{count_trailing_zeros}
 use lib.IntN.{ℤ, pos, negsuc}
 use lib.ListN.{take}
 use lib.Ieee.{binary64, of_bits, of_fields, to_bits, odd, units, round, size, span, climb, sum, neg, lt, add, sub, mul, div, of_int}
-use Rattle.float.specs.Ops.{f1, f2, f4}
-use Rattle.float.specs.Small.{max_of}
-use Rattle.order.specs.Order.{insert_by, sort_by, up_from}
-use Rattle.order.specs.Table.{table_from}
-use Rattle.geometry.specs.declared.Point.{Point}
-use Rattle.geometry.specs.Plane.{origin}
-use Rattle.proximity.specs.Overlap.{meet, overlap}
-use Rattle.options.specs.Options.{default_gaps}
+use Rattle.numbers.specs.Ops.{f1, f2, f4}
+use Rattle.numbers.specs.Small.{max_of}
+use Rattle.numbers.specs.Order.{insert_by, sort_by, up_from}
+use Rattle.numbers.specs.Table.{table_from}
+use Rattle.plane.specs.declared.geometry.Point.{Point}
+use Rattle.plane.specs.Plane.{origin}
+use Rattle.plane.specs.Overlap.{meet, overlap}
+use Rattle.network.specs.Options.{default_gaps}
 use Rattle.offsets.specs.declared.offset.Offset.{Offset}
 use Rattle.offsets.specs.Offset.{offset_number, offset_of, grid_number, offset_grid, offsets}
 use Rattle.placement.specs.Place.{box_of, next_place, places_to, places}
-use Rattle.free_places.specs.Search.{frame_for, frames, box_on, buffered, free, place, first_free, place_for}
+use Rattle.placement.specs.Search.{frame_for, frames, box_on, buffered, free, place, first_free, place_for}
 
 abbrev offset : ℤ → ℤ → Offset
 offset x y = record { a = x; b = y }

@@ -8,13 +8,13 @@ use lib.Dec.{T, ltb→lt, lt→ltb}
 use lib.Count.{count_trailing_zeros}
 use lib.Ieee.{Float, nan, inf, fin, binary64, add, sub, neg, lt, fits, of_bits, of_fields, odd}
 use lib.Ieee.Fits.{add-fits, sub-fits, and_l, and_r, and_i}
-use Rattle.float.specs.Small.{is_finite}
-use Rattle.float.specs.Ops.{◌⊕◌, ◌⊖◌, ◌⊗◌}
-use Rattle.geometry.specs.declared.Point.{Point}
-use Rattle.geometry.specs.declared.Box.{Box}
-use Rattle.geometry.specs.Plane.{edge, shrunk}
-use Rattle.proximity.specs.Overlap.{meet, overlap}
-use Rattle.free_places.specs.Search.{Frame, box_on, buffered}
+use Rattle.numbers.specs.Small.{is_finite}
+use Rattle.numbers.specs.Ops.{◌⊕◌, ◌⊖◌, ◌⊗◌}
+use Rattle.plane.specs.declared.geometry.Point.{Point}
+use Rattle.plane.specs.declared.geometry.Box.{Box}
+use Rattle.plane.specs.Plane.{edge, shrunk}
+use Rattle.plane.specs.Overlap.{meet, overlap}
+use Rattle.placement.specs.Search.{Frame, box_on, buffered}
 use Rattle.placement.proofs.Rank.{rank, Number, Plus, lt_rank, add_up, sub_down, add_number, sub_number, finite_number}
 
 -- a finite float of the format

@@ -11,26 +11,26 @@ use lib.ListN.{length, get_or, get_or-eq_default}
 use lib.Ieee.{binary64}
 use lib.Ieee.Fits.{add-fits, sub-fits}
 use borrow.Author.Tests.{eq-eqb, eqb-true}
-use Rattle.float.specs.Small.{is_finite}
-use Rattle.float.specs.Ops.{◌⊗◌}
-use Rattle.order.specs.Order.{pick, sort_by, up_from, count}
-use Rattle.order.proofs.Merging.{le_or_lt}
-use Rattle.order.proofs.Laws.{count_at, count_sort, count_keep, occurs, length_up, get_d_up}
-use Rattle.order.proofs.Tables.{get_d_table}
-use Rattle.geometry.specs.declared.Point.{Point}
-use Rattle.geometry.specs.declared.Box.{Box}
-use Rattle.geometry.specs.Plane.{shrunk, no_box, box_in}
-use Rattle.proximity.specs.Overlap.{overlap}
+use Rattle.numbers.specs.Small.{is_finite}
+use Rattle.numbers.specs.Ops.{◌⊗◌}
+use Rattle.numbers.specs.Order.{pick, sort_by, up_from, count}
+use Rattle.numbers.proofs.order.Merging.{le_or_lt}
+use Rattle.numbers.proofs.order.Laws.{count_at, count_sort, count_keep, occurs, length_up, get_d_up}
+use Rattle.numbers.proofs.order.Tables.{get_d_table}
+use Rattle.plane.specs.declared.geometry.Point.{Point}
+use Rattle.plane.specs.declared.geometry.Box.{Box}
+use Rattle.plane.specs.Plane.{shrunk, no_box, box_in}
+use Rattle.plane.specs.Overlap.{overlap}
 use Rattle.network.specs.Words.{is_occupied, occupied}
-use Rattle.seeds.specs.Seed.{place_at}
-use Rattle.columns.specs.Column.{falling}
-use Rattle.sizes.specs.Size.{Size}
+use Rattle.network.specs.Seed.{place_at}
+use Rattle.stations.specs.Column.{falling}
+use Rattle.stations.specs.Size.{Size}
 use Rattle.offsets.specs.declared.offset.Offset.{Offset}
 use Rattle.placement.specs.Place.{box_of, places, found_free, boxes}
-use Rattle.free_places.specs.Search.{Frame, frame_at, box_on, buffered}
-use Rattle.turns.specs.Turns.{top_to, placement_order}
-use Rattle.turns.specs.Stages.Listed.{Turns}
-use Rattle.turns.proofs.Queue.{order_turns}
+use Rattle.placement.specs.Search.{Frame, frame_at, box_on, buffered}
+use Rattle.placement.specs.Turns.{top_to, placement_order}
+use Rattle.placement.specs.Stages.Listed.{Turns}
+use Rattle.placement.proofs.turns.Queue.{order_turns}
 use Rattle.placement.proofs.Clear.{Outward, Whole, over_own, over_other}
 use Rattle.placement.proofs.PlaceLaw.{clear_of}
 

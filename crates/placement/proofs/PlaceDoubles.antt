@@ -12,24 +12,24 @@ use lib.ListN.{length, get_or, take, set, length-set, get_or-eq_default}
 use lib.Seq.{get_or-set_same, get_or-set_other}
 use lib.Ieee.{minus}
 use borrow.Author.Tests.{le-leb, lt-leb}
-use Rattle.float.specs.Double.{Limit}
-use Rattle.float.proofs.DoublePairs.{widen_doubles, zero_doubles}
-use Rattle.order.specs.Order.{pick, sort_by}
-use Rattle.order.specs.Table.{table}
-use Rattle.order.proofs.Tables.{get_d_table, length_table}
-use Rattle.geometry.specs.declared.Point.{Point}
-use Rattle.geometry.specs.declared.Box.{Box}
-use Rattle.geometry.specs.Plane.{origin, box_in, no_box}
+use Rattle.numbers.specs.Double.{Limit}
+use Rattle.numbers.proofs.float.DoublePairs.{widen_doubles, zero_doubles}
+use Rattle.numbers.specs.Order.{pick, sort_by}
+use Rattle.numbers.specs.Table.{table}
+use Rattle.numbers.proofs.order.Tables.{get_d_table, length_table}
+use Rattle.plane.specs.declared.geometry.Point.{Point}
+use Rattle.plane.specs.declared.geometry.Box.{Box}
+use Rattle.plane.specs.Plane.{origin, box_in, no_box}
 use Rattle.network.specs.Words.{is_occupied}
-use Rattle.seeds.specs.Seed.{place_at}
-use Rattle.units.specs.Doubles.{DoublesPoint, Paired}
+use Rattle.network.specs.Seed.{place_at}
+use Rattle.stations.specs.Doubles.{DoublesPoint, Paired}
 use Rattle.offsets.specs.declared.offset.Offset.{Offset}
 use Rattle.offsets.specs.Offset.{offset_of, offset_grid, offsets}
 use Rattle.placement.specs.Place.{box_of, next_place, places_to, places, boxes}
-use Rattle.free_places.specs.Search.{Frame, frame_at, place_for, box_on}
-use Rattle.turns.specs.Stages.Listed.{Turns}
-use Rattle.free_places.specs.Doubles.{DoublesBox, DoublesFrame, Small, Reach}
-use Rattle.free_places.proofs.SearchDoubles.{box_doubles, search_doubles}
+use Rattle.placement.specs.Search.{Frame, frame_at, place_for, box_on}
+use Rattle.placement.specs.Stages.Listed.{Turns}
+use Rattle.placement.specs.Doubles.{DoublesBox, DoublesFrame, Small, Reach}
+use Rattle.placement.proofs.free_places.SearchDoubles.{box_doubles, search_doubles}
 
 -- ---- offsets are at most 20 either way
 minus_small : (a : ℕ) → a ≤ 40 → nat_abs (minus a 20) ≤ 20

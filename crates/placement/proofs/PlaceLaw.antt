@@ -1,4 +1,4 @@
--- Each station's place is the first free one of 01's search, or its seed where none is free. Assumes nothing.
+-- Each station's place is the first free one of the search, or its seed where none is free. Assumes nothing.
 --     first_free_of     the search takes the first free place of the widenings 1, 2, 4, each with all offsets in their order, else the seed
 --     place_of          every station's place in a finished drawing is what this search gives, by the boxes of the stations before it
 --     found_or_seed     so it is free there, or it is the seed
@@ -13,19 +13,19 @@ use native.Mathlib.Omega.{arith}
 use lib.ListN.{length, get_or, take, length-set, length-map, get_or-map}
 use lib.Seq.{get_or-set_same, get_or-set_other, get_or-take, length-take-le}
 use lib.Ieee.{Float}
-use Rattle.float.specs.Ops.{f1, f2, f4}
-use Rattle.order.specs.Order.{pick}
-use Rattle.geometry.specs.declared.Point.{Point}
-use Rattle.geometry.specs.declared.Box.{Box}
-use Rattle.geometry.specs.Plane.{origin}
-use Rattle.proximity.specs.Overlap.{overlap}
-use Rattle.seeds.specs.Seed.{place_at}
+use Rattle.numbers.specs.Ops.{f1, f2, f4}
+use Rattle.numbers.specs.Order.{pick}
+use Rattle.plane.specs.declared.geometry.Point.{Point}
+use Rattle.plane.specs.declared.geometry.Box.{Box}
+use Rattle.plane.specs.Plane.{origin}
+use Rattle.plane.specs.Overlap.{overlap}
+use Rattle.network.specs.Seed.{place_at}
 use Rattle.offsets.specs.declared.offset.Offset.{Offset}
 use Rattle.std.specs.Prelude.{Some, unwrap_or}
 use Rattle.placement.specs.Place.{box_of, next_place, places_to, places, found_free}
-use Rattle.free_places.specs.Search.{Frame, free, buffered, place, tries, FirstOf, first_free, place_for, box_on, frame_at}
-use Rattle.turns.specs.Stages.Listed.{Turns}
-use Rattle.order.proofs.Sorting.{map_agree}
+use Rattle.placement.specs.Search.{Frame, free, buffered, place, tries, FirstOf, first_free, place_for, box_on, frame_at}
+use Rattle.placement.specs.Stages.Listed.{Turns}
+use Rattle.numbers.proofs.order.Sorting.{map_agree}
 use Rattle.placement.proofs.Placing.{all_of_lem}
 
 -- ---- the search

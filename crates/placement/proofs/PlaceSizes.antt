@@ -9,25 +9,25 @@ use lib.Dec.{lit≤}
 use lib.IntN.{ℤ, pos, nat_abs}
 use lib.ListN.{length, get_or, set, take}
 use lib.Ieee.{Float}
-use Rattle.float.specs.Ops.{int, f0, f1, f2, f4, ◌⊗◌, ◌⊘◌}
-use Rattle.float.specs.Size.{AtMost}
-use Rattle.float.proofs.SizeLaws.{most_weaken, add_under, sub_under, mul_most, div_most, max_most, int_most, f0_most, f1_most, f2_most, f2_least, f4_most}
-use Rattle.order.specs.Order.{pick}
-use Rattle.geometry.specs.declared.Point.{Point}
-use Rattle.geometry.specs.declared.Box.{Box}
-use Rattle.geometry.specs.Plane.{origin, no_box, box_in}
-use Rattle.geometry.proofs.PointSizes.{Near, Edges}
+use Rattle.numbers.specs.Ops.{int, f0, f1, f2, f4, ◌⊗◌, ◌⊘◌}
+use Rattle.numbers.specs.Size.{AtMost}
+use Rattle.numbers.proofs.float.SizeLaws.{most_weaken, add_under, sub_under, mul_most, div_most, max_most, int_most, f0_most, f1_most, f2_most, f2_least, f4_most}
+use Rattle.numbers.specs.Order.{pick}
+use Rattle.plane.specs.declared.geometry.Point.{Point}
+use Rattle.plane.specs.declared.geometry.Box.{Box}
+use Rattle.plane.specs.Plane.{origin, no_box, box_in}
+use Rattle.plane.proofs.geometry.PointSizes.{Near, Edges}
 use Rattle.network.specs.Words.{is_occupied}
-use Rattle.seeds.specs.Seed.{place_at}
-use Rattle.measures.specs.declared.Measures.{Measures}
-use Rattle.sizes.specs.Size.{Size, size_at, larger}
-use Rattle.sizes.proofs.SideSizes.{Sides, table_at}
+use Rattle.network.specs.Seed.{place_at}
+use Rattle.stations.specs.declared.measures.Measures.{Measures}
+use Rattle.stations.specs.Size.{Size, size_at, larger}
+use Rattle.stations.proofs.sizes.SideSizes.{Sides, table_at}
 use Rattle.offsets.specs.declared.offset.Offset.{Offset}
 use Rattle.offsets.specs.Offset.{offsets}
-use Rattle.turns.specs.Stages.Listed.{Turns}
+use Rattle.placement.specs.Stages.Listed.{Turns}
 use Rattle.std.specs.Prelude.{Some, unwrap_or}
 use Rattle.placement.specs.Place.{box_of, next_place, places_to, places, boxes}
-use Rattle.free_places.specs.Search.{Frame, frame_for, frames, frame_at, box_on, buffered, free, place, first_free, place_for}
+use Rattle.placement.specs.Search.{Frame, frame_for, frames, frame_at, box_on, buffered, free, place, first_free, place_for}
 use Rattle.placement.proofs.PlaceLaw.{waits}
 use Rattle.offsets.specs.Complete.{Within}
 use Rattle.offsets.proofs.OffsetLaw.{offsets_within}

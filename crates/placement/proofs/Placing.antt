@@ -11,36 +11,36 @@ use borrow.Author.Tests.{lt-leb, leb-false, eqb-false, ne_eqb}
 use lib.ListN.{length, get_or, set, take}
 use lib.Seq.{take-suc, get_or-take, length-take-le, get_or-set_same, get_or-set_other}
 use lib.Ieee.{Float, nan}
-use Rattle.float.specs.Ops.{f0, f1}
-use Rattle.order.specs.Order.{pick, count}
-use Rattle.order.specs.Table.{table}
-use Rattle.order.proofs.Laws.{All, all_map, count_none}
-use Rattle.order.proofs.Tables.{length_table, get_d_table, table_zero, table_suc}
-use Rattle.order.proofs.Strides.{get_d_strided, length_strided}
-use Rattle.geometry.specs.declared.Point.{Point}
-use Rattle.geometry.specs.declared.Box.{Box}
-use Rattle.geometry.specs.Plane.{origin, point_at, box_at, no_box}
-use Rattle.proximity.specs.Overlap.{overlap}
-use Rattle.cells.specs.Stages.Cells.{by_cell}
-use Rattle.box_order.specs.Stages.Kept.{Kept}
-use Rattle.cells.proofs.CellOrder.{count_put}
-use Rattle.box_order.proofs.Keeping.{kept_none, kept_ext, count_zero, count_end, count_cons}
+use Rattle.numbers.specs.Ops.{f0, f1}
+use Rattle.numbers.specs.Order.{pick, count}
+use Rattle.numbers.specs.Table.{table}
+use Rattle.numbers.proofs.order.Laws.{All, all_map, count_none}
+use Rattle.numbers.proofs.order.Tables.{length_table, get_d_table, table_zero, table_suc}
+use Rattle.numbers.proofs.order.Strides.{get_d_strided, length_strided}
+use Rattle.plane.specs.declared.geometry.Point.{Point}
+use Rattle.plane.specs.declared.geometry.Box.{Box}
+use Rattle.plane.specs.Plane.{origin, point_at, box_at, no_box}
+use Rattle.plane.specs.Overlap.{overlap}
+use Rattle.plane.specs.Stages.Cells.{by_cell}
+use Rattle.plane.specs.Stages.Kept.{Kept}
+use Rattle.plane.proofs.cells.CellOrder.{count_put}
+use Rattle.plane.proofs.box_order.Keeping.{kept_none, kept_ext, count_zero, count_end, count_cons}
 use Rattle.network.specs.Words.{is_occupied}
-use Rattle.seeds.specs.Seed.{place_at}
+use Rattle.network.specs.Seed.{place_at}
 use Rattle.network.specs.Views.{counts_in, order_in, points_in, boxes_in}
 use Rattle.network.proofs.Views.{length_points, get_d_points, points_set, box_same, box_other, boxes_zero, boxes_push}
-use Rattle.measures.specs.declared.Measures.{Measures}
-use Rattle.sizes.specs.Size.{Size, size_at}
-use Rattle.sizes.specs.Stages.Views.{size_in, sizes_in, scales_in}
+use Rattle.stations.specs.declared.measures.Measures.{Measures}
+use Rattle.stations.specs.Size.{Size, size_at}
+use Rattle.stations.specs.Stages.Views.{size_in, sizes_in, scales_in}
 use Rattle.network.proofs.Occupied.{is_occupied_lem, not_occupied}
 use Rattle.offsets.specs.declared.offset.Offset.{Offset}
 use Rattle.placement.specs.Place.{box_of, next_place, places_to, places, boxes}
-use Rattle.free_places.specs.Search.{Frame, frame_for, frames, frame_at, box_on, free, place_for}
+use Rattle.placement.specs.Search.{Frame, frame_for, frames, frame_at, box_on, free, place_for}
 use Rattle.placement.specs.Stages.Views.{frame_in, frames_in, put_box, PlacedAs}
-use Rattle.free_places.specs.Stages.Among.{kept_boxes, Holds}
-use Rattle.turns.specs.Stages.Listed.{Turns}
-use Rattle.order.proofs.Sorting.{map_agree}
-use Rattle.free_places.proofs.Searching.{free_count, place_same}
+use Rattle.placement.specs.Stages.Among.{kept_boxes, Holds}
+use Rattle.placement.specs.Stages.Listed.{Turns}
+use Rattle.numbers.proofs.order.Sorting.{map_agree}
+use Rattle.placement.proofs.free_places.Searching.{free_count, place_same}
 
 pub all_of_lem : (P : ℕ → Type 0) (l : List ℕ) → ((i : ℕ) → i < length l → P (get_or l i 0)) → All P l
 all_of_lem P [] h = tt

@@ -15,9 +15,9 @@ use lib.Ieee.Exact.{HasValue, round_exact}
 use lib.Ieee.Order.{round_mono}
 use lib.Ieee.Scale.{round_same}
 use borrow.Author.Tests.{lt-ltb, le-ltb, ltb-true, ltb-false}
-use Rattle.float.specs.Small.{is_finite}
-use Rattle.float.specs.Hypot.{grains}
-use Rattle.float.proofs.Keys.{not_both}
+use Rattle.numbers.specs.Small.{is_finite}
+use Rattle.numbers.specs.Hypot.{grains}
+use Rattle.numbers.proofs.float.Keys.{not_both}
 
 -- ---- a finite float is a whole number of grains of 2 ^ -1074
 

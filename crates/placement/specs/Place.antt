@@ -1,14 +1,14 @@
--- 5. Each station stands at the first free place, one after the other. Definitions only.
+-- Each station stands at the first free place, one after the other (docs/RULES.md, 'Free places'). Definitions only.
 use Rattle.std.specs.Prelude.{ℕ, zero, suc, Bool, List, map, length, get_or, take, set}
-use Rattle.order.specs.Order.{pick}
-use Rattle.order.specs.Table.{table}
-use Rattle.geometry.specs.declared.Point.{Point}
-use Rattle.geometry.specs.declared.Box.{Box}
+use Rattle.numbers.specs.Order.{pick}
+use Rattle.numbers.specs.Table.{table}
+use Rattle.plane.specs.declared.geometry.Point.{Point}
+use Rattle.plane.specs.declared.geometry.Box.{Box}
 use Rattle.network.specs.Words.{is_occupied}
-use Rattle.seeds.specs.Seed.{place_at}
+use Rattle.network.specs.Seed.{place_at}
 use Rattle.offsets.specs.declared.offset.Offset.{Offset}
-use Rattle.free_places.specs.Search.{Frame, box_on, buffered, frame_at, free, place_for}
-use Rattle.geometry.specs.Plane.{no_box}
+use Rattle.placement.specs.Search.{Frame, box_on, buffered, frame_at, free, place_for}
+use Rattle.plane.specs.Plane.{no_box}
 
 -- station s's box, at these places
 unfoldable pub box_of : List Frame → List Point → ℕ → Box

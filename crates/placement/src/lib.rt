@@ -1,4 +1,8 @@
-// Placement: the first free place of each station, and boxes.
+//! Placement: the first free place of each station, and boxes.
 #![tactic(auto)]
 
-pub mod search;
+pub(crate) mod free_places;
+pub mod plan;
+pub(crate) mod search;
+pub mod sized;
+pub mod turns;

@@ -1,16 +1,17 @@
--- What crosses to C and Rust: 01's number of an answer and the numbers beside the lists. Definitions only.
+-- What crosses to C and Rust: the number of an answer (docs/RULES.md, 'Refusals') and the numbers beside the lists.
+-- Definitions only.
 use Rattle.std.specs.Prelude.{◌≡◌, Result, Ok, Err}
-use Rattle.float.specs.Ops.{f0}
-use Rattle.options.specs.declared.Options.{Options}
-use Rattle.refusals.specs.declared.Refusal.{Refusal}
-use Rattle.refusals.specs.Refusal.{number}
+use Rattle.numbers.specs.Ops.{f0}
+use Rattle.network.specs.declared.options.Options.{Options}
+use Rattle.network.specs.declared.refusals.Refusal.{Refusal}
+use Rattle.network.specs.Refusal.{number}
 use Rattle.drawing.specs.declared.answer.Plot.{Plot}
 use Rattle.drawing.specs.Network as Network
 use Rattle.drawing.specs.Answer as Layout
 use Rattle.drawing.specs.Number.{layout_number}
-use Rattle.findings.specs.declared.answer.Figures.{Figures}
-use Rattle.findings.specs.Drawn as Drawn
-use Rattle.findings.specs.Answer as Quality
+use Rattle.audit.specs.declared.findings.answer.Figures.{Figures}
+use Rattle.audit.specs.Drawn as Drawn
+use Rattle.audit.specs.Answer as Quality
 use Rattle.records.specs.declared.plain.Settings.{Settings}
 use Rattle.records.specs.declared.plain.Plotted.{Plotted}
 use Rattle.records.specs.declared.plain.Audited.{Audited}
@@ -75,8 +76,10 @@ judged a l w = record { answer = a; lists = l; work = w }
 unfoldable pub plain_audit : Quality.Call → Judged
 plain_audit c = judged (audited c.answer) c.lists c.work
 
--- What the calls give: 01's number, and by one equation the other numbers and what each lent list holds after it.
-pub record LayoutAnswered (s : Settings) (N : Network.Network) (L : Network.Lists) (W : Network.Work) (X : Network.Crossings) (D : Drew) : Type 0 where
+-- What the calls give: the number of the first refusal that applies, or 0; and by one equation the other numbers and
+-- what each lent list holds after it.
+pub record LayoutAnswered (s : Settings) (N : Network.Network) (L : Network.Lists) (W : Network.Work)
+    (X : Network.Crossings) (D : Drew) : Type 0 where
   pub number : D.answer.number ≡ layout_number (options_of s) N (Layout.room_of L W X)
   pub is : D ≡ plain_layout (Layout.layout_of (options_of s) N L W X)
 

@@ -1,4 +1,5 @@
-// Answers as plain records, for C and Rust.
+//! Options and answers as plain records, for C and Rust.
 #![tactic(auto)]
 
+/// The records, laid out as in C.
 pub mod plain;

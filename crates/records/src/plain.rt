@@ -2,50 +2,72 @@
 ghost use Rattle.std.specs.Prelude.{◌≡◌};
 ghost use Rattle.records.specs.Plain.{options_of, plotted, audited};
 
+use audit::findings::answer::Figures;
 use drawing::answer::Plot;
-use findings::answer::Figures;
-use options::{Gaps, Options};
-use refusals::Refusal;
+use network::options::{Gaps, Options};
+use network::refusals::Refusal;
 
-// The options of a drawing (crate `network`).
+/// The options of a drawing (docs/RULES.md, 'Options'), `tansygate_settings` of the header.
 #[repr(C)]
 #[derive(Clone, Copy)]
 pub struct Settings {
+    /// Typical box size, in median spacings: above 0, at most 16.
     pub fill: f64,
+    /// Neighbours are counted within so many spacings: 0 to 1,000.
     pub tier_radius: f64,
+    /// From so many neighbours a station is drawn at `tier_scale_1`.
     pub tier_count_1: u32,
+    /// From so many at `tier_scale_2`.
     pub tier_count_2: u32,
+    /// 1/64 to 1.
     pub tier_scale_1: f64,
+    /// 1/64 to 1.
     pub tier_scale_2: f64,
+    /// Offsets on either side of a seed: 0 to 20.
     pub search: i32,
+    /// Rounds of channel spacing: 0 to 100; 0 draws lines straight.
     pub route_iterations: u32,
+    /// From one bar to the next, in blocks: 0.5 to 8, as the three below.
     pub bar_gap: f64,
+    /// From each side of a box to its bars and rows.
     pub pad: f64,
+    /// The shortest bar.
     pub min_bar: f64,
+    /// Kept free around each box.
     pub buffer: f64,
 }
 
-// Number 0 with the unit, the bounds and the count of pieces, or a refusal's number and zeros.
+/// A drawing's answer: number 0 with the unit, the bounds and the count of pieces, or a refusal's
+/// number and zeros.
 #[repr(C)]
 #[derive(Clone, Copy)]
 pub struct Plotted {
+    /// 0, or a refusal's number (docs/RULES.md, 'Refusals').
     pub number: u32,
+    /// So many pieces stand in the lent piece lists.
     pub pieces: usize,
+    /// Drawing units a block.
     pub unit: f64,
+    /// The bounds, as the three below.
     pub left: f64,
     pub top: f64,
     pub right: f64,
     pub bottom: f64,
 }
 
-// Number 0 with the audit's four counts, or a refusal's number and zeros.
+/// An audit's answer: number 0 with the four counts, or a refusal's number and zeros.
 #[repr(C)]
 #[derive(Clone, Copy)]
 pub struct Audited {
+    /// 0, or a refusal's number (docs/RULES.md, 'Refusals').
     pub number: u32,
+    /// Occupied stations: so many figures stand in displacement and spacing.
     pub stations: usize,
+    /// Pairs of their boxes that overlap.
     pub overlaps: usize,
+    /// Pieces of lines that run through a box of another station.
     pub through: usize,
+    /// Relative lengths.
     pub relative: usize,
 }
 
@@ -54,21 +76,21 @@ impl From<Settings> for Options {
     ghost from_gives = { λ s o. o ≡ options_of s };
 
     #[tactic(auto, unfolding(crate::specs::Plain::options_of))]
-    fn from(s: Settings) -> Options {
+    fn from(settings: Settings) -> Options {
         Options {
-            fill: s.fill,
-            tier_radius: s.tier_radius,
-            tier_count_1: s.tier_count_1,
-            tier_count_2: s.tier_count_2,
-            tier_scale_1: s.tier_scale_1,
-            tier_scale_2: s.tier_scale_2,
-            search: s.search,
-            route_iterations: s.route_iterations,
+            fill: settings.fill,
+            tier_radius: settings.tier_radius,
+            tier_count_1: settings.tier_count_1,
+            tier_count_2: settings.tier_count_2,
+            tier_scale_1: settings.tier_scale_1,
+            tier_scale_2: settings.tier_scale_2,
+            search: settings.search,
+            route_iterations: settings.route_iterations,
             gaps: Gaps {
-                bar_gap: s.bar_gap,
-                pad: s.pad,
-                min_bar: s.min_bar,
-                buffer: s.buffer,
+                bar_gap: settings.bar_gap,
+                pad: settings.pad,
+                min_bar: settings.min_bar,
+                buffer: settings.buffer,
             },
         }
     }
@@ -79,8 +101,8 @@ impl From<Result<Plot, Refusal>> for Plotted {
     ghost from_gives = { λ a p. p ≡ plotted a };
 
     #[tactic(auto, unfolding(crate::specs::Plain::plotted))]
-    fn from(a: Result<Plot, Refusal>) -> Plotted {
-        match a {
+    fn from(answer: Result<Plot, Refusal>) -> Plotted {
+        match answer {
             Ok(p) => Plotted {
                 number: 0,
                 pieces: p.pieces,
@@ -108,8 +130,8 @@ impl From<Result<Figures, Refusal>> for Audited {
     ghost from_gives = { λ a q. q ≡ audited a };
 
     #[tactic(auto, unfolding(crate::specs::Plain::audited))]
-    fn from(a: Result<Figures, Refusal>) -> Audited {
-        match a {
+    fn from(answer: Result<Figures, Refusal>) -> Audited {
+        match answer {
             Ok(f) => Audited {
                 number: 0,
                 stations: f.stations,

@@ -1,8 +1,10 @@
-// Runs stored calls through layout and audit, and prints how many agree with the original's answers, for each answer.
-//
-// Standard input has a call and the original's answer on each line: L or A, then words in hexadecimal digits, each after a
-// space (src/layouts.rt, src/audits.rt; made by reference/make_replay). At the first that differs its line number is
-// printed, and nothing further is run.
+//! Runs stored calls through layout and audit, and prints how many agree with the original's
+//! answers, for each answer.
+//!
+//! Standard input has a call and the original's answer on each line: L or A, then words in
+//! hexadecimal digits, each after a space (src/layouts.rt, src/audits.rt; made by
+//! reference/make_replay). At the first that differs its line number is printed, and nothing
+//! further is run.
 #![tactic(auto)]
 
 mod audits;
@@ -16,7 +18,7 @@ use std::io::Read;
 // How much of the input is read.
 const MOST_BYTES: u64 = 524288;
 
-// How many calls came to each answer, by its number: it is read and printed as one, so names would be turned back into it.
+// How many calls came to each answer, by its number.
 type Counts = [u64; 16];
 
 // One more of this number.
@@ -29,7 +31,7 @@ fn count(counts: &mut Counts, number: u64) {
 // Whether the call on one line agrees; it is counted by its answer.
 fn agrees(line: &[u8], drawn: &mut Counts, audited: &mut Counts) -> bool {
     let mut w = [0; 1024];
-    stored::words(line.get(2..).unwrap_or(&[]), &mut w);
+    text::stored::words(line.get(2..).unwrap_or(&[]), &mut w);
     match line.first() {
         Some(b'L') => {
             count(drawn, w[25]);
@@ -63,7 +65,6 @@ fn print_counts(rt: &impl Print, name: &str, counts: &Counts) -> io::Result<()> 
 }
 
 fn main(rt: HostRuntime) -> io::Result<()> {
-    // all at once: `rt.lines` would allocate each line, and fail where one is no UTF-8
     let mut text = Vec::new(rt.alloc());
     let mut drawn = [0; 16];
     let mut audited = [0; 16];

@@ -1,24 +1,25 @@
 // Numbers of a stored call, taken from its words.
-use float::bits::of_bits;
-use stored::{length_at, word_at};
+use numbers::float::bits::of_bits;
+use text::stored::{length_at, word_at};
 
-// A list in the length of word i, at most its own.
-pub(crate) fn lent<'a, T>(list: &'a [T], w: &[u64], i: usize) -> &'a [T] {
-    &list[..length_at(w, i, list.len())]
+// A list in the length of a word, at most its own.
+pub(crate) fn lent<'a, T>(list: &'a [T], words: &[u64], place: usize) -> &'a [T] {
+    &list[..length_at(words, place, list.len())]
 }
 
 // A number, at most that of 32 bits.
-fn u32_of(x: u64) -> u32 {
-    u32::try_from(x).unwrap_or(u32::MAX)
+fn u32_of(word: u64) -> u32 {
+    u32::try_from(word).unwrap_or(u32::MAX)
 }
 
-pub(crate) fn u32_at(w: &[u64], i: usize) -> u32 {
-    u32_of(word_at(w, i))
+// The word at a place, at most that of 32 bits.
+pub(crate) fn u32_at(words: &[u64], place: usize) -> u32 {
+    u32_of(word_at(words, place))
 }
 
 // A search range; from 128 on it is -1.
-pub(crate) fn search_at(w: &[u64], i: usize) -> i32 {
-    let x = word_at(w, i);
+pub(crate) fn search_at(words: &[u64], place: usize) -> i32 {
+    let x = word_at(words, place);
     if x < 128 { x as i32 } else { -1 }
 }
 
@@ -57,9 +58,9 @@ impl Words<'_> {
     }
 }
 
-// Whether x is the number with the pattern `bits`: +0 equals -0, a NaN only a NaN.
-// The library has no such equality: `==` takes no NaN for another, and `total_cmp` tells +0 from -0.
-pub(crate) fn same(x: f64, bits: u64) -> bool {
-    let y = of_bits(bits);
-    x == y || x.is_nan() && y.is_nan()
+// Whether a float is the number with the pattern `bits`: +0 equals -0, a NaN only a NaN
+// (docs/RULES.md, 'Equality of results').
+pub(crate) fn same(value: f64, bits: u64) -> bool {
+    let other = of_bits(bits);
+    value == other || value.is_nan() && other.is_nan()
 }

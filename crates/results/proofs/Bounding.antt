@@ -4,8 +4,8 @@ use mathlib.Core.List.{List}
 use Prim.Native.Nat.{ℕ, ◌+◌, ◌*◌, ◌≤◌, ◌<◌}
 use lib.ListN.{get_or}
 use lib.Ieee.{Float}
-use Rattle.geometry.specs.declared.Box.{Box}
-use Rattle.geometry.specs.Plane.{box_at, no_box}
+use Rattle.plane.specs.declared.geometry.Box.{Box}
+use Rattle.plane.specs.Plane.{box_at, no_box}
 use Rattle.network.specs.Words.{occupied}
 use Rattle.network.specs.Views.{counts_in, boxes_in}
 use Rattle.network.proofs.Views.{get_d_boxes}

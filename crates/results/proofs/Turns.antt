@@ -6,15 +6,15 @@ use native.Mathlib.Omega.{arith}
 use lib.ListN.{length, get_or, set}
 use lib.Seq.{sets}
 use lib.Ieee.{Float, nan}
-use Rattle.order.specs.Table.{table_from, table, strided}
-use Rattle.geometry.specs.declared.Point.{Point}
-use Rattle.geometry.specs.declared.Box.{Box}
-use Rattle.geometry.specs.Plane.{box_at}
+use Rattle.numbers.specs.Table.{table_from, table, strided}
+use Rattle.plane.specs.declared.geometry.Point.{Point}
+use Rattle.plane.specs.declared.geometry.Box.{Box}
+use Rattle.plane.specs.Plane.{box_at}
 use Rattle.network.specs.Words.{station_of}
 use Rattle.network.specs.Views.{boxes_in}
-use Rattle.measures.specs.declared.Measures.{Measures}
-use Rattle.bars.specs.declared.Bar.{Bar}
-use Rattle.bars.specs.Bar.{position}
+use Rattle.stations.specs.declared.measures.Measures.{Measures}
+use Rattle.stations.specs.declared.bars.Bar.{Bar}
+use Rattle.stations.specs.Bar.{position}
 use Rattle.runs.specs.Stages.Views.{bar_of}
 use Rattle.runs.specs.Lists.{flat, point_numbers, box_numbers, bar_numbers}
 use Rattle.results.proofs.Writes.{Written, written_none, written_more, written_one, flat_none, flat_more, table_more, two_stores, four_stores}

@@ -6,10 +6,10 @@ use native.Mathlib.Omega.{arith}
 use native.Mathlib.Numerals.{add-one}
 use lib.ListN.{length, set, drop, take, length-append}
 use lib.Seq.{sets, sets-eq, length-sets, take_at, drop-append-add, drop-drop}
-use Rattle.order.specs.Table.{table}
-use Rattle.order.proofs.Tables.{table_zero, table_suc}
+use Rattle.numbers.specs.Table.{table}
+use Rattle.numbers.proofs.order.Tables.{table_zero, table_suc}
 use Rattle.runs.specs.Lists.{flat}
-use Rattle.order.specs.Over.{over}
+use Rattle.numbers.specs.Over.{over}
 
 module _ {A : Type 0} where
   -- the first n elements of l are new, the others those of old

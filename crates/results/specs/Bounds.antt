@@ -1,11 +1,11 @@
--- The bounds of a drawing. Definitions only.
+-- The bounds of a drawing (docs/RULES.md, 'Runs, pieces, roles and bounds'). Definitions only.
 use Rattle.std.specs.Prelude.{ℕ, true, false, List, [], ◌∷◌}
 use Rattle.std.specs.Float.{inf}
-use Rattle.float.specs.Small.{min_of, max_of, is_finite}
-use Rattle.float.specs.Ops.{f0, f1}
-use Rattle.order.specs.Order.{pick}
-use Rattle.geometry.specs.declared.Box.{Box}
-use Rattle.geometry.specs.Plane.{box_in}
+use Rattle.numbers.specs.Small.{min_of, max_of, is_finite}
+use Rattle.numbers.specs.Ops.{f0, f1}
+use Rattle.numbers.specs.Order.{pick}
+use Rattle.plane.specs.declared.geometry.Box.{Box}
+use Rattle.plane.specs.Plane.{box_in}
 
 -- the least box around b and another
 unfoldable pub around : Box → Box → Box

@@ -1,29 +1,28 @@
-// The bounds of a drawing.
-ghost use Rattle.std.specs.Prelude.{◌≡◌, ◌*◌, ◌≤◌, length};
-ghost use Rattle.network.specs.Words.{occupied};
-ghost use Rattle.network.specs.Views.{counts_in, boxes_in};
+// The bounds of a drawing (docs/RULES.md, 'Runs, pieces, roles and bounds').
+ghost use Rattle.std.specs.Prelude.{◌≡◌};
+ghost use Rattle.boxes.specs.Stages.Lent.{boxes_of, occupied_of};
 ghost use Rattle.results.specs.Bounds.{around, around_all, nowhere, bounds_of};
 
-use float::small::{is_finite, max, min};
-use geometry::{Box, box_at};
 use network::lists::Placed;
+use numbers::float::small::{is_finite, max, min};
+use plane::geometry::{Box, box_at};
 
-// The least box around b and another.
+// The least box around two.
 #[tactic(auto, unfolding(crate::specs::Bounds::around))]
-fn around(b: Box, c: Box) -> Box
-    ensures { result ≡ around b c }
+fn around(bounds: Box, station_box: Box) -> Box
+    ensures { result ≡ around bounds station_box }
 {
     Box {
-        left: min(b.left, c.left),
-        top: min(b.top, c.top),
-        right: max(b.right, c.right),
-        bottom: max(b.bottom, c.bottom),
+        left: min(bounds.left, station_box.left),
+        top: min(bounds.top, station_box.top),
+        right: max(bounds.right, station_box.right),
+        bottom: max(bounds.bottom, station_box.bottom),
     }
 }
 
 // The least box around the occupied stations' boxes.
 fn around_all(placed: &Placed<'_>) -> Box
-    ensures { result ≡ around_all (boxes_in placed.now.k placed.now.frames.now) nowhere (occupied (counts_in placed.now.k placed.now.stations.now)) }
+    ensures { result ≡ around_all (boxes_of placed.now) nowhere (occupied_of placed.now) }
 {
     let mut b = Box {
         left: f64::INFINITY,
@@ -39,10 +38,11 @@ fn around_all(placed: &Placed<'_>) -> Box
     b
 }
 
-// The bounds, 0, 0, 1, 1 where no station is occupied.
+/// The bounds of a drawing: the least box around the occupied stations' boxes; 0, 0, 1, 1 where no
+/// station is occupied.
 #[tactic(auto, unfolding(crate::specs::Bounds::bounds_of))]
 pub fn bounds_of(placed: &Placed<'_>) -> Box
-    ensures { result ≡ bounds_of (boxes_in placed.now.k placed.now.frames.now) (occupied (counts_in placed.now.k placed.now.stations.now)) }
+    ensures { result ≡ bounds_of (boxes_of placed.now) (occupied_of placed.now) }
 {
     let b = around_all(placed);
     if is_finite(b.left) {

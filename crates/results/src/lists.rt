@@ -1,38 +1,43 @@
 // The lists of stations and branches: boxes, scales and roles.
 ghost use Rattle.std.specs.Prelude.{◌≡◌, map, ◌*◌, ◌≤◌, length};
 ghost use Rattle.std.specs.Float.{nan};
-ghost use Rattle.order.specs.Table.{strided};
-ghost use Rattle.network.specs.Words.{kinds};
+ghost use Rattle.numbers.specs.Table.{strided};
 ghost use Rattle.network.specs.Views.{boxes_in};
 ghost use Rattle.runs.specs.Run.{role};
-ghost use Rattle.order.specs.Over.{over};
+ghost use Rattle.numbers.specs.Over.{over};
 ghost use Rattle.runs.specs.Lists.{flat, box_numbers};
+ghost use Rattle.results.specs.Stages.Lent.{kinds_in};
 
-use geometry::box_at;
 use network::lists::Network;
+use network::seeds::put_box;
 use network::words::{Kind, kind_of};
-use seeds::put_box;
+use plane::geometry::box_at;
 
-// The stations' boxes and scales.
-// `boxes` and `scales` are written, so their lengths are asked as the slices' own. `Placed` and `sizes::Measured`, which hold `frames` and `blocks`, would ask for bus counts, which aren't read here.
+/// Writes the stations' boxes, four numbers each, and their scales, one each, which stand third of
+/// three numbers in `blocks`. What stands behind them in both lists stays.
 pub fn write_stations(
-    k: usize,
+    station_count: usize,
     frames: &[f64],
     blocks: &[f64],
     boxes: &mut [f64],
     scales: &mut [f64],
 )
-    requires { (4 * k ≤ length frames.now) × (4 * k ≤ length boxes.old) × (3 * k ≤ length blocks.now) × (k ≤ length scales.old) }
-    ensures boxes_after { boxes.new ≡ over (flat box_numbers (boxes_in k frames.now)) boxes.old }
-    ensures scales_after { scales.new ≡ over (strided 3 2 nan k blocks.now) scales.old }
+    requires frames_given { 4 * station_count ≤ length frames.now }
+    requires boxes_fit { 4 * station_count ≤ length boxes.old }
+    requires blocks_given { 3 * station_count ≤ length blocks.now }
+    requires scales_fit { station_count ≤ length scales.old }
+    ensures boxes_after { boxes.new
+        ≡ over (flat box_numbers (boxes_in station_count frames.now)) boxes.old }
+    ensures scales_after { scales.new
+        ≡ over (strided 3 2 nan station_count blocks.now) scales.old }
 {
-    for s in 0..k {
+    for s in 0..station_count {
         put_box(boxes, s, box_at(frames, s));
         scales[s] = blocks[3 * s + 2];
     }
 }
 
-// Roles: 0 line, 1 internal, 2 open or undrawn; a u8, as C's list holds it.
+// A branch's role: 0 line, 1 internal, 2 open or undrawn.
 #[tactic(auto, unfolding(runs::specs::Run::role))]
 fn role_of(kind: Kind) -> u8
     ensures { result ≡ role kind }
@@ -45,12 +50,14 @@ fn role_of(kind: Kind) -> u8
     }
 }
 
-// The branches' roles. A `Bounded` network would ask for few buses too, where this asks for few branches.
-pub fn write_roles(net: &Network<'_>, roles: &mut [u8])
-    requires { (length net.now.from.now ≤ 8192) × (length net.now.from.now ≤ length roles.old) }
-    ensures { roles.new ≡ over (map role (kinds net.now.sub.now net.now.from.now net.now.to.now net.now.service.now)) roles.old }
+/// Writes each branch's role: 0 line, 1 internal, 2 open or undrawn
+/// (docs/RULES.md, 'Runs, pieces, roles and bounds').
+pub fn write_roles(network: &Network<'_>, roles: &mut [u8])
+    requires few_branches { length network.now.from.now ≤ 8192 }
+    requires roles_fit { length network.now.from.now ≤ length roles.old }
+    ensures { roles.new ≡ over (map role (kinds_in network.now)) roles.old }
 {
-    for e in 0..net.from.len() {
-        roles[e] = role_of(kind_of(net, e));
+    for e in 0..network.from.len() {
+        roles[e] = role_of(kind_of(network, e));
     }
 }

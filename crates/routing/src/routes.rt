@@ -1,89 +1,169 @@
-// 01, 7: lines cross mesh edges as `route_lines` walks them. Every line traced, or refusal 10.
-ghost use Rattle.std.specs.Prelude.{◌≡◌, true, ℕ, ◌+◌, ◌*◌, ◌≤◌, length};
-ghost use Rattle.mesh.specs.Mesh.{mesh_ok};
-ghost use Rattle.crossings.specs.Stages.Views.{scene_in};
-ghost use Rattle.crossings.specs.Stages.Store.{Unmarked};
-ghost use Rattle.routing.specs.Stages.Traced.{Settled, Traced, Pathless, lined};
+// Lines routed through the mesh: refusals 9 and 10, crossings, rounds, waypoints.
+ghost use Rattle.std.specs.Prelude.{◌≡◌, ℕ, ◌+◌, ◌*◌, ◌≤◌, ◌<◌, length};
+ghost use Rattle.std.specs.Result.{result_err};
+ghost use Rattle.network.specs.Mesh.{mesh_ok};
+ghost use Rattle.routing.specs.Stages.RoundLists.{station_in};
+ghost use Rattle.routing.specs.Stages.Exits.{Exited};
+ghost use Rattle.routing.specs.Routes.{mesh_used};
+ghost use Rattle.routing.specs.Stages.Routed.{Routes};
+ghost use Rattle.routing.specs.Stages.Led.{Led};
+ghost use Rattle.routing.specs.Stages.Lent.{grid_among, scene_among, half_edges};
+ghost use Rattle.routing.specs.Stages.Lent.{HoldsCrossings, HoldsHalfEdges};
 
-use crate::lines::{Counts, clear_marks, count_all, store_all};
-use crossings::corners::Vertices;
-use crossings::ways::write_ways;
-use half_edges::{Turned, go_round};
-use network::lists::Network;
+use crate::crossings::corners::{Vertices, occupied_corners};
+use crate::rounds::space_all_rounds;
+use crate::surroundings::Surroundings;
+use crate::tracing::routes::{clear_paths, trace_all};
+use network::lists::Bounded;
+use network::mesh::mesh_ok;
+use network::refusals::Refusal;
 
-// Sets the paths of m branches to none.
-pub fn clear_paths(m: usize, ends: &mut [u32])
-    requires { 4 * m ≤ length ends.old }
-    ensures { Pathless m ends.old ends.new }
+// Whether the mesh is looked at.
+#[tactic(auto, unfolding(crate::specs::Routes::mesh_used))]
+fn mesh_used(stations: usize, iterations: u32) -> bool
+    ensures { result ≡ mesh_used stations iterations }
 {
-    for e in 0..m {
-        ends[4 * e + 2] = 0;
-        ends[4 * e + 3] = 0;
-    }
+    3 <= stations && 0 < iterations
 }
 
-// Counts the crossings of m branches by their ways, and stores them where there is room; else answers how many there are.
-// That the mesh is in order for some number of corners is what `trace_all` knows of it: as a ghost field of `Turned` it would be asked of the public `trace`, `store_trail` and `channel_for` too.
-// m and the room are asked as in `store_all`.
-fn store_routes(
-    turned: &Turned<'_>,
-    points: &[f64],
-    m: u32,
+// Routes the lines through the mesh over the occupied stations, whose places are at the front of
+// `path`; the channels' ranges are written behind them.
+#[tactic(auto, using(crate::proofs::routes::Leading::mesh_room))]
+fn route_used(
     room: usize,
-    trail: &mut [u32],
-    ends: &mut [u32],
-    numbers: &mut [u32],
-    places: &mut [f64],
-) -> Result<Counts, usize>
-    requires m_bound { (m ≤ 8192) × (length turned.now.mesh.corners.now ≤ length trail.old) × (4 * (m + length turned.now.mesh.corners.now) + 4 ≤ length ends.old) × (3 * room ≤ length numbers.old) × (room ≤ length places.old) }
-    requires by_index { (n : ℕ) × (mesh_ok turned.now.mesh.corners.now turned.now.mesh.twins.now n ≡ true) }
-    requires unmarked { Unmarked m turned.now.mesh.corners.now ends.old }
-    ensures { Settled m turned.now.mesh.corners.now turned.now.mesh.twins.now points.now room ends.old result ends.new numbers.new places.new }
-{
-    let x = count_all(turned, points, m, ends, trail);
-    if x > room {
-        return Err(x);
-    }
-    Ok(store_all(turned, points, m, trail, ends, numbers, places))
-}
-
-// Traces every line between the occupied stations, whose places are at the front of path. The crossing lists hold `room` crossings; where there are more, none is stored, and their number is the error. `keys` and `sorted` are work lists, and `spare` too.
-// `keys`, `sorted`, `spare`, `ends`, `numbers` and `places` are written: behind the `&mut` of a struct other lists could be put, so each contract would have to say of each list that it is the one that was lent.
-// At most 8,192 branches are asked and no `Bounded`, which would ask for at most 4,096 buses too.
-pub fn trace_all(
-    net: &Network<'_>,
+    network: &Bounded<'_>,
+    surroundings: &Surroundings<'_>,
     vertices: &Vertices<'_>,
-    path: &[f64],
-    room: usize,
-    keys: &mut [u64],
+    ends: &mut [u32],
     sorted: &mut [u32],
     spare: &mut [u32],
-    ends: &mut [u32],
+    keys: &mut [u64],
+    path: &mut [f64],
     numbers: &mut [u32],
-    places: &mut [f64],
-) -> Result<Counts, usize>
-    requires from_len_bound { (length net.now.from.now ≤ 8192) × (2 * vertices.now.c ≤ length path.now) × (length net.now.mesh.corners.now ≤ length keys.old) × (length net.now.mesh.corners.now ≤ length sorted.old) × (length net.now.mesh.corners.now ≤ length spare.old) × (4 * (length net.now.from.now + length net.now.mesh.corners.now) + 4 ≤ length ends.old) × (3 * room ≤ length numbers.old) × (room ≤ length places.old) }
-    requires c_value { mesh_ok net.now.mesh.corners.now net.now.mesh.twins.now vertices.now.c ≡ true }
-    ensures { Traced (λ k G. scene_in (lined net.now.sub.now net.now.from.now net.now.to.now net.now.service.now G) k vertices.now.c vertices.now.stations.now path.now net.now.mesh.corners.now net.now.mesh.twins.now) (length net.now.from.now) net.now.mesh.corners.now room ends.old result ends.new numbers.new places.new }
+    along: &mut [f64],
+    ways: &mut [f64],
+) -> Result<(), Refusal>
+    requires frames_given { 4 * surroundings.now.station_count
+        ≤ length surroundings.now.frames.now }
+    requires path_fits { 2 * vertices.now.c + 3 * half_edges network.now.lists
+        ≤ length path.old }
+    requires exits_given { Exited (grid_among network.now.lists surroundings.now ends.old) }
+    requires holds_crossings { HoldsCrossings room
+        numbers.old along.old ways.old sorted.old spare.old keys.old }
+    requires holds_half_edges { HoldsHalfEdges network.now.lists
+        ends.old sorted.old spare.old keys.old }
+    requires corners_in_bounds { (v : ℕ) → v < vertices.now.c
+        → station_in vertices.now.stations.now v < surroundings.now.station_count }
+    ensures { Led
+        (scene_among network.now.lists surroundings.now vertices.now.c vertices.now.stations.now
+        ends.old path.old)
+        (length network.now.lists.from.now)
+        network.now.lists.mesh.corners.now ends.old
+        (mesh_ok network.now.lists.mesh.corners.now
+        network.now.lists.mesh.twins.now vertices.now.c)
+        surroundings.now.iterations room (result_err result) ends.new ways.new }
 {
-    let m = net.from.len() as u32;
-    let n = net.mesh.corners.len();
-    write_ways(net, vertices, ends);
-    clear_marks(m, n, ends);
-    go_round(net.mesh.corners, keys, sorted, spare);
-    let turned = Turned {
-        mesh: net.mesh,
-        around: sorted,
-    };
-    let last = 2 * vertices.c;
-    store_routes(
-        &turned,
-        &path[..last],
-        m,
+    if !mesh_ok(&network.lists.mesh, vertices.c) {
+        return Err(Refusal::Mesh);
+    }
+    let traced = trace_all(
+        &network.lists,
+        vertices,
+        path,
         room,
+        keys,
+        sorted,
         spare,
         ends,
         numbers,
-        places,
+        along,
+    );
+    let Ok(t) = traced else {
+        return Err(Refusal::Crossings);
+    };
+    space_all_rounds(
+        network,
+        surroundings,
+        vertices,
+        ends,
+        path,
+        t,
+        numbers,
+        along,
+        ways,
+        sorted,
+        spare,
+        keys,
+    );
+    Ok(())
+}
+
+/// Routes the lines of the network through the mesh (docs/RULES.md, 'Rounds and waypoints'), where
+/// three stations or more are occupied and there are iterations; else no line has a waypoint. The
+/// lines' exits stand behind the stations' places, as `write_exits` puts them. The occupied
+/// stations become the second of two numbers each of `stations`; a branch's last two numbers of
+/// `ends` become its first waypoint in `ways` and how many it has. `numbers` and `along` hold
+/// `room` crossings; `sorted`, `spare`, `keys` and `path` are work lists.
+///
+/// Refusal 9 where the mesh doesn't pass its test, refusal 10 where there are more crossings than
+/// `room`.
+#[tactic(auto, using(crate::proofs::routes::Scenes::order_rises))]
+pub fn route_lines(
+    room: usize,
+    network: &Bounded<'_>,
+    surroundings: &Surroundings<'_>,
+    stations: &mut [u32],
+    ends: &mut [u32],
+    sorted: &mut [u32],
+    spare: &mut [u32],
+    keys: &mut [u64],
+    path: &mut [f64],
+    numbers: &mut [u32],
+    along: &mut [f64],
+    ways: &mut [f64],
+) -> Result<(), Refusal>
+    requires few_stations { surroundings.now.station_count ≤ 4096 }
+    requires stations_fit { 2 * surroundings.now.station_count ≤ length stations.old }
+    requires places_given { 2 * surroundings.now.station_count
+        ≤ length surroundings.now.places.now }
+    requires frames_given { 4 * surroundings.now.station_count
+        ≤ length surroundings.now.frames.now }
+    requires path_fits { 2 * surroundings.now.station_count
+        + 3 * half_edges network.now.lists ≤ length path.old }
+    requires exits_given { Exited (grid_among network.now.lists surroundings.now ends.old) }
+    requires holds_crossings { HoldsCrossings room
+        numbers.old along.old ways.old sorted.old spare.old keys.old }
+    requires holds_half_edges { HoldsHalfEdges network.now.lists
+        ends.old sorted.old spare.old keys.old }
+    ensures { Routes (grid_among network.now.lists surroundings.now ends.old)
+        surroundings.now.station_count
+        stations.old network.now.lists.mesh.corners.now
+        network.now.lists.mesh.twins.now
+        surroundings.now.iterations room (result_err result) stations.new ends.new ways.new }
+{
+    let c = occupied_corners(
+        surroundings.station_count,
+        stations,
+        surroundings.places,
+        path,
+    );
+    if !mesh_used(c, surroundings.iterations) {
+        clear_paths(network.lists.from.len(), ends);
+        return Ok(());
+    }
+    let vertices = Vertices { c, stations };
+    route_used(
+        room,
+        network,
+        surroundings,
+        &vertices,
+        ends,
+        sorted,
+        spare,
+        keys,
+        path,
+        numbers,
+        along,
+        ways,
     )
 }

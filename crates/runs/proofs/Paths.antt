@@ -9,17 +9,17 @@ use native.Mathlib.Omega.{arith}
 use lib.ListN.{length, set, length-set, length-append}
 use lib.Seq.{take-set-le}
 use lib.Ieee.{Float}
-use Rattle.measures.specs.declared.Measures.{Measures}
-use Rattle.order.specs.Order.{pick}
-use Rattle.geometry.specs.declared.Point.{Point}
-use Rattle.geometry.specs.Plane.{point_at}
+use Rattle.stations.specs.declared.measures.Measures.{Measures}
+use Rattle.numbers.specs.Order.{pick}
+use Rattle.plane.specs.declared.geometry.Point.{Point}
+use Rattle.plane.specs.Plane.{point_at}
 use Rattle.network.specs.Words.{station_of, occupied}
 use Rattle.network.specs.Views.{counts_in, points_in, boxes_in}
 use Rattle.network.proofs.Views.{put_point, point_same, point_other, points_zero, points_push}
-use Rattle.detour.specs.Detour.{detour}
-use Rattle.detour.specs.Stages.Paths.{path_in, Led}
-use Rattle.detour.proofs.Shifting.{point_before, path_zero, path_more, path_cons, length_path}
-use Rattle.detour.proofs.Detours.{length_detour, led_short}
+use Rattle.boxes.specs.Detour.{detour}
+use Rattle.boxes.specs.Stages.Paths.{path_in, Led}
+use Rattle.boxes.proofs.detour.Shifting.{point_before, path_zero, path_more, path_cons, length_path}
+use Rattle.boxes.proofs.detour.Detours.{length_detour, led_short}
 use Rattle.network.specs.declared.words.Kind.{Kind}
 use Rattle.network.specs.declared.words.Kind.TheVariants.{Undrawn, Open, Internal, Line}
 use Rattle.runs.specs.Run.{is_line}
@@ -124,6 +124,8 @@ module _ (gap : Float) (k : ℕ) (stations : List ℕ) (frames : List Float) (s 
 
   pub led_more : r ≤ count + 4
   led_more = led_short (boxes_in k frames) (occupied (counts_in k stations)) gap s t 1 r count was now L
+
+pub ruleset leads = (led_round, led_more)
 
 -- the runs of all branches that are no lines
 pub other_is : (H : RunLists) (e : ℕ) (K : Kind) → other_run H.sub H.measures H.buses H.ends H.blocks H.frames e K ≡ pick (is_line K) [] (run_in H e K)

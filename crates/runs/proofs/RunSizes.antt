@@ -7,25 +7,25 @@ use mathlib.Core.List.{List, [], ◌∷◌, ◌++◌}
 use lib.Dec.{T, lit≤}
 use lib.ListN.{length, get_or}
 use lib.Ieee.{Float}
-use Rattle.float.specs.Small.{is_finite}
-use Rattle.float.specs.Size.{AtMost}
-use Rattle.float.proofs.SizeLaws.{most_weaken}
-use Rattle.float.proofs.Each.{Each}
-use Rattle.order.specs.Table.{table_from}
-use Rattle.geometry.specs.declared.Point.{Point}
-use Rattle.geometry.specs.declared.Box.{Box}
-use Rattle.geometry.proofs.PointSizes.{Near, Edges}
+use Rattle.numbers.specs.Small.{is_finite}
+use Rattle.numbers.specs.Size.{AtMost}
+use Rattle.numbers.proofs.float.SizeLaws.{most_weaken}
+use Rattle.numbers.proofs.float.Each.{Each}
+use Rattle.numbers.specs.Table.{table_from}
+use Rattle.plane.specs.declared.geometry.Point.{Point}
+use Rattle.plane.specs.declared.geometry.Box.{Box}
+use Rattle.plane.proofs.geometry.PointSizes.{Near, Edges}
 use Rattle.network.specs.declared.words.Kind.{Kind}
 use Rattle.network.specs.declared.words.Kind.TheVariants.{Undrawn, Open, Internal, Line}
 use Rattle.network.specs.Words.{kind_at, station_of}
-use Rattle.sizes.proofs.SideSizes.{Narrow}
-use Rattle.geometry.specs.Plane.{box_in}
-use Rattle.detour.specs.Detour.{detour}
-use Rattle.detour.proofs.DetourSizes.{Points, points_append, detour_near}
-use Rattle.bars.specs.declared.Bar.{Bar}
-use Rattle.bars.specs.Bar.{block_at, bar_at, position}
-use Rattle.bars.specs.Exit.{exit}
-use Rattle.bars.proofs.BarSizes.{Barred, position_near, row_end_near, exit_near}
+use Rattle.stations.proofs.sizes.SideSizes.{Narrow}
+use Rattle.plane.specs.Plane.{box_in}
+use Rattle.boxes.specs.Detour.{detour}
+use Rattle.boxes.proofs.detour.DetourSizes.{Points, points_append, detour_near}
+use Rattle.stations.specs.declared.bars.Bar.{Bar}
+use Rattle.stations.specs.Bar.{block_at, bar_at, position}
+use Rattle.stations.specs.Exit.{exit}
+use Rattle.stations.proofs.bars.BarSizes.{Barred, position_near, row_end_near, exit_near}
 use Rattle.runs.specs.Run.{Scene, slot, led_path, line_points, run_for, run_of, runs}
 use Rattle.runs.specs.Finite.{all_of, finite_point, finite_box, finite_bar}
 

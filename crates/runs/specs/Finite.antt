@@ -1,9 +1,9 @@
 -- Whether points, boxes and bars are finite. Definitions only.
 use Rattle.std.specs.Prelude.{Bool, true, ◌&&◌, List, [], ◌∷◌}
-use Rattle.float.specs.Small.{is_finite}
-use Rattle.geometry.specs.declared.Point.{Point}
-use Rattle.geometry.specs.declared.Box.{Box}
-use Rattle.bars.specs.declared.Bar.{Bar}
+use Rattle.numbers.specs.Small.{is_finite}
+use Rattle.plane.specs.declared.geometry.Point.{Point}
+use Rattle.plane.specs.declared.geometry.Box.{Box}
+use Rattle.stations.specs.declared.bars.Bar.{Bar}
 
 -- all of a list pass the test
 unfoldable pub all_of : {A : Type 0} → (A → Bool) → List A → Bool

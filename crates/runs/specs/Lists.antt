@@ -1,10 +1,10 @@
 -- The drawing as lists of numbers, and a lent list after it. Definitions only.
 use Rattle.std.specs.Prelude.{List, [], ◌∷◌, ◌++◌, Float, Option, Some, None}
-use Rattle.geometry.specs.declared.Point.{Point}
-use Rattle.geometry.specs.declared.Box.{Box}
-use Rattle.bars.specs.declared.Bar.{Bar}
+use Rattle.plane.specs.declared.geometry.Point.{Point}
+use Rattle.plane.specs.declared.geometry.Box.{Box}
+use Rattle.stations.specs.declared.bars.Bar.{Bar}
 use Rattle.runs.specs.Run.{Piece}
-use Rattle.order.specs.Over.{over}
+use Rattle.numbers.specs.Over.{over}
 
 unfoldable pub flat : {A B : Type 0} → (A → List B) → List A → List B
 flat f [] = []

@@ -1,24 +1,25 @@
--- 6 and 8. Runs and pieces: open branches run between the buses' positions, internal branches and lines between their row ends, from bus first.
--- Definitions only.
+-- Runs and pieces (docs/RULES.md, 'Runs, pieces, roles and bounds'): open branches run between the buses' positions,
+-- internal branches and lines between their row ends, from bus first. Definitions only.
 use Rattle.std.specs.Prelude.{ℕ, Bool, true, false, cond, List, [], ◌∷◌, ◌++◌, length, get_or, Float}
 use Rattle.std.specs.Float.Ieee.{lt}
-use Rattle.float.specs.Small.{abs_of}
-use Rattle.float.specs.Ops.{f0, ◌⊕◌, ◌⊖◌}
-use Rattle.order.specs.Order.{pick}
-use Rattle.order.specs.Table.{table, joined}
-use Rattle.geometry.specs.declared.Point.{Point}
-use Rattle.geometry.specs.declared.Box.{Box}
-use Rattle.options.specs.declared.Gaps.{Gaps}
+use Rattle.numbers.specs.Small.{abs_of}
+use Rattle.numbers.specs.Ops.{f0, ◌⊕◌, ◌⊖◌}
+use Rattle.numbers.specs.Order.{pick}
+use Rattle.numbers.specs.Table.{table, joined}
+use Rattle.plane.specs.declared.geometry.Point.{Point}
+use Rattle.plane.specs.declared.geometry.Box.{Box}
+use Rattle.network.specs.declared.options.Gaps.{Gaps}
 use Rattle.network.specs.declared.words.Kind.{Kind}
 use Rattle.network.specs.declared.words.Kind.TheVariants.{Undrawn, Open, Internal, Line}
 use Rattle.network.specs.Words.{kind_at, station_of}
-use Rattle.detour.specs.Detour.{detour}
-use Rattle.bars.specs.declared.Bar.{Bar}
-use Rattle.bars.specs.Bar.{bar_at, position, row_end}
-use Rattle.bars.specs.Exit.{exit}
+use Rattle.boxes.specs.Detour.{detour}
+use Rattle.stations.specs.declared.bars.Bar.{Bar}
+use Rattle.stations.specs.Bar.{bar_at, position, row_end}
+use Rattle.stations.specs.Exit.{exit}
 
--- What runs are drawn from: the buses' stations, the branches with the rows of their ends, the gaps, the stations' blocks, boxes and places, the buses' bars;
--- whether there are iterations, the occupied stations, the gap to keep from boxes, and each branch's waypoints.
+-- What runs are drawn from: the buses' stations, the branches with the rows of their ends, the gaps, the stations'
+-- blocks, boxes and places, the buses' bars; whether there are iterations, the occupied stations, the gap to keep from
+-- boxes, and each branch's waypoints.
 pub record Scene : Type 0 where
   pub sub : List ℕ
   pub kinds : List Kind
@@ -76,7 +77,9 @@ apart p q = lt f0 (abs_of (p.x ⊖ q.x) ⊕ abs_of (p.y ⊖ q.y))
 unfoldable pub pieces : ℕ → List Point → List Piece
 pieces e [] = []
 pieces e (p ∷ []) = []
-pieces e (p ∷ (q ∷ ps)) = let rest = pieces e (q ∷ ps) in pick (apart p q) (record { branch = e; start = p; end = q } ∷ rest) rest
+pieces e (p ∷ (q ∷ ps)) =
+    let rest = pieces e (q ∷ ps) in
+    pick (apart p q) (record { branch = e; start = p; end = q } ∷ rest) rest
 
 unfoldable pub is_line : Kind → Bool
 is_line Undrawn = false

@@ -1,1 +1,3 @@
 pub mod Views
+pub mod Requests
+pub mod Lent

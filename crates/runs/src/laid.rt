@@ -1,21 +1,31 @@
 // What runs are drawn from.
-use grid::index::BoxIndex;
-use measures::Measures;
+use boxes::grid::index::BoxIndex;
+use stations::measures::Measures;
 
-// A drawing that is laid out: what its interiors are measured by, its buses' columns and rows, its branches' ends, its stations' blocks and places. Not its boxes, which a guide's index has: of two lists of boxes each contract would have to say that they are one.
+/// A drawing that is laid out, without its boxes, which a guide's index has.
 #[derive(Clone, Copy)]
 pub struct Laid<'a> {
+    /// What the interiors of stations are measured by.
     pub measures: Measures,
+    /// Three numbers for each bus: its column, its first row, and one more than its last row.
     pub buses: &'a [u32],
+    /// Four numbers for each branch: the rows of its two ends, its first waypoint, and how many
+    /// waypoints it has.
     pub ends: &'a [u32],
+    /// Three numbers for each station: width, height and scale.
     pub blocks: &'a [f64],
+    /// Two coordinates for each station, and behind as many of them as there are buses two exits
+    /// for each branch.
     pub places: &'a [f64],
 }
 
-// What lines are led by: the gap that they keep where they are led round boxes, none where they aren't, the boxes entered by cell, and the waypoints.
+/// What lines are led by.
 #[derive(Clone, Copy)]
 pub struct Guide<'a> {
+    /// The gap that lines keep where they are led round boxes, none where they aren't.
     pub gap: Option<f64>,
+    /// The boxes of stations, entered by cell.
     pub index: BoxIndex<'a>,
+    /// The waypoints of all lines, two coordinates each.
     pub ways: &'a [f64],
 }

@@ -1,127 +1,141 @@
-// The points of a branch's run.
-ghost use Rattle.std.specs.Prelude.{◌≡◌, ◌+◌, ◌*◌, ◌<◌, ◌≤◌, ◌^◌, [], ◌∷◌, ◌++◌, length, is_some, unwrap_or};
+// The points of a branch's run (docs/RULES.md, 'Runs, pieces, roles and bounds').
+ghost use Rattle.std.specs.Prelude.{◌≡◌, ◌+◌, ◌*◌, ◌<◌, ◌≤◌, ◌^◌, [], ◌∷◌, ◌++◌, length, is_some};
+ghost use Rattle.std.specs.Prelude.{unwrap_or};
 ghost use Rattle.std.specs.Float.{nan};
-ghost use Rattle.geometry.specs.Plane.{box_at};
-ghost use Rattle.network.specs.Words.{kind_of};
-ghost use Rattle.detour.specs.Stages.Paths.{path_in, Led};
-ghost use Rattle.runs.specs.Stages.Views.{lead_by, block_of, bar_of, slot_of, exit_of, first_exit, second_exit, open_from, internal_from, led_in, led_run, other_run, HasRoom, Ran};
+ghost use Rattle.plane.specs.Plane.{box_at};
+ghost use Rattle.boxes.specs.Stages.Paths.{path_in, Led};
+ghost use Rattle.runs.specs.Stages.Views.{block_of, bar_of, slot_of, exit_of, first_exit};
+ghost use Rattle.runs.specs.Stages.Views.{second_exit, open_from, internal_from, led_in, led_run};
+ghost use Rattle.runs.specs.Stages.Views.{other_run, HasRoom, Ran};
+ghost use Rattle.runs.specs.Stages.Lent.{kind_in, lead_of};
 
 use crate::laid::{Guide, Laid};
-use bars::{Bar, Interior, bar_for, exit_x, position, row_y};
-use detour::path::detour;
-use geometry::{Box, Point, number_at, point_at};
-use measures::Measures;
+use boxes::detour::detour;
 use network::lists::Network;
+use network::seeds::put_point;
 use network::words::{Kind, kind_of, station_of};
-use order::at;
-use seeds::put_point;
+use numbers::order::at;
+use plane::geometry::{Box, Point, number_at, point_at};
+use stations::bars::{Bar, Interior, bar_for, exit_x, position, row_y};
+use stations::measures::Measures;
 
-// The box s of a list of four numbers each. The list may end before box s: NaN then, where `geometry` `box_at` asks for the whole box.
-pub fn box_at(list: &[f64], s: usize) -> Box
-    requires { s < 2 ^ 32 }
-    ensures { result ≡ box_at list.now s }
+/// A station's box in a list of four numbers each; what stands past the list's end is NaN.
+pub fn box_at(list: &[f64], station: usize) -> Box
+    requires station_bound { station < 2 ^ 32 }
+    ensures { result ≡ box_at list.now station }
 {
     Box {
-        left: number_at(list, 4 * s),
-        top: number_at(list, 4 * s + 1),
-        right: number_at(list, 4 * s + 2),
-        bottom: number_at(list, 4 * s + 3),
+        left: number_at(list, 4 * station),
+        top: number_at(list, 4 * station + 1),
+        right: number_at(list, 4 * station + 2),
+        bottom: number_at(list, 4 * station + 3),
     }
 }
 
-// The block of station s, unit × scale.
-// In this file s is a usize as `station_of` answers it, i and e as loops count them; they are asked to be below 2^32 so that four of each can't overflow: as `u32` they would be converted at each index.
+// The block of a station, unit × scale.
 #[tactic(auto, unfolding(crate::specs::Stages::Views::block_of))]
-fn block_of(unit: f64, blocks: &[f64], s: usize) -> f64
-    requires { s < 2 ^ 32 }
-    ensures { result ≡ block_of unit blocks.now s }
+fn block_of(unit: f64, blocks: &[f64], station: usize) -> f64
+    requires station_bound { station < 2 ^ 32 }
+    ensures { result ≡ block_of unit blocks.now station }
 {
-    unit * number_at(blocks, 3 * s + 2)
+    unit * number_at(blocks, 3 * station + 2)
 }
 
-// The bar of bus i of station s.
+/// The bar of a bus in its station's box (docs/RULES.md, 'Bars and row ends'). `buses` has three
+/// numbers for each bus, `blocks` three and `frames` four for each station.
 #[tactic(auto, unfolding(crate::specs::Stages::Views::bar_of))]
 pub fn bar_of(
     measures: Measures,
     buses: &[u32],
     blocks: &[f64],
     frames: &[f64],
-    s: usize,
-    i: usize,
+    station: usize,
+    bus: usize,
 ) -> Bar
-    requires { (s < 2 ^ 32) × (i < 2 ^ 32) }
-    ensures { result ≡ bar_of measures buses.now blocks.now frames.now s i }
+    requires station_bound { station < 2 ^ 32 }
+    requires bus_bound { bus < 2 ^ 32 }
+    ensures { result ≡ bar_of measures buses.now blocks.now frames.now station bus }
 {
     bar_for(
         Interior {
             gaps: measures.gaps,
-            frame: box_at(frames, s),
-            block: block_of(measures.unit, blocks, s),
+            frame: box_at(frames, station),
+            block: block_of(measures.unit, blocks, station),
         },
-        at(buses, 3 * i),
-        at(buses, 3 * i + 1),
-        at(buses, 3 * i + 2),
+        at(buses, 3 * bus),
+        at(buses, 3 * bus + 1),
+        at(buses, 3 * bus + 2),
     )
 }
 
-// The row end of bus i of station s.
+/// The row end of a bus in its station's box: on its bar, at the height of a row
+/// (docs/RULES.md, 'Bars and row ends').
 #[tactic(auto, unfolding(crate::specs::Stages::Views::slot_of))]
-pub fn slot_of(laid: &Laid<'_>, frames: &[f64], s: usize, i: usize, row: u32) -> Point
-    requires { (s < 2 ^ 32) × (i < 2 ^ 32) }
-    ensures { result ≡ slot_of laid.now.measures laid.now.buses.now laid.now.blocks.now frames.now s i row }
+pub fn slot_of(laid: &Laid<'_>, frames: &[f64], station: usize, bus: usize, row: u32) -> Point
+    requires station_bound { station < 2 ^ 32 }
+    requires bus_bound { bus < 2 ^ 32 }
+    ensures { result
+        ≡ slot_of laid.now.measures laid.now.buses.now laid.now.blocks.now frames.now
+        station bus row }
 {
-    let bar = bar_of(laid.measures, laid.buses, laid.blocks, frames, s, i);
+    let bar = bar_of(laid.measures, laid.buses, laid.blocks, frames, station, bus);
     Point {
         x: bar.x,
         y: row_y(
             Interior {
                 gaps: laid.measures.gaps,
-                frame: box_at(frames, s),
-                block: block_of(laid.measures.unit, laid.blocks, s),
+                frame: box_at(frames, station),
+                block: block_of(laid.measures.unit, laid.blocks, station),
             },
             row,
         ),
     }
 }
 
-// The exit of station s towards t, at the height y.
+/// The exit of a station's box towards another station, at this height
+/// (docs/RULES.md, 'Exits').
 #[tactic(auto, unfolding(crate::specs::Stages::Views::exit_of))]
-pub fn exit_of(places: &[f64], frames: &[f64], s: usize, t: usize, y: f64) -> Point
-    requires { (s < 2 ^ 32) × (t < 2 ^ 32) }
-    ensures { result ≡ exit_of places.now frames.now s t y }
+pub fn exit_of(places: &[f64], frames: &[f64], station: usize, towards: usize, height: f64) -> Point
+    requires station_bound { station < 2 ^ 32 }
+    requires towards_bound { towards < 2 ^ 32 }
+    ensures { result ≡ exit_of places.now frames.now station towards height }
 {
     Point {
-        x: exit_x(box_at(frames, s), point_at(places, s), point_at(places, t)),
-        y,
+        x: exit_x(
+            box_at(frames, station),
+            point_at(places, station),
+            point_at(places, towards),
+        ),
+        y: height,
     }
 }
 
-// The first exit of branch e: two points for each branch, behind n points of a list.
-// n isn't how long the list is: it counts the points before the exits. `point_at` asks a number below 2^32, which n + 2 * e may pass; n and e are bounded so that it doesn't overflow.
-pub fn first_exit(n: usize, places: &[f64], e: usize) -> Point
-    requires { (n ≤ 2 ^ 33) × (e < 2 ^ 32) }
-    ensures { result ≡ first_exit n places.now e }
+/// The first exit of a branch: `places` has two for each branch, behind so many points.
+pub fn first_exit(point_count: usize, places: &[f64], branch: usize) -> Point
+    requires few_points { point_count ≤ 2 ^ 33 }
+    requires branch_bound { branch < 2 ^ 32 }
+    ensures { result ≡ first_exit point_count places.now branch }
 {
-    let i = n + 2 * e;
+    let i = point_count + 2 * branch;
     Point {
         x: number_at(places, 2 * i),
         y: number_at(places, 2 * i + 1),
     }
 }
 
-// The second exit of branch e, behind n points as above.
-// n is asked to be at most 2^32 here, and 2^33 in `first_exit`, which is asked for the point behind one more.
-pub fn second_exit(n: usize, places: &[f64], e: usize) -> Point
-    requires { (n ≤ 2 ^ 32) × (e < 2 ^ 32) }
-    ensures { result ≡ second_exit n places.now e }
+/// The second exit of a branch, behind so many points as above.
+pub fn second_exit(point_count: usize, places: &[f64], branch: usize) -> Point
+    requires few_points { point_count ≤ 2 ^ 32 }
+    requires branch_bound { branch < 2 ^ 32 }
+    ensures { result ≡ second_exit point_count places.now branch }
 {
-    first_exit(n + 1, places, e)
+    first_exit(point_count + 1, places, branch)
 }
 
 // Two points at the front of a list.
 #[tactic(auto, using(crate::proofs::Paths::two_put))]
 fn put_two(path: &mut [f64], p: Point, q: Point) -> usize
-    requires { 8 ≤ length path.old }
+    requires has_room { 8 ≤ length path.old }
     ensures { Ran result path.new (p ∷ q ∷ []) }
 {
     put_point(path, 0, p);
@@ -129,145 +143,187 @@ fn put_two(path: &mut [f64], p: Point, q: Point) -> usize
     2
 }
 
-// The run of an open branch between the buses a and b.
-// a and b are usize as `kind_of` answers them, and asked to be below 2^32 as `bar_of` asks, here and in `run_internal`.
+// The run of an open branch between two buses.
 #[tactic(auto, unfolding(crate::specs::Stages::Views::open_from))]
 fn run_open(
     sub: &[u32],
     laid: &Laid<'_>,
     frames: &[f64],
-    a: usize,
-    b: usize,
+    from_bus: usize,
+    to_bus: usize,
     path: &mut [f64],
 ) -> usize
-    requires { (a < 2 ^ 32) × (b < 2 ^ 32) × (8 ≤ length path.old) }
-    ensures { Ran result path.new (open_from sub.now laid.now.measures laid.now.buses.now laid.now.blocks.now frames.now a b) }
+    requires from_bus_bound { from_bus < 2 ^ 32 }
+    requires to_bus_bound { to_bus < 2 ^ 32 }
+    requires has_room { 8 ≤ length path.old }
+    ensures { Ran result path.new
+        (open_from sub.now laid.now.measures laid.now.buses.now laid.now.blocks.now frames.now
+        from_bus to_bus) }
 {
     let p = bar_of(
         laid.measures,
         laid.buses,
         laid.blocks,
         frames,
-        station_of(sub, a),
-        a,
+        station_of(sub, from_bus),
+        from_bus,
     );
     let q = bar_of(
         laid.measures,
         laid.buses,
         laid.blocks,
         frames,
-        station_of(sub, b),
-        b,
+        station_of(sub, to_bus),
+        to_bus,
     );
     put_two(path, position(p), position(q))
 }
 
-// The run of an internal branch between the buses a and b, whose ends have the rows ra and rb.
+// The run of an internal branch between two buses, whose ends have these rows.
 #[tactic(auto, unfolding(crate::specs::Stages::Views::internal_from))]
 fn run_internal(
     sub: &[u32],
     laid: &Laid<'_>,
     frames: &[f64],
-    a: usize,
-    b: usize,
-    ra: u32,
-    rb: u32,
+    from_bus: usize,
+    to_bus: usize,
+    from_row: u32,
+    to_row: u32,
     path: &mut [f64],
 ) -> usize
-    requires { (a < 2 ^ 32) × (b < 2 ^ 32) × (8 ≤ length path.old) }
-    ensures { Ran result path.new (internal_from sub.now laid.now.measures laid.now.buses.now laid.now.blocks.now frames.now a b ra rb) }
+    requires from_bus_bound { from_bus < 2 ^ 32 }
+    requires to_bus_bound { to_bus < 2 ^ 32 }
+    requires has_room { 8 ≤ length path.old }
+    ensures { Ran result path.new
+        (internal_from sub.now laid.now.measures laid.now.buses.now laid.now.blocks.now frames.now
+        from_bus to_bus from_row to_row) }
 {
-    let p = slot_of(laid, frames, station_of(sub, a), a, ra);
-    let q = slot_of(laid, frames, station_of(sub, b), b, rb);
+    let p = slot_of(laid, frames, station_of(sub, from_bus), from_bus, from_row);
+    let q = slot_of(laid, frames, station_of(sub, to_bus), to_bus, to_row);
     put_two(path, p, q)
 }
 
-// Copies n points of a list, from point w on, to another, from point i on.
-// `ways` may hold fewer: points past its end are read as NaN, so there is no slice of n points to hand on.
+// Copies `count` points of a list, from number `first` on, to another, from number `to` on. Points
+// past the list's end are read as NaN.
 #[tactic(auto, using(crate::proofs::Paths::copied))]
-fn copy_points(ways: &[f64], w: usize, n: usize, path: &mut [f64], i: usize)
-    requires { (2 * (i + n) ≤ length path.old) × (i + n < 2 ^ 32) × (w + n < 2 ^ 32) }
-    ensures { Led i n (path_in w n ways.now) path.old path.new }
+fn copy_points(ways: &[f64], first: usize, count: usize, path: &mut [f64], to: usize)
+    requires has_room { 2 * (to + count) ≤ length path.old }
+    requires to_bound { to + count < 2 ^ 32 }
+    requires first_bound { first + count < 2 ^ 32 }
+    ensures { Led to count (path_in first count ways.now) path.old path.new }
 {
-    for j in 0..n {
-        put_point(path, i + j, point_at(ways, w + j));
+    for j in 0..count {
+        put_point(path, to + j, point_at(ways, first + j));
     }
 }
 
-// Puts a path behind the first point of a list: a, the n points of `ways` from point w on, b.
-// n stays a number for the reason above.
+// Puts a path behind the first point of a list: a point before, `count` points of `ways` from
+// number `first` on, and a point behind.
 #[tactic(auto, using(crate::proofs::Paths::middle))]
-fn put_middle(path: &mut [f64], a: Point, ways: &[f64], w: usize, n: usize, b: Point)
-    requires { (HasRoom n path.old) × (w + n < 2 ^ 31) }
-    ensures { path_in 1 (n + 2) path.new ≡ a ∷ (path_in w n ways.now ++ (b ∷ [])) }
+fn put_middle(
+    path: &mut [f64],
+    before: Point,
+    ways: &[f64],
+    first: usize,
+    count: usize,
+    behind: Point,
+)
+    requires has_room { HasRoom count path.old }
+    requires first_bound { first + count < 2 ^ 31 }
+    ensures { path_in 1 (count + 2) path.new
+        ≡ before ∷ (path_in first count ways.now ++ (behind ∷ [])) }
 {
-    put_point(path, 1, a);
-    copy_points(ways, w, n, path, 2);
-    put_point(path, n + 2, b);
+    put_point(path, 1, before);
+    copy_points(ways, first, count, path, 2);
+    put_point(path, count + 2, behind);
 }
 
-// Leads the path of `count` points behind the first point of a list round boxes, where a gap is given, and answers how many points it has then.
-// The path grows in its list, so a slice of its `count` points would leave no room for more.
-#[tactic(auto, unfolding(crate::specs::Stages::Views::led_in), using(crate::proofs::Paths::led_round, crate::proofs::Paths::led_more))]
-fn lead(guide: &Guide<'_>, s: usize, t: usize, path: &mut [f64], count: usize) -> usize
-    requires count_in_bounds { 2 * (count + 5) ≤ length path.old }
-    ensures path_after { path_in 1 result path.new ≡ led_in (is_some guide.now.gap) (unwrap_or guide.now.gap nan) guide.now.index.placed.k guide.now.index.placed.stations.now guide.now.index.placed.frames.now s t (path_in 1 count path.old) }
-    ensures upper_bound { result ≤ count + 4 }
+// Leads the path of `count` points behind the first point of a list round boxes, where a gap is
+// given, and answers how many points it has then.
+#[tactic(auto, unfolding(crate::specs::Stages::Views::led_in), using(crate::proofs::Paths::leads))]
+fn lead_round_boxes(
+    guide: &Guide<'_>,
+    from_station: usize,
+    to_station: usize,
+    path: &mut [f64],
+    count: usize,
+) -> usize
+    requires has_room { 2 * (count + 5) ≤ length path.old }
+    ensures path_led { path_in 1 result path.new
+        ≡ led_in (is_some guide.now.gap) (unwrap_or guide.now.gap nan) guide.now.index.placed.k
+        guide.now.index.placed.stations.now guide.now.index.placed.frames.now
+        from_station to_station (path_in 1 count path.old) }
+    ensures at_most_four_more { result ≤ count + 4 }
 {
     match guide.gap {
-        Some(gap) => detour(gap, &guide.index, s, t, path, 1, count),
+        Some(gap) => detour(gap, &guide.index, from_station, to_station, path, 1, count),
         None => count,
     }
 }
 
-// Puts p before and q behind the path of r points behind the first point of a list, and answers how many points that makes.
-// The path grows in its list here too.
+// Puts p before and q behind the path of `count` points behind the first point of a list, and
+// answers how many points that makes.
 #[tactic(auto, using(crate::proofs::Paths::ends_put, crate::proofs::Paths::ends_count))]
-fn put_ends(path: &mut [f64], p: Point, q: Point, r: usize) -> usize
-    requires { (2 * (r + 2) ≤ length path.old) × (r + 2 < 2 ^ 32) }
-    ensures { Ran result path.new (p ∷ (path_in 1 r path.old ++ (q ∷ []))) }
+fn put_ends(path: &mut [f64], p: Point, q: Point, count: usize) -> usize
+    requires has_room { 2 * (count + 2) ≤ length path.old }
+    requires count_bound { count + 2 < 2 ^ 32 }
+    ensures { Ran result path.new (p ∷ (path_in 1 count path.old ++ (q ∷ []))) }
 {
     put_point(path, 0, p);
-    put_point(path, r + 1, q);
-    r + 2
+    put_point(path, count + 1, q);
+    count + 2
 }
 
-// The run of a line from station s to station t between the slots p and q, whose exits are x and y, by n waypoints, the first of them w.
-// n stays a number as in `copy_points`.
+/// Puts the run of a line between two stations at the front of `path`, and answers how many points
+/// it has: from its first slot by its first exit, its waypoints, led round boxes where the guide
+/// has a gap, and its second exit to its second slot. The waypoints are `count` points of the
+/// guide's `ways` from number `first` on.
 #[tactic(auto, unfolding(crate::specs::Stages::Views::led_run))]
 pub fn run_line(
     guide: &Guide<'_>,
-    s: usize,
-    t: usize,
-    p: Point,
-    q: Point,
-    x: Point,
-    y: Point,
-    w: usize,
-    n: usize,
+    from_station: usize,
+    to_station: usize,
+    from_slot: Point,
+    to_slot: Point,
+    from_exit: Point,
+    to_exit: Point,
+    first: usize,
+    count: usize,
     path: &mut [f64],
 ) -> usize
-    requires has_room { (HasRoom n path.old) × (w + n < 2 ^ 31) }
-    ensures { Ran result path.new (led_run (lead_by guide.now.gap guide.now.index.placed.k guide.now.index.placed.stations.now guide.now.ways.now) guide.now.index.placed.frames.now s t p q x y w n) }
+    requires has_room { HasRoom count path.old }
+    requires first_bound { first + count < 2 ^ 31 }
+    ensures { Ran result path.new
+        (led_run (lead_of guide.now) guide.now.index.placed.frames.now
+        from_station to_station from_slot to_slot from_exit to_exit first count) }
 {
-    put_middle(path, x, guide.ways, w, n, y);
-    let r = lead(guide, s, t, path, n + 2);
-    put_ends(path, p, q, r)
+    put_middle(path, from_exit, guide.ways, first, count, to_exit);
+    let r = lead_round_boxes(guide, from_station, to_station, path, count + 2);
+    put_ends(path, from_slot, to_slot, r)
 }
 
-// Puts the run of branch e at the front of path, and answers how many points it has: none where the branch is a line.
-// The length of `path`, the one list that is written, is asked as the slice's own.
-// `Bounded` would ask for at most 4,096 buses and 8,192 branches.
-#[tactic(auto, unfolding(crate::specs::Stages::Views::other_run, network::specs::Words::Safe, network::specs::Views::points_in, order::specs::Table::table_from))]
-pub fn run(net: &Network<'_>, laid: &Laid<'_>, frames: &[f64], e: usize, path: &mut [f64]) -> usize
-    requires { (e < 2 ^ 32) × (length net.now.sub.now ≤ 2 ^ 32) × (8 ≤ length path.old) }
-    ensures { Ran result path.new (other_run net.now.sub.now laid.now.measures laid.now.buses.now laid.now.ends.now laid.now.blocks.now frames.now e (kind_of net.now.sub.now net.now.from.now net.now.to.now net.now.service.now e)) }
+/// Puts the run of a branch at the front of `path`, and answers how many points it has: two of an
+/// open or internal branch, none where the branch is undrawn or a line.
+#[tactic(auto, unfolding(network::specs::Words::Safe))]
+pub fn run(
+    network: &Network<'_>,
+    laid: &Laid<'_>,
+    frames: &[f64],
+    branch: usize,
+    path: &mut [f64],
+) -> usize
+    requires branch_bound { branch < 2 ^ 32 }
+    requires few_buses { length network.now.sub.now ≤ 2 ^ 32 }
+    requires has_room { 8 ≤ length path.old }
+    ensures { Ran result path.new
+        (other_run network.now.sub.now laid.now.measures laid.now.buses.now laid.now.ends.now
+        laid.now.blocks.now frames.now branch (kind_in network.now branch)) }
 {
-    let ra = at(laid.ends, 4 * e);
-    let rb = at(laid.ends, 4 * e + 1);
-    match kind_of(net, e) {
+    let ra = at(laid.ends, 4 * branch);
+    let rb = at(laid.ends, 4 * branch + 1);
+    match kind_of(network, branch) {
         Kind::Undrawn | Kind::Line(_, _) => 0,
-        Kind::Open(a, b) => run_open(net.sub, laid, frames, a, b, path),
-        Kind::Internal(a, b) => run_internal(net.sub, laid, frames, a, b, ra, rb, path),
+        Kind::Open(a, b) => run_open(network.sub, laid, frames, a, b, path),
+        Kind::Internal(a, b) => run_internal(network.sub, laid, frames, a, b, ra, rb, path),
     }
 }

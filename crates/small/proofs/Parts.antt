@@ -6,10 +6,10 @@ use native.Mathlib.Nat.{sub-zero}
 use native.Mathlib.Omega.{arith}
 use lib.ListN.{take, drop, replicate}
 use lib.Ieee.{Float}
-use Rattle.float.specs.Ops.{f0}
-use Rattle.options.specs.declared.Options.{Options}
+use Rattle.numbers.specs.Ops.{f0}
+use Rattle.network.specs.declared.options.Options.{Options}
 use Rattle.std.specs.Prelude.{Result}
-use Rattle.refusals.specs.declared.Refusal.{Refusal}
+use Rattle.network.specs.declared.refusals.Refusal.{Refusal}
 use Rattle.drawing.specs.declared.answer.Plot.{Plot}
 use Rattle.drawing.specs.Network.{Network, Lists, Work, Crossings, crossings}
 use Rattle.drawing.proofs.Lent.{work}

@@ -1,8 +1,8 @@
 -- A drawing with work lists that the call holds itself. Definitions only.
 use Rattle.std.specs.Prelude.{ℕ, ◌≡◌, List, replicate, Float, Result}
-use Rattle.float.specs.Ops.{f0}
-use Rattle.options.specs.declared.Options.{Options}
-use Rattle.refusals.specs.declared.Refusal.{Refusal}
+use Rattle.numbers.specs.Ops.{f0}
+use Rattle.network.specs.declared.options.Options.{Options}
+use Rattle.network.specs.declared.refusals.Refusal.{Refusal}
 use Rattle.drawing.specs.declared.answer.Plot.{Plot}
 use Rattle.drawing.specs.Network.{Network, Lists, Work, Crossings, crossings}
 use Rattle.drawing.specs.Answer.{Call, layout_of}
@@ -13,7 +13,8 @@ zero_numbers n = replicate n 0
 abbrev pub zeros : ℕ → List Float
 zeros n = replicate n f0
 
--- the work lists, the first with room for so many numbers, the others long enough for 64 buses and 64 branches, or fewer and a mesh
+-- the work lists, the first with room for so many numbers, the others long enough for 64 buses and 64 branches, or
+-- fewer and a mesh
 abbrev pub work_lists : ℕ → Work
 work_lists stations =
     record {
@@ -37,6 +38,7 @@ unfoldable pub held_call : Options → Network → Lists → ℕ → ℕ → Cal
 held_call o N L stations room = layout_of o N L (work_lists stations) (crossing_lists room)
 
 -- what it answers, and the result lists after it
-pub record SmallCall (o : Options) (N : Network) (L : Lists) (stations room : ℕ) (a : Result Plot Refusal) (L' : Lists) : Type 0 where
+pub record SmallCall (o : Options) (N : Network) (L : Lists) (stations room : ℕ) (a : Result Plot Refusal)
+    (L' : Lists) : Type 0 where
   pub answer_is : a ≡ (held_call o N L stations room).answer
   pub lists_are : L' ≡ (held_call o N L stations room).lists

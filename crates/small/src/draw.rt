@@ -1,40 +1,34 @@
 // A drawing with work lists of its own.
 ghost use Rattle.std.specs.Prelude.{◌≤◌};
-ghost use Rattle.drawing.specs.Network.{network};
+ghost use Rattle.lent.specs.Held.{held_network, held_lists, SameLists};
 ghost use Rattle.small.specs.Small.{SmallCall};
 
 use drawing::answer::Plot;
 use layout::call::tx_schematic_layout;
-use options::Options;
-use refusals::Refusal;
+use lent::{Crossings, Lists, Work};
+use network::lists::Network;
+use network::options::Options;
+use network::refusals::Refusal;
 
-// Draws a network of at most 64 buses and 64 branches, with so many numbers for stations and so many crossings.
-// The lists stand as the public call takes them.
+/// Draws a network of at most 64 buses and 64 branches into the lent lists (docs/RULES.md,
+/// 'Promises of every call').
+///
+/// The work lists are held here, long enough for 64 buses and 64 branches, or for fewer and a mesh.
+/// `station_room`: how many numbers the list `stations` has, of which a network asks two for each
+/// bus. `crossing_room`: how many crossings there is room for. A network that asks more is refused
+/// (docs/RULES.md, 'Refusals').
 pub fn draw_small(
-    positions: &mut [f64],
-    bars: &mut [f64],
-    boxes: &mut [f64],
-    scales: &mut [f64],
-    roles: &mut [u8],
-    pieces: &mut [f64],
-    branches: &mut [u32],
-    o: Options,
+    lists: &mut Lists<'_>,
+    options: Options,
     station_room: usize,
     crossing_room: usize,
-    sub: &[u32],
-    kv: &[u64],
-    from: &[i64],
-    to: &[i64],
-    service: &[u8],
-    xy: &[f64],
-    corners: &[u32],
-    twins: &[u32],
+    network: &Network<'_>,
 ) -> Result<Plot, Refusal>
-    requires { (station_room ≤ 128) × (crossing_room ≤ 128) }
-    ensures { SmallCall o (network sub.now kv.now from.now to.now service.now xy.now corners.now twins.now)
-        (record { positions = positions.old; bars = bars.old; boxes = boxes.old; scales = scales.old; roles = roles.old; pieces = pieces.old; branches = branches.old })
-        station_room crossing_room result
-        (record { positions = positions.new; bars = bars.new; boxes = boxes.new; scales = scales.new; roles = roles.new; pieces = pieces.new; branches = branches.new }) }
+    requires few_stations { station_room ≤ 128 }
+    requires few_crossings { crossing_room ≤ 128 }
+    ensures same { SameLists lists.new lists.old }
+    ensures is { SmallCall options (held_network network.now) (held_lists lists.old)
+        station_room crossing_room result (held_lists lists.new) }
 {
     let mut stations = [0u32; 128];
     let mut buses = [0u32; 192];
@@ -49,35 +43,22 @@ pub fn draw_small(
     let mut numbers = [0u32; 384];
     let mut crossings = [0f64; 128];
     let mut ways = [0f64; 256];
-    tx_schematic_layout(
-        positions,
-        bars,
-        boxes,
-        scales,
-        roles,
-        pieces,
-        branches,
-        &mut stations[0..station_room],
-        &mut buses,
-        &mut ends,
-        &mut sorted,
-        &mut spare,
-        &mut keys,
-        &mut places,
-        &mut blocks,
-        &mut frames,
-        &mut path,
-        &mut numbers,
-        &mut crossings[0..crossing_room],
-        &mut ways,
-        o,
-        sub,
-        kv,
-        from,
-        to,
-        service,
-        xy,
-        corners,
-        twins,
-    )
+    let mut work = Work {
+        stations: &mut stations[0..station_room],
+        buses: &mut buses,
+        ends: &mut ends,
+        sorted: &mut sorted,
+        spare: &mut spare,
+        keys: &mut keys,
+        places: &mut places,
+        blocks: &mut blocks,
+        frames: &mut frames,
+        path: &mut path,
+    };
+    let mut crossings = Crossings {
+        numbers: &mut numbers,
+        places: &mut crossings[0..crossing_room],
+        ways: &mut ways,
+    };
+    tx_schematic_layout(lists, &mut work, &mut crossings, options, network)
 }

@@ -6,23 +6,23 @@ use mathlib.Core.List.{List, [], ◌∷◌}
 use native.Mathlib.Omega.{arith}
 use lib.ListN.{length, get_or}
 use lib.Ieee.{Float, lt, nan}
-use Rattle.float.specs.Ops.{f2, ◌⊕◌, ◌⊖◌, ◌⊗◌, ◌⊘◌}
-use Rattle.order.specs.Order.{pick}
-use Rattle.order.proofs.Tables.{get_d_table}
-use Rattle.geometry.specs.declared.Box.{Box}
-use Rattle.geometry.specs.Plane.{point, box_at, box_in}
-use Rattle.options.specs.declared.Options.{Options}
+use Rattle.numbers.specs.Ops.{f2, ◌⊕◌, ◌⊖◌, ◌⊗◌, ◌⊘◌}
+use Rattle.numbers.specs.Order.{pick}
+use Rattle.numbers.proofs.order.Tables.{get_d_table}
+use Rattle.plane.specs.declared.geometry.Box.{Box}
+use Rattle.plane.specs.Plane.{point, box_at, box_in}
+use Rattle.network.specs.declared.options.Options.{Options}
 use Rattle.network.specs.declared.words.Kind.{Kind}
 use Rattle.network.specs.Words.{station_of}
 use Rattle.network.proofs.Stations.{station_below}
-use Rattle.columns.specs.Column.{column, columns}
-use Rattle.rows.specs.Row.{from_rows, to_rows}
-use Rattle.columns.proofs.Falls.{column_count}
-use Rattle.bars.specs.declared.Bar.{Bar}
-use Rattle.bars.specs.Bar as BarSpec
-use Rattle.bars.specs.Bar.{Span, bare, rows, bar_x, row_y, reach, lengthened, bar_for, bar_at, block_at, position, span_to, spans}
-use Rattle.bars.proofs.SpanLaw as SpanLaw
-use Rattle.bars.proofs.SpanLaw.{SpanIs, span_law}
+use Rattle.stations.specs.Column.{column, columns}
+use Rattle.stations.specs.Row.{from_rows, to_rows}
+use Rattle.stations.proofs.columns.Falls.{column_count}
+use Rattle.stations.specs.declared.bars.Bar.{Bar}
+use Rattle.stations.specs.Bar as BarSpec
+use Rattle.stations.specs.Bar.{Span, bare, rows, bar_x, row_y, reach, lengthened, bar_for, bar_at, block_at, position, span_to, spans}
+use Rattle.stations.proofs.bars.SpanLaw as SpanLaw
+use Rattle.stations.proofs.bars.SpanLaw.{SpanIs, span_law}
 use Rattle.runs.specs.Lists.{bar_numbers}
 use Rattle.drawing.specs.declared.answer.Plot.{Plot}
 use Rattle.std.specs.Prelude.{Ok}

@@ -9,25 +9,25 @@ use native.Mathlib.Omega.{arith}
 use lib.Dec.{T, ltb}
 use lib.ListN.{length, get_or, take, get_or-eq_default}
 use lib.Seq.{get_or-set_other, get_or-take, length-take-le}
-use Rattle.order.specs.Order.{sort_by}
-use Rattle.order.proofs.Merging.{le_or_lt}
-use Rattle.order.proofs.Laws.{all_at, all_sort}
-use Rattle.order.proofs.Tables.{all_which}
-use Rattle.geometry.specs.declared.Point.{Point}
-use Rattle.geometry.specs.declared.Box.{Box}
-use Rattle.geometry.specs.Plane.{origin}
+use Rattle.numbers.specs.Order.{sort_by}
+use Rattle.numbers.proofs.order.Merging.{le_or_lt}
+use Rattle.numbers.proofs.order.Laws.{all_at, all_sort}
+use Rattle.numbers.proofs.order.Tables.{all_which}
+use Rattle.plane.specs.declared.geometry.Point.{Point}
+use Rattle.plane.specs.declared.geometry.Box.{Box}
+use Rattle.plane.specs.Plane.{origin}
 use Rattle.network.specs.Words.{is_occupied, occupied}
-use Rattle.seeds.specs.Seed.{place_at}
-use Rattle.columns.specs.Column.{falling}
+use Rattle.network.specs.Seed.{place_at}
+use Rattle.stations.specs.Column.{falling}
 use Rattle.offsets.specs.declared.offset.Offset.{Offset}
 use Rattle.placement.specs.Place.{box_of, places_to, places, found_free}
-use Rattle.free_places.specs.Search.{Frame, frame_at, box_on, buffered, free, place_for}
-use Rattle.turns.specs.Turns.{top_to, placement_order}
-use Rattle.turns.specs.Stages.Listed.{Turns}
-use Rattle.order.proofs.Sorting.{map_agree}
+use Rattle.placement.specs.Search.{Frame, frame_at, box_on, buffered, free, place_for}
+use Rattle.placement.specs.Turns.{top_to, placement_order}
+use Rattle.placement.specs.Stages.Listed.{Turns}
+use Rattle.numbers.proofs.order.Sorting.{map_agree}
 use Rattle.placement.proofs.Placing.{all_of_lem}
 use Rattle.placement.proofs.PlaceLaw.{first_free_of}
-use Rattle.free_places.specs.Search.{FirstOf, tries}
+use Rattle.placement.specs.Search.{FirstOf, tries}
 
 -- an occupied station's number is one of a station
 pub below_count : (counts : List ℕ) (s : ℕ) → is_occupied counts s ≡ true → s < length counts

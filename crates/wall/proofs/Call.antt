@@ -4,15 +4,15 @@ use mathlib.Core.Bool.{Bool, true, false, not, ◌&&◌}
 use lib.Dec.{T}
 use lib.ListN.{length}
 use lib.Ieee.Fits.{and_l, and_r}
-use Rattle.float.specs.Small.{is_finite}
-use Rattle.options.specs.declared.Options.{Options}
-use Rattle.options.specs.Options.{in_range}
+use Rattle.numbers.specs.Small.{is_finite}
+use Rattle.network.specs.declared.options.Options.{Options}
+use Rattle.network.specs.Options.{in_range}
 use Rattle.network.specs.Words.{station_count}
 use Rattle.std.specs.Prelude.{Option, Some, None, Ok}
 use Rattle.std.specs.Option.{option_or}
-use Rattle.refusals.specs.declared.Refusal.{Refusal}
-use Rattle.refusals.specs.declared.Refusal.TheVariants as Refusals
-use Rattle.refusals.specs.Refusal.{refuse, shape_refusal, too_far}
+use Rattle.network.specs.declared.refusals.Refusal.{Refusal}
+use Rattle.network.specs.declared.refusals.Refusal.TheVariants as Refusals
+use Rattle.network.specs.Refusal.{refuse, shape_refusal, too_far}
 use Rattle.runs.specs.Finite.{all_of, finite_point, finite_box, finite_bar}
 use Rattle.drawing.specs.declared.answer.Plot.{Plot}
 use Rattle.drawing.specs.Network.{Network, Lists, Work, Crossings}

@@ -13,16 +13,16 @@ use lib.Dec.{ltb, eqb}
 use lib.ListN.{length, get_or, length-append, get_or-append}
 use lib.Seq.{get_or-append-add}
 use lib.Ieee.{Float, nan}
-use Rattle.float.specs.Ops.{◌⊕◌, ◌⊖◌, ◌⊗◌}
-use Rattle.order.specs.Order.{up_from}
-use Rattle.order.specs.Table.{table, table_from}
-use Rattle.order.proofs.Tables.{table_ext}
-use Rattle.geometry.specs.declared.Point.{Point}
-use Rattle.geometry.specs.Plane.{point}
-use Rattle.mesh.specs.Mesh.{low_at, high_at}
-use Rattle.walk.specs.Trace.{Walk, traced}
-use Rattle.crossings.specs.Route as Route
-use Rattle.crossings.specs.Route.{Scene, Line, Keyed, no_channel, Crossing, no_crossing, Path, no_path, Routing, number_of}
+use Rattle.numbers.specs.Ops.{◌⊕◌, ◌⊖◌, ◌⊗◌}
+use Rattle.numbers.specs.Order.{up_from}
+use Rattle.numbers.specs.Table.{table, table_from}
+use Rattle.numbers.proofs.order.Tables.{table_ext}
+use Rattle.plane.specs.declared.geometry.Point.{Point}
+use Rattle.plane.specs.Plane.{point}
+use Rattle.network.specs.Mesh.{low_at, high_at}
+use Rattle.channels.specs.Trace.{Walk, traced}
+use Rattle.routing.specs.Route as Route
+use Rattle.routing.specs.Route.{Scene, Line, Keyed, no_channel, Crossing, no_crossing, Path, no_path, Routing, number_of}
 
 -- ---- an element at the end
 last_at : {A : Type 0} (l : List A) (x d : A) → get_or (l ++ (x ∷ [])) (length l) d ≡ x

@@ -6,14 +6,14 @@ use mathlib.Core.List.{List, [], ◌∷◌}
 use lib.Dec.{T, ltb}
 use lib.Ieee.{Float, binary64, fits}
 use lib.Ieee.Fits.{add-fits, sub-fits}
-use Rattle.float.specs.Ops.{f½, ◌⊗◌}
-use Rattle.geometry.specs.declared.Point.{Point}
-use Rattle.geometry.specs.declared.Box.{Box}
-use Rattle.geometry.specs.Plane.{box_in}
+use Rattle.numbers.specs.Ops.{f½, ◌⊗◌}
+use Rattle.plane.specs.declared.geometry.Point.{Point}
+use Rattle.plane.specs.declared.geometry.Box.{Box}
+use Rattle.plane.specs.Plane.{box_in}
 use Rattle.std.specs.Prelude.{Option, Some, None, unwrap_or}
-use Rattle.first_box.specs.First.{first_hit}
-use Rattle.corner.specs.Corner.{corners_of, cost_key, clears, clearing, cheaper, cheapest, corner}
-use Rattle.detour.specs.Detour.{detour_on, detour_to, detour}
+use Rattle.boxes.specs.First.{first_hit}
+use Rattle.boxes.specs.Corner.{corners_of, cost_key, clears, clearing, cheaper, cheapest, corner}
+use Rattle.boxes.specs.Detour.{detour_on, detour_to, detour}
 use Rattle.wall.proofs.Every.{Every}
 
 -- a point of two floats of the format

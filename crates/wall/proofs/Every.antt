@@ -5,8 +5,8 @@ use mathlib.Core.List.{List, [], ◌∷◌, ◌++◌, map}
 use native.Mathlib.Nat.{not-suc-le-zero, le_of_suc-le-suc}
 use native.Mathlib.Omega.{arith}
 use lib.ListN.{length, get_or}
-use Rattle.order.specs.Order.{pick}
-use Rattle.order.specs.Table.{table_from, joined}
+use Rattle.numbers.specs.Order.{pick}
+use Rattle.numbers.specs.Table.{table_from, joined}
 
 unfoldable pub Every : {A : Type 0} → (A → Type 0) → List A → Type 0
 Every P [] = Unit {0}

@@ -4,8 +4,8 @@ use mathlib.Core.Path.{◌≡◌, refl, sym, ap, subst, ◌∙◌}
 use mathlib.Core.Bool.{Bool, true, false, not}
 use mathlib.Core.List.{List, [], ◌∷◌}
 use lib.Dec.{T}
-use Rattle.order.specs.Order.{pick}
-use Rattle.geometry.specs.declared.Point.{Point}
+use Rattle.numbers.specs.Order.{pick}
+use Rattle.plane.specs.declared.geometry.Point.{Point}
 use Rattle.runs.specs.Run.{Piece, apart, pieces}
 use Rattle.wall.specs.Wall.{coincide, joining, Leads, last_of, Unbroken, AllAt, OnePoint}
 use Rattle.wall.proofs.Numbers.{GoodPoint, At, at_coincide, coincide_at, apart_is}

@@ -12,21 +12,21 @@ use lib.ListN.{length, get_or}
 use lib.Ieee.{Float, nan, inf, fin, binary64, up, down, unlike, mul, div, add, lt, le, units, odd, round, size, of_bits, of_fields}
 use lib.Ieee.Fits.{down_pos, round_is, and_l, and_r}
 use lib.Ieee.Positive.{positive, above, above_of_le}
-use Rattle.float.specs.Small.{max_of, min_of, is_finite}
-use Rattle.float.specs.Hypot.{hypot_of, grains, nearest_root, root_in}
-use Rattle.float.specs.Ops.{f0, f1, f2, order_key, ◌⊗◌}
-use Rattle.order.specs.Order.{pick}
-use Rattle.order.specs.Median.{finite_of, insert_float, sort_floats, middle, median_of}
-use Rattle.geometry.specs.declared.Point.{Point}
-use Rattle.geometry.specs.Plane.{point_at}
-use Rattle.proximity.specs.Near.{distance, nearer, nearest_to, nearest, neighbours}
-use Rattle.options.specs.declared.Options.{Options}
-use Rattle.options.specs.Options.{between, gap_fits}
+use Rattle.numbers.specs.Small.{max_of, min_of, is_finite}
+use Rattle.numbers.specs.Hypot.{hypot_of, grains, nearest_root, root_in}
+use Rattle.numbers.specs.Ops.{f0, f1, f2, order_key, ◌⊗◌}
+use Rattle.numbers.specs.Order.{pick}
+use Rattle.numbers.specs.Median.{finite_of, insert_float, sort_floats, middle, median_of}
+use Rattle.plane.specs.declared.geometry.Point.{Point}
+use Rattle.plane.specs.Plane.{point_at}
+use Rattle.plane.specs.Near.{distance, nearer, nearest_to, nearest, neighbours}
+use Rattle.network.specs.declared.options.Options.{Options}
+use Rattle.network.specs.Options.{between, gap_fits}
 use Rattle.network.specs.Words.{is_occupied, occupied}
-use Rattle.sizes.specs.Size.{Size, size_at}
-use Rattle.units.specs.Unit.{coordinates, spacing_of, spacing, typical, unit_for}
-use Rattle.scales.specs.Scale.{tier, occupied_below, scale_at, scales_of, scales}
-use Rattle.free_places.specs.Search.{Frame, frame_at, frame_for, frames}
+use Rattle.stations.specs.Size.{Size, size_at}
+use Rattle.stations.specs.Unit.{coordinates, spacing_of, spacing, typical, unit_for}
+use Rattle.stations.specs.Scale.{tier, occupied_below, scale_at, scales_of, scales}
+use Rattle.placement.specs.Search.{Frame, frame_at, frame_for, frames}
 use Rattle.placement.proofs.Clear.{Outward}
 use Rattle.drawing.specs.Drawing.{measures_of}
 use Rattle.wall.proofs.Every.{Every, every_at, every_table}

@@ -9,11 +9,11 @@ use lib.IntN.{ℤ, pos}
 use lib.Ieee.{Float, nan, inf, fin, binary64, up, down, lt, eq, below, level, fits, add, sum, round}
 use lib.Ieee.Fits.{add-fits, sub-fits, down_pos}
 use borrow.Author.Tests.{lt-ltb, le-ltb, ltb-true, ltb-false, eq-eqb, eqb-true, eqb-false}
-use Rattle.float.specs.Small.{abs_of, is_finite}
-use Rattle.float.specs.Ops.{◌⊕◌, ◌⊖◌}
-use Rattle.float.proofs.Signs.{zero_bits, no_magnitude}
-use Rattle.float.proofs.Sums.{sub_zero, zero_round, add_commutes}
-use Rattle.geometry.specs.declared.Point.{Point}
+use Rattle.numbers.specs.Small.{abs_of, is_finite}
+use Rattle.numbers.specs.Ops.{◌⊕◌, ◌⊖◌}
+use Rattle.numbers.proofs.float.Signs.{zero_bits, no_magnitude}
+use Rattle.numbers.proofs.float.Sums.{sub_zero, zero_round, add_commutes}
+use Rattle.plane.specs.declared.geometry.Point.{Point}
 use Rattle.placement.proofs.Rank.{rank, Number, lt_rank, add_up, sub_number, finite_number}
 use Rattle.placement.proofs.Clear.{Good}
 use Rattle.runs.specs.Run.{apart}

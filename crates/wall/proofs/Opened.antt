@@ -10,41 +10,41 @@ use lib.ListN.{length, get_or, length-map, get_or-map}
 use lib.Ieee.{Float, binary64, fits, lt, le}
 use lib.Ieee.Fits.{add-fits, sub-fits, div-fits}
 use lib.Ieee.Bits.{of_bits-fits}
-use Rattle.float.specs.Ops.{f0, f2, ◌⊕◌, ◌⊖◌, ◌⊗◌, ◌⊘◌}
-use Rattle.order.specs.Order.{pick, up_from}
-use Rattle.order.proofs.Tables.{length_table, get_d_table}
-use Rattle.geometry.specs.declared.Point.{Point}
-use Rattle.geometry.specs.declared.Box.{Box}
-use Rattle.options.specs.declared.Gaps.{Gaps}
-use Rattle.options.specs.declared.Options.{Options}
-use Rattle.options.specs.Options.{search_of}
+use Rattle.numbers.specs.Ops.{f0, f2, ◌⊕◌, ◌⊖◌, ◌⊗◌, ◌⊘◌}
+use Rattle.numbers.specs.Order.{pick, up_from}
+use Rattle.numbers.proofs.order.Tables.{length_table, get_d_table}
+use Rattle.plane.specs.declared.geometry.Point.{Point}
+use Rattle.plane.specs.declared.geometry.Box.{Box}
+use Rattle.network.specs.declared.options.Gaps.{Gaps}
+use Rattle.network.specs.declared.options.Options.{Options}
+use Rattle.network.specs.Options.{search_of}
 use Rattle.network.specs.declared.words.Kind.{Kind}
 use Rattle.network.specs.declared.words.Kind.TheVariants.{Undrawn, Open, Internal, Line}
 use Rattle.network.specs.Words.{station_of, bus_counts, is_occupied, occupied, kinds, kind_at}
-use Rattle.seeds.specs.Seed as Seed
-use Rattle.seeds.specs.Seed.{place_at}
-use Rattle.columns.specs.Column as Column
-use Rattle.rows.specs.Row.{from_row, to_row, from_rows, to_rows}
-use Rattle.sizes.specs.Size as Sizes
-use Rattle.sizes.specs.Size.{Size}
-use Rattle.units.specs.Unit.{spacing, typical, unit_for}
-use Rattle.scales.specs.Scale as Scale
+use Rattle.network.specs.Seed as Seed
+use Rattle.network.specs.Seed.{place_at}
+use Rattle.stations.specs.Column as Column
+use Rattle.stations.specs.Row.{from_row, to_row, from_rows, to_rows}
+use Rattle.stations.specs.Size as Sizes
+use Rattle.stations.specs.Size.{Size}
+use Rattle.stations.specs.Unit.{spacing, typical, unit_for}
+use Rattle.stations.specs.Scale as Scale
 use Rattle.offsets.specs.declared.offset.Offset.{Offset}
 use Rattle.offsets.specs.Offset as Offset
-use Rattle.geometry.specs.Plane.{box_in, no_box}
+use Rattle.plane.specs.Plane.{box_in, no_box}
 use Rattle.placement.specs.Place.{places, boxes, box_of}
-use Rattle.free_places.specs.Search.{Frame, frames, box_on}
-use Rattle.bars.specs.declared.Bar.{Bar}
-use Rattle.bars.specs.Bar as Bars
-use Rattle.bars.specs.Bar.{Span, bare, rows, reach, lengthened, bar_for, bar_at, position, row_end, bar_middle}
-use Rattle.bars.specs.Exit.{exit_x, exit}
+use Rattle.placement.specs.Search.{Frame, frames, box_on}
+use Rattle.stations.specs.declared.bars.Bar.{Bar}
+use Rattle.stations.specs.Bar as Bars
+use Rattle.stations.specs.Bar.{Span, bare, rows, reach, lengthened, bar_for, bar_at, position, row_end, bar_middle}
+use Rattle.stations.specs.Exit.{exit_x, exit}
 use Rattle.runs.specs.Run as Run
-use Rattle.detour.specs.Detour.{detour}
-use Rattle.crossings.specs.Route as Route
+use Rattle.boxes.specs.Detour.{detour}
+use Rattle.routing.specs.Route as Route
 use Rattle.runs.specs.Run.{Scene, slot, led_path, line_points, run_for, run_of, all_pieces, role}
 use Rattle.drawing.specs.Network.{Network}
-use Rattle.crossings.specs.Gap.{gap_of}
-use Rattle.routes.specs.Routes.{crossings_of}
+use Rattle.routing.specs.Gap.{gap_of}
+use Rattle.routing.specs.Routes.{crossings_of}
 use Rattle.drawing.specs.Drawing.{measures_of, drawing, planned, straight_scene, led_scene, scene_of, routed_of, routed_scene, ways_of}
 use Rattle.wall.specs.Wall.{kind, all_kinds, row_number, order}
 use Rattle.wall.proofs.Every.{Every, every_at, every_table, every_append, every_map}

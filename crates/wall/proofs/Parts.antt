@@ -6,25 +6,25 @@ use native.Mathlib.Omega.{arith}
 use lib.ListN.{length, get_or, take, drop, get_or-map}
 use lib.Seq.{take-append_seam}
 use lib.Ieee.{Float, nan}
-use Rattle.float.specs.Ops.{f1, ◌⊗◌}
-use Rattle.order.proofs.Tables.{length_table, get_d_table}
-use Rattle.geometry.specs.declared.Box.{Box}
-use Rattle.geometry.specs.Plane.{point, box_at, box_in}
-use Rattle.options.specs.declared.Options.{Options}
+use Rattle.numbers.specs.Ops.{f1, ◌⊗◌}
+use Rattle.numbers.proofs.order.Tables.{length_table, get_d_table}
+use Rattle.plane.specs.declared.geometry.Box.{Box}
+use Rattle.plane.specs.Plane.{point, box_at, box_in}
+use Rattle.network.specs.declared.options.Options.{Options}
 use Rattle.network.specs.Words.{station_of, station_count, buses_in, bus_counts}
-use Rattle.seeds.specs.Seed as Seed
+use Rattle.network.specs.Seed as Seed
 use Rattle.network.specs.Views.{boxes_in}
 use Rattle.network.proofs.Stations.{station_below}
-use Rattle.sizes.specs.Size as Sizes
-use Rattle.sizes.specs.Size.{size_at, size_for, width_for, height_for}
-use Rattle.scales.specs.Scale as Scale
+use Rattle.stations.specs.Size as Sizes
+use Rattle.stations.specs.Size.{size_at, size_for, width_for, height_for}
+use Rattle.stations.specs.Scale as Scale
 use Rattle.placement.specs.Place.{boxes}
-use Rattle.free_places.specs.Search.{Frame, frames, frame_for, frame_at}
-use Rattle.bars.specs.Bar.{position, bar_at, block_at, row_end, row_y}
+use Rattle.placement.specs.Search.{Frame, frames, frame_for, frame_at}
+use Rattle.stations.specs.Bar.{position, bar_at, block_at, row_end, row_y}
 use Rattle.network.specs.declared.words.Kind.TheVariants.{Undrawn}
 use Rattle.runs.specs.Run.{role}
 use Rattle.runs.specs.Lists.{flat, box_numbers, bar_numbers}
-use Rattle.figures.proofs.Reading.{boxes_read}
+use Rattle.audit.proofs.figures.Reading.{boxes_read}
 use Rattle.drawing.specs.declared.answer.Plot.{Plot}
 use Rattle.std.specs.Prelude.{Ok}
 use Rattle.drawing.specs.Network.{Network, Lists, Work, Crossings}
@@ -67,7 +67,7 @@ module _ (o : Options) (N : Network) (L : Lists) (W : Work) (X : Crossings) (p :
 
   pub held_position : (i : ℕ) → i < length N.station → position_in exit i ≡ position (bar_at (drawing o N).bars i)
   held_position i h =
-      ap (λ (l : List Float). Rattle.geometry.specs.Plane.point_at l i) written.positions
+      ap (λ (l : List Float). Rattle.plane.specs.Plane.point_at l i) written.positions
       ∙ read_position (drawing o N).bars _ i (subst (λ (n : ℕ). i < n) (sym (bars_length o N)) h)
 
   pub boxes_length : length (drawing o N).boxes ≡ k

@@ -7,15 +7,15 @@ use native.Mathlib.Nat.{not-suc-le-zero, le_of_suc-le-suc}
 use lib.ListN.{length, get_or, length-map, get_or-append, get_or-map}
 use lib.Seq.{get_or-append-add}
 use lib.Ieee.{Float, nan}
-use Rattle.order.proofs.Tables.{get_d_any}
-use Rattle.order.proofs.Strides.{is_table}
-use Rattle.geometry.specs.declared.Box.{Box}
-use Rattle.geometry.specs.Plane.{point, point_at, box_at, origin, box_in, no_box}
-use Rattle.bars.specs.declared.Bar.{Bar}
-use Rattle.bars.specs.Bar.{position, bar_at}
+use Rattle.numbers.proofs.order.Tables.{get_d_any}
+use Rattle.numbers.proofs.order.Strides.{is_table}
+use Rattle.plane.specs.declared.geometry.Box.{Box}
+use Rattle.plane.specs.Plane.{point, point_at, box_at, origin, box_in, no_box}
+use Rattle.stations.specs.declared.bars.Bar.{Bar}
+use Rattle.stations.specs.Bar.{position, bar_at}
 use Rattle.runs.specs.Run.{Piece}
 use Rattle.runs.specs.Lists.{flat, point_numbers, box_numbers, bar_numbers, piece_numbers}
-use Rattle.stretches.specs.Relative.{piece_start, piece_end}
+use Rattle.audit.specs.Relative.{piece_start, piece_end}
 use Rattle.drawing.specs.Network.{Lists}
 use Rattle.wall.specs.Wall.{piece_in, pieces_in}
 

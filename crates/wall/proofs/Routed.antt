@@ -9,33 +9,33 @@ use native.Mathlib.Omega.{arith}
 use lib.Dec.{ltb}
 use lib.ListN.{length, get_or, length-set}
 use lib.Ieee.{Float, le, nan}
-use Rattle.float.specs.Ops.{f1}
-use Rattle.order.specs.Order.{pick}
-use Rattle.order.specs.Table.{table}
-use Rattle.order.proofs.Tables.{length_table, get_d_table, table_ext}
-use Rattle.order.proofs.Strides.{is_table}
-use Rattle.geometry.specs.declared.Point.{Point}
-use Rattle.geometry.specs.declared.Box.{Box}
-use Rattle.geometry.specs.Plane.{point, origin, point_at, box_at, no_box}
-use Rattle.options.specs.declared.Options.{Options}
+use Rattle.numbers.specs.Ops.{f1}
+use Rattle.numbers.specs.Order.{pick}
+use Rattle.numbers.specs.Table.{table}
+use Rattle.numbers.proofs.order.Tables.{length_table, get_d_table, table_ext}
+use Rattle.numbers.proofs.order.Strides.{is_table}
+use Rattle.plane.specs.declared.geometry.Point.{Point}
+use Rattle.plane.specs.declared.geometry.Box.{Box}
+use Rattle.plane.specs.Plane.{point, origin, point_at, box_at, no_box}
+use Rattle.network.specs.declared.options.Options.{Options}
 use Rattle.network.specs.declared.words.Kind.{Kind}
 use Rattle.network.specs.declared.words.Kind.TheVariants.{Undrawn, Open, Internal, Line}
 use Rattle.network.specs.Words.{station_of, station_count, kind_at, Safe}
-use Rattle.seeds.specs.Seed.{place_at}
+use Rattle.network.specs.Seed.{place_at}
 use Rattle.network.proofs.Stations.{station_below}
 use Rattle.network.proofs.Branches.{kind_safe}
-use Rattle.rows.specs.Row.{from_row, to_row, to_rows}
-use Rattle.units.specs.Unit.{coordinates}
+use Rattle.stations.specs.Row.{from_row, to_row, to_rows}
+use Rattle.stations.specs.Unit.{coordinates}
 use Rattle.offsets.specs.declared.offset.Offset.{Offset}
 use Rattle.placement.specs.Place.{places_to, places}
-use Rattle.free_places.specs.Search.{Frame}
-use Rattle.bars.specs.Exit as Exit
-use Rattle.bars.specs.Exit.{exit_x}
-use Rattle.detour.specs.Detour.{detour}
+use Rattle.placement.specs.Search.{Frame}
+use Rattle.stations.specs.Exit as Exit
+use Rattle.stations.specs.Exit.{exit_x}
+use Rattle.boxes.specs.Detour.{detour}
 use Rattle.runs.specs.Run.{slot}
-use Rattle.crossings.specs.Route as Route
-use Rattle.crossings.specs.Gap.{gap_of}
-use Rattle.routes.specs.Routes.{mesh_used, crossings_of}
+use Rattle.routing.specs.Route as Route
+use Rattle.routing.specs.Gap.{gap_of}
+use Rattle.routing.specs.Routes.{mesh_used, crossings_of}
 use Rattle.drawing.specs.declared.answer.Plot.{Plot}
 use Rattle.std.specs.Prelude.{Ok}
 use Rattle.drawing.specs.Network.{Network, Lists, Work, Crossings}

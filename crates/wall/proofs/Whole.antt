@@ -1,4 +1,4 @@
--- One claim about a whole drawing: whatever the lists held before, the lists that a call which draws leaves are as 01 says, and an audit that accepts them counts no overlap
+-- One claim about a whole drawing: whatever the lists held before, the lists that a call which draws leaves are those that arise by the rules, and an audit that accepts them counts no overlap
 -- where every station found a free place. Assumes nothing.
 use Prim.Native.Nat.{ℕ, zero, suc, ◌^◌, ◌≤◌, ◌<◌}
 use mathlib.Core.Path.{◌≡◌, refl, sym, ap, subst, ◌∙◌}
@@ -14,56 +14,56 @@ use lib.Seq.{get_or-take, length-take-le}
 use lib.Ieee.{Float, binary64, fits, lt, le, of_bits}
 use lib.Ieee.Fits.{and_l, and_r, add-fits, div-fits}
 use lib.Ieee.Bits.{of_bits-fits}
-use Rattle.float.specs.Small.{is_finite}
-use Rattle.float.specs.Ops.{f0, f1}
-use Rattle.order.specs.Order.{pick}
-use Rattle.order.specs.Table.{table, joined}
-use Rattle.order.proofs.Tables.{length_table, get_d_table, joined_ext}
-use Rattle.geometry.specs.declared.Point.{Point}
-use Rattle.geometry.specs.declared.Box.{Box}
-use Rattle.geometry.specs.Plane.{box_at, shrunk, box_in, no_box}
-use Rattle.proximity.specs.Overlap.{overlap}
-use Rattle.options.specs.declared.Gaps.{Gaps}
-use Rattle.options.specs.declared.Options.{Options}
-use Rattle.options.specs.Options.{in_range, between, search_fits, gap_fits, gaps_fit, search_of}
+use Rattle.numbers.specs.Small.{is_finite}
+use Rattle.numbers.specs.Ops.{f0, f1}
+use Rattle.numbers.specs.Order.{pick}
+use Rattle.numbers.specs.Table.{table, joined}
+use Rattle.numbers.proofs.order.Tables.{length_table, get_d_table, joined_ext}
+use Rattle.plane.specs.declared.geometry.Point.{Point}
+use Rattle.plane.specs.declared.geometry.Box.{Box}
+use Rattle.plane.specs.Plane.{box_at, shrunk, box_in, no_box}
+use Rattle.plane.specs.Overlap.{overlap}
+use Rattle.network.specs.declared.options.Gaps.{Gaps}
+use Rattle.network.specs.declared.options.Options.{Options}
+use Rattle.network.specs.Options.{in_range, between, search_fits, gap_fits, gaps_fit, search_of}
 use Rattle.std.specs.Prelude.{Some, None}
 use Rattle.network.specs.declared.words.Kind.{Kind}
 use Rattle.network.specs.declared.words.Kind.TheVariants.{Undrawn, Open, Internal, Line}
 use Rattle.network.specs.Words.{station_of, station_count, buses_in, is_occupied, known, live, kind_by, kind_for, kind_of, kind_at, Safe}
-use Rattle.seeds.specs.Seed as Seed
-use Rattle.seeds.specs.Seed.{place_at}
+use Rattle.network.specs.Seed as Seed
+use Rattle.network.specs.Seed.{place_at}
 use Rattle.network.proofs.Branches.{kind_safe}
 use Rattle.network.proofs.KindLaw.{kind_open, kind_internal, kind_line, kind_other}
-use Rattle.refusals.proofs.Shapes.{Shape, shape_fits}
-use Rattle.rows.specs.Row.{has_row}
-use Rattle.rows.proofs.RowLaw.{rows_below, rows_differ, rows_fill}
-use Rattle.rows.proofs.RowOrder as Kept
+use Rattle.network.proofs.refusals.Shapes.{Shape, shape_fits}
+use Rattle.stations.specs.Row.{has_row}
+use Rattle.stations.proofs.rows.RowLaw.{rows_below, rows_differ, rows_fill}
+use Rattle.stations.proofs.rows.RowOrder as Kept
 use Rattle.placement.specs.Place.{box_of, found_free}
-use Rattle.free_places.specs.Search.{Frame, frame_at, box_on, free, buffered}
-use Rattle.turns.specs.Stages.Listed.{Turns}
-use Rattle.turns.proofs.Queue.{order_turns}
-use Rattle.order.proofs.Sorting.{map_agree}
+use Rattle.placement.specs.Search.{Frame, frame_at, box_on, free, buffered}
+use Rattle.placement.specs.Stages.Listed.{Turns}
+use Rattle.placement.proofs.turns.Queue.{order_turns}
+use Rattle.numbers.proofs.order.Sorting.{map_agree}
 use Rattle.placement.proofs.Placing.{all_of_lem}
 use Rattle.placement.proofs.PlaceLaw.{place_of}
 use Rattle.offsets.specs.Complete.{Complete}
 use Rattle.offsets.proofs.OffsetLaw.{offsets_complete}
-use Rattle.turns.proofs.OrderLaw.{bus_occupied, occupied_bus, tops, order_law}
+use Rattle.placement.proofs.turns.OrderLaw.{bus_occupied, occupied_bus, tops, order_law}
 use Rattle.placement.proofs.NoOverlap.{order_covers, Finite, box_at_lem, no_overlap}
 use Rattle.placement.proofs.Clear.{Outward}
-use Rattle.bars.specs.Bar.{position, bar_at}
+use Rattle.stations.specs.Bar.{position, bar_at}
 use Rattle.runs.specs.Run.{Piece, pieces, is_line, all_pieces, role}
 use Rattle.runs.specs.Finite.{all_of, finite_point, finite_box}
 use Rattle.drawing.specs.declared.answer.Plot.{Plot}
 use Rattle.std.specs.Prelude.{Ok}
-use Rattle.refusals.proofs.Unless.{neither}
+use Rattle.network.proofs.refusals.Unless.{neither}
 use Rattle.drawing.specs.Network.{Network, Lists, Work, Crossings}
 use Rattle.drawing.specs.Drawing.{drawing}
 use Rattle.drawing.specs.Answer.{layout_of, early}
 use Rattle.layout.proofs.Drawn.{passed}
-use Rattle.findings.specs.declared.answer.Figures.{Figures}
-use Rattle.findings.specs.Drawn as Audit
-use Rattle.findings.specs.Answer.{audit_of, boxes_of}
-use Rattle.findings.proofs.Accepted.{accepted_apart}
+use Rattle.audit.specs.declared.findings.answer.Figures.{Figures}
+use Rattle.audit.specs.Drawn as Audit
+use Rattle.audit.specs.Answer.{audit_of, boxes_of}
+use Rattle.audit.proofs.findings.Accepted.{accepted_apart}
 use Rattle.wall.specs.Wall.{Joins, kind, all_kinds, role_of, Kinds, HasRow, row_number, Rows, seed, Units, order, searched, frame_in, earlier, is_free, Boxes, position_in, row_end_in, piece_in, pieces_in, coincide, joining, points_by, points_of, run_of, line_run, other_run, Runs, audit_parts, audited, Wall}
 use Rattle.wall.proofs.Joins.{AllGood, joins, unbroken, absent}
 use Rattle.wall.proofs.Every.{Every, every_at, every_table, every_append, every_joined, every_within, pick_every}
@@ -447,7 +447,7 @@ module _ (o : Options) (N : Network) (L : Lists) (W : Work) (X : Crossings) (p :
       no-box : T (finite_box no_box)
       no-box = unfold is_finite of_bits lib.Ieee.of_fields lib.Ieee.odd in tt
 
-  out_at : (s : ℕ) → Filled s → Outward (Rattle.float.specs.Ops.◌⊗◌ (frame_at (fs o N) s).f (frame_at (fs o N) s).buffer)
+  out_at : (s : ℕ) → Filled s → Outward (Rattle.numbers.specs.Ops.◌⊗◌ (frame_at (fs o N) s).f (frame_at (fs o N) s).buffer)
   unfolding box_of box_on
   out_at s h =
       let R = ranges o (in_range_lem o N L W X p drawn) in

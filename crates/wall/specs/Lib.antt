@@ -1,2 +1,4 @@
 pub mod Wall
 pub mod Claim
+pub mod Cases
+pub mod Laws

@@ -1,52 +1,55 @@
--- One claim about a whole drawing: what holds of the lists that layout left, and of every audit of them (01, 'What each statement fixes', third demand).
+-- One claim about a whole drawing: what holds of the lists that layout left, and of every audit of them
+-- (docs/RULES.md, 'One claim about a whole drawing').
 -- Definitions only.
-use Rattle.std.specs.Prelude.{ℕ, ◌+◌, ◌-◌, ◌*◌, ◌^◌, ◌≤◌, ◌<◌, ◌≡◌, ◌⊎◌, ◌≢◌, Bool, true, false, cond, ◌&&◌, ◌||◌, List, [], ◌∷◌, ◌++◌, map, T, eqb, leb, ltb, ℤ, pos, negsuc, length, get_or, take, Float, Ok}
+use Rattle.std.specs.Prelude.{ℕ, ◌+◌, ◌-◌, ◌*◌, ◌^◌, ◌≤◌, ◌<◌, ◌≡◌, ◌⊎◌, ◌≢◌, Bool, true, false, cond, ◌&&◌, ◌||◌, List}
+use Rattle.std.specs.Prelude.{[], ◌∷◌, ◌++◌, map, T, eqb, leb, ltb, ℤ, pos, negsuc, length, get_or, take, Float, Ok}
 use Rattle.std.proofs.Math.Option.{Option, none, some}
 use Rattle.std.specs.Float.{binary64, nan}
 use Rattle.std.specs.Float.Ieee.{eq, lt, le, to_bits}
-use Rattle.float.specs.Small.{max_of}
-use Rattle.float.specs.Ops.{num, f½, f1, f2, ◌⊕◌, ◌⊖◌, ◌⊗◌, ◌⊘◌}
-use Rattle.float.specs.TotalOrder as Total
-use Rattle.order.specs.Order.{pick}
-use Rattle.order.specs.Table.{table, how_many, joined}
-use Rattle.geometry.specs.declared.Point.{Point}
-use Rattle.geometry.specs.declared.Box.{Box}
-use Rattle.geometry.specs.Plane.{point, point_at, box_at}
-use Rattle.mesh.specs.Mesh.{low_at, high_at}
-use Rattle.walk.specs.Trace.{Walk, traced}
-use Rattle.options.specs.declared.Options.{Options}
-use Rattle.options.specs.Options.{search_of}
+use Rattle.numbers.specs.Small.{max_of}
+use Rattle.numbers.specs.Ops.{num, f½, f1, f2, ◌⊕◌, ◌⊖◌, ◌⊗◌, ◌⊘◌}
+use Rattle.numbers.specs.TotalOrder as Total
+use Rattle.numbers.specs.Order.{pick}
+use Rattle.numbers.specs.Table.{table, how_many, joined}
+use Rattle.plane.specs.declared.geometry.Point.{Point}
+use Rattle.plane.specs.declared.geometry.Box.{Box}
+use Rattle.plane.specs.Plane.{point, point_at, box_at}
+use Rattle.network.specs.Mesh.{low_at, high_at}
+use Rattle.channels.specs.Trace.{Walk, traced}
+use Rattle.network.specs.declared.options.Options.{Options}
+use Rattle.network.specs.Options.{search_of}
 use Rattle.network.specs.declared.words.Kind.{Kind}
 use Rattle.network.specs.declared.words.Kind.TheVariants.{Undrawn, Open, Internal, Line}
 use Rattle.network.specs.Words.{station_of, station_count, buses_in, bus_counts, occupied, kind_of, kinds}
-use Rattle.seeds.specs.Seed.{sum_to, mean, seeds, place_at}
-use Rattle.rows.specs.Row.{rows_in, row}
-use Rattle.sizes.specs.Size.{Size, sizes}
-use Rattle.units.specs.Unit.{coordinates, spacing, typical, unit_for}
-use Rattle.scales.specs.Scale.{scales}
+use Rattle.network.specs.Seed.{sum_to, mean, seeds, place_at}
+use Rattle.stations.specs.Row.{rows_in, row}
+use Rattle.stations.specs.Size.{Size, sizes}
+use Rattle.stations.specs.Unit.{coordinates, spacing, typical, unit_for}
+use Rattle.stations.specs.Scale.{scales}
 use Rattle.offsets.specs.declared.offset.Offset.{Offset}
 use Rattle.offsets.specs.Complete.{Complete}
 use Rattle.offsets.specs.Offset.{offsets}
-use Rattle.free_places.specs.Search.{Frame, box_on, buffered, free, tries, FirstOf}
-use Rattle.turns.specs.Turns.{placement_order}
-use Rattle.detour.specs.Detour.{detour}
+use Rattle.placement.specs.Search.{Frame, box_on, buffered, free, tries, FirstOf}
+use Rattle.placement.specs.Turns.{placement_order}
+use Rattle.boxes.specs.Detour.{detour}
 use Rattle.runs.specs.Run.{Piece}
-use Rattle.crossings.specs.Route as Route
-use Rattle.crossings.specs.Gap.{gap_of}
-use Rattle.routes.specs.Routes.{crossings_of}
-use Rattle.stretches.specs.Relative.{piece_start, piece_end}
+use Rattle.routing.specs.Route as Route
+use Rattle.routing.specs.Gap.{gap_of}
+use Rattle.routing.specs.Routes.{crossings_of}
+use Rattle.audit.specs.Relative.{piece_start, piece_end}
 use Rattle.drawing.specs.declared.answer.Plot.{Plot}
 use Rattle.drawing.specs.Network.{Network, Lists}
-use Rattle.findings.specs.declared.answer.Figures.{Figures}
-use Rattle.findings.specs.Drawn as Audit
-use Rattle.findings.specs.Answer.{audit_of}
+use Rattle.audit.specs.declared.findings.answer.Figures.{Figures}
+use Rattle.audit.specs.Drawn as Audit
+use Rattle.audit.specs.Answer.{audit_of}
 
--- ---- kinds of branches (01, 1)
+-- ---- kinds of branches (docs/RULES.md, 'Branches and stations')
 
 -- Branch e leads from bus a to bus b: both are known, from 0 to n − 1, and they differ.
 abbrev pub Joins : Network → ℕ → ℕ → ℕ → Type 0
 Joins N e a b =
-    (get_or N.from e (negsuc 0) ≡ pos a) × (a < length N.station) × (get_or N.to e (negsuc 0) ≡ pos b) × (b < length N.station) × (a ≢ b)
+    (get_or N.from e (negsuc 0) ≡ pos a) × (a < length N.station) × (get_or N.to e (negsuc 0) ≡ pos b)
+    × (b < length N.station) × (a ≢ b)
 
 -- Its service flag is 0; it is live where that isn't so, an absent flag included.
 abbrev pub FlagIs0 : Network → ℕ → Type 0
@@ -73,15 +76,17 @@ pub record Kinds (N : Network) (L : Lists) : Type 0 where
   -- Between two known, different buses a branch whose flag is 0 is open;
   pub opened : (e a b : ℕ) → Joins N e a b → FlagIs0 N e → kind N e ≡ Open a b
   -- a live one is internal if one station has both,
-  pub internal : (e a b : ℕ) → Joins N e a b → IsLive N e → station_of N.station a ≡ station_of N.station b → kind N e ≡ Internal a b
+  pub internal : (e a b : ℕ) → Joins N e a b → IsLive N e → station_of N.station a ≡ station_of N.station b
+      → kind N e ≡ Internal a b
   -- else a line.
-  pub line : (e a b : ℕ) → Joins N e a b → IsLive N e → station_of N.station a ≢ station_of N.station b → kind N e ≡ Line a b
+  pub line : (e a b : ℕ) → Joins N e a b → IsLive N e → station_of N.station a ≢ station_of N.station b
+      → kind N e ≡ Line a b
   -- Any other branch is undrawn.
   pub other : (e : ℕ) → ((a b : ℕ) → Joins N e a b → ⊥) → kind N e ≡ Undrawn
   -- The list of roles says so.
   pub roles : (e : ℕ) → e < length N.from → get_or L.roles e 3 ≡ role_of (kind N e)
 
--- ---- rows (01, 3)
+-- ---- rows (docs/RULES.md, 'Rows')
 
 -- the seed of station s, and the pattern of its y
 abbrev pub seed : Network → ℕ → Point
@@ -98,14 +103,15 @@ Inside N s e = (a : ℕ) × (b : ℕ) × (kind N e ≡ Internal a b) × (station
 abbrev pub LineEnd : Network → ℕ → ℕ → ℕ → Type 0
 LineEnd N s t e =
     (a : ℕ) × (b : ℕ) × (kind N e ≡ Line a b)
-    × (((station_of N.station a ≡ s) × (station_of N.station b ≡ t)) ⊎ ((station_of N.station b ≡ s) × (station_of N.station a ≡ t)))
+    × (((station_of N.station a ≡ s) × (station_of N.station b ≡ t))
+    ⊎ ((station_of N.station b ≡ s) × (station_of N.station a ≡ t)))
 
 -- These have a row in station s, and no other branch has.
 abbrev pub HasRow : Network → ℕ → ℕ → Type 0
 HasRow N s e = (e < length N.from) × (Inside N s e ⊎ ((t : ℕ) × LineEnd N s t e))
 
--- Branch d stands before branch e in station s: live branches inside it first, by branch number; then live line ends, by the other station's seed y
--- in totalOrder, then branch number.
+-- Branch d stands before branch e in station s: live branches inside it first, by branch number; then live line ends,
+-- by the other station's seed y in totalOrder, then branch number.
 abbrev pub StandsBefore : Network → ℕ → ℕ → ℕ → Type 0
 StandsBefore N s d e =
     (Inside N s d × Inside N s e × (d < e))
@@ -127,9 +133,10 @@ pub record Rows (N : Network) (s : ℕ) : Type 0 where
   pub fill : (r : ℕ) → r < row_count N s → (e : ℕ) × HasRow N s e × (row_number N s e ≡ r)
   -- The lower of two rows is that of the branch which stands before the other.
   pub order : (d e : ℕ) → HasRow N s d → HasRow N s e
-      → (row_number N s d < row_number N s e → StandsBefore N s d e) × (StandsBefore N s d e → row_number N s d < row_number N s e)
+      → (row_number N s d < row_number N s e → StandsBefore N s d e)
+      × (StandsBefore N s d e → row_number N s d < row_number N s e)
 
--- ---- seeds, unit and scales (01, 1 and 4)
+-- ---- seeds, unit and scales (docs/RULES.md, 'Seeds', 'Spacing and unit' and 'Scales')
 
 abbrev pub all_seeds : Network → List Point
 all_seeds N = seeds N.station N.xy
@@ -141,14 +148,16 @@ abbrev pub spacing_of : Network → Float
 spacing_of N = spacing (all_seeds N) (bus_counts N.station)
 
 pub record Units (o : Options) (N : Network) (L : Lists) (p : Plot) : Type 0 where
-  -- A station's seed is the mean of its bus points, summed in bus order (`network` specs Seed).
-  pub seeds : (s : ℕ) → s < station_count N.station → seed N s ≡ mean (buses_in N.station s) (sum_to N.station N.xy s (length N.station))
-  -- The unit is fill × spacing / typical (`units` specs Unit).
+  -- A station's seed is the mean of its bus points, summed in bus order (docs/RULES.md, 'Seeds').
+  pub seeds : (s : ℕ) → s < station_count N.station
+      → seed N s ≡ mean (buses_in N.station s) (sum_to N.station N.xy s (length N.station))
+  -- The unit is fill × spacing / typical (docs/RULES.md, 'Spacing and unit').
   pub unit : p.unit ≡ unit_for o.fill (spacing_of N) (typical (all_sizes o N) (bus_counts N.station))
-  -- Each station's scale is that of its tier (`units` specs Scale).
-  pub scale : (s : ℕ) → s < station_count N.station → get_or L.scales s nan ≡ get_or (scales o (all_seeds N) (bus_counts N.station) (spacing_of N)) s f1
+  -- Each station's scale is that of its tier (docs/RULES.md, 'Scales').
+  pub scale : (s : ℕ) → s < station_count N.station
+      → get_or L.scales s nan ≡ get_or (scales o (all_seeds N) (bus_counts N.station) (spacing_of N)) s f1
 
--- ---- boxes (01, 5)
+-- ---- boxes (docs/RULES.md, 'Order of placement' and 'Free places')
 
 -- A bus carries the number s.
 abbrev pub Occupied : Network → ℕ → Type 0
@@ -168,7 +177,8 @@ Top N s v =
 abbrev pub PlacedBefore : Network → ℕ → ℕ → ℕ → ℕ → Type 0
 PlacedBefore N s v t w =
     T (Total.before w v)
-    ⊎ ((v ≡ w) × ((buses_in N.station t < buses_in N.station s) ⊎ ((buses_in N.station s ≡ buses_in N.station t) × (s < t))))
+    ⊎ ((v ≡ w) × ((buses_in N.station t < buses_in N.station s)
+    ⊎ ((buses_in N.station s ≡ buses_in N.station t) × (s < t))))
 
 -- the occupied stations in the order of their placement, and the i-th
 abbrev pub order : Network → List ℕ
@@ -185,14 +195,16 @@ pub record Turns (N : Network) : Type 0 where
   -- It has a top `kv`,
   pub top : Patterns N → (s : ℕ) → Occupied N s → (v : ℕ) × Top N s v
   -- and the earlier of two turns is that of the station which is placed before the other.
-  pub by : Patterns N → (i j : ℕ) → i < length (order N) → j < length (order N) → (v w : ℕ) → Top N (turn N i) v → Top N (turn N j) w
+  pub by : Patterns N → (i j : ℕ) → i < length (order N) → j < length (order N) → (v w : ℕ) → Top N (turn N i) v
+      → Top N (turn N j) w
       → (i < j → PlacedBefore N (turn N i) v (turn N j) w) × (PlacedBefore N (turn N i) v (turn N j) w → i < j)
 
 -- the offsets of a drawing's search
 abbrev pub searched : Options → List Offset
 searched o = offsets (search_of o.search)
 
--- what station s's interior is drawn in: half its sides, gap × (buses − 1) + 2 × padding and max(rows, shortest bar) + 2 × padding blocks, its block, unit × scale, and its buffer
+-- what station s's interior is drawn in: half its sides, gap × (buses − 1) + 2 × padding and max(rows, shortest bar) +
+-- 2 × padding blocks, its block, unit × scale, and its buffer
 unfoldable pub frame_in : Options → Network → Plot → Lists → ℕ → Frame
 frame_in o N p L s =
     let f = p.unit ⊗ get_or L.scales s nan in
@@ -219,11 +231,13 @@ pub record Boxes (o : Options) (N : Network) (L : Lists) (p : Plot) : Type 0 whe
   pub offsets : Complete (search_of o.search) (searched o)
   -- The i-th station's place is the first free one of the search, or its seed if none is free.
   pub first : (i : ℕ) → i < length (order N)
-      → FirstOf (is_free o N L p i) (tries (seed N (turn N i)) (frame_in o N p L (turn N i)).half (searched o)) (seed N (turn N i)) (places (turn N i))
+      → FirstOf (is_free o N L p i) (tries (seed N (turn N i)) (frame_in o N p L (turn N i)).half (searched o))
+      (seed N (turn N i)) (places (turn N i))
 
--- ---- bars (01, 2 and 6)
+-- ---- bars (docs/RULES.md, 'Columns' and 'Bars and row ends')
 
--- A bus's column is how many buses of its station stand before it: their `kv` is above its own in totalOrder, or the same and their number lower.
+-- A bus's column is how many buses of its station stand before it: their `kv` is above its own in totalOrder, or the
+-- same and their number lower.
 abbrev pub column_of : Network → ℕ → ℕ
 column_of N i =
     how_many
@@ -235,7 +249,8 @@ column_of N i =
 -- Bus i has row r: a live branch of it has that row in its station.
 abbrev pub RowAt : Network → ℕ → ℕ → Type 0
 RowAt N i r =
-    (e : ℕ) × (e < length N.from) × (a : ℕ) × (b : ℕ) × ((kind N e ≡ Internal a b) ⊎ (kind N e ≡ Line a b)) × ((a ≡ i) ⊎ (b ≡ i))
+    (e : ℕ) × (e < length N.from) × (a : ℕ) × (b : ℕ) × ((kind N e ≡ Internal a b) ⊎ (kind N e ≡ Line a b))
+    × ((a ≡ i) ⊎ (b ≡ i))
     × (r ≡ row_number N (station_of N.station i) e)
 
 -- the block of station s: f = unit × scale
@@ -261,7 +276,8 @@ bar_from o f x y0 y1 =
 
 -- those of bus i in the list of bars, and its two in the list of positions
 abbrev pub bar_in : Lists → ℕ → List Float
-bar_in L i = get_or L.bars (4 * i) nan ∷ get_or L.bars (4 * i + 1) nan ∷ get_or L.bars (4 * i + 2) nan ∷ get_or L.bars (4 * i + 3) nan ∷ []
+bar_in L i = get_or L.bars (4 * i) nan ∷ get_or L.bars (4 * i + 1) nan ∷ get_or L.bars (4 * i + 2) nan
+    ∷ get_or L.bars (4 * i + 3) nan ∷ []
 
 abbrev pub position_in : Lists → ℕ → Point
 position_in L i = point_at L.positions i
@@ -272,18 +288,21 @@ pub record Bars (o : Options) (N : Network) (L : Lists) (p : Plot) : Type 0 wher
       → bar_in L i
       ≡ bar_from o (block_in p L (station_of N.station i)) (bar_x_in o N p L i)
       ((box_at L.boxes (station_of N.station i)).top ⊕ o.gaps.pad ⊗ block_in p L (station_of N.station i))
-      ((box_at L.boxes (station_of N.station i)).top ⊕ (o.gaps.pad ⊕ o.gaps.min_bar) ⊗ block_in p L (station_of N.station i))
+      ((box_at L.boxes (station_of N.station i)).top
+      ⊕ (o.gaps.pad ⊕ o.gaps.min_bar) ⊗ block_in p L (station_of N.station i))
   -- Another runs from its first row's y − 0.5 × f to its last row's y + 0.5 × f.
-  pub spanned : Patterns N → (i a b : ℕ) → i < length N.station → RowAt N i a → RowAt N i b → ((r : ℕ) → RowAt N i r → (a ≤ r) × (r ≤ b))
+  pub spanned : Patterns N → (i a b : ℕ) → i < length N.station → RowAt N i a → RowAt N i b
+      → ((r : ℕ) → RowAt N i r → (a ≤ r) × (r ≤ b))
       → bar_in L i
       ≡ bar_from o (block_in p L (station_of N.station i)) (bar_x_in o N p L i)
       (row_y_in o p L (station_of N.station i) a ⊖ f½ ⊗ block_in p L (station_of N.station i))
       (row_y_in o p L (station_of N.station i) b ⊕ f½ ⊗ block_in p L (station_of N.station i))
   -- `positions` holds its x and middle.
   pub positions : (i : ℕ) → i < length N.station
-      → position_in L i ≡ point (get_or L.bars (4 * i) nan) ((get_or L.bars (4 * i + 1) nan ⊕ get_or L.bars (4 * i + 3) nan) ⊘ f2)
+      → position_in L i ≡ point (get_or L.bars (4 * i) nan)
+      ((get_or L.bars (4 * i + 1) nan ⊕ get_or L.bars (4 * i + 3) nan) ⊘ f2)
 
--- ---- routes (01, 7)
+-- ---- routes (docs/RULES.md, 'Exits' to 'Detour')
 
 -- A row end of bus i has its bar's x and its row's y.
 unfoldable pub row_end_in : Options → Network → Plot → Lists → ℕ → ℕ → Point
@@ -293,7 +312,8 @@ row_end_in o N p L i r = point (get_or L.bars (4 * i) nan) (row_y_in o p L (stat
 abbrev pub end_in : Options → Network → Plot → Lists → ℕ → ℕ → Point
 end_in o N p L e i = row_end_in o N p L i (row_number N (station_of N.station i) e)
 
--- The exit of station s towards station t, at the height y: on the box's right side if t's place isn't left of its own, else on its left side.
+-- The exit of station s towards station t, at the height y: on the box's right side if t's place isn't left of its own,
+-- else on its left side.
 abbrev pub exit_in : Lists → (ℕ → Point) → ℕ → ℕ → Float → Point
 exit_in L places s t y = point (pick (le (places s).x (places t).x) (box_at L.boxes s).right (box_at L.boxes s).left) y
 
@@ -340,9 +360,11 @@ routed_in o N p L places =
       lines = table (λ e. line_of o N p L places e (kind N e)) (length N.from);
     }
 
--- A line from station s to station t crosses the mesh edges that `route_lines` walks over (`walk` specs Trace).
+-- A line from station s to station t crosses the mesh edges that `route_lines` walks over (crate `channels`, specs
+-- Trace).
 abbrev pub walk_of : Route.Scene → ℕ → ℕ → Walk
-walk_of R s t = traced R.corners R.twins (λ v. point_at R.centres v) (Route.vertex_of s R.occupied) (Route.vertex_of t R.occupied)
+walk_of R s t =
+    traced R.corners R.twins (λ v. point_at R.centres v) (Route.vertex_of s R.occupied) (Route.vertex_of t R.occupied)
 
 -- the point t of the way from the place of mesh edge h's lower corner to that of its higher corner
 abbrev pub point_on : Route.Scene → ℕ → Float → Point
@@ -351,15 +373,18 @@ point_on R h t =
     let w = point_at R.centres (high_at R.corners h) in
     point (u.x ⊕ t ⊗ (w.x ⊖ u.x)) (u.y ⊕ t ⊗ (w.y ⊖ u.y))
 
--- The crossings of branch e, a line from station s to station t: a point on each mesh edge that its walk crosses, in the walk's order, at the place where
--- the iterations of spacing leave that crossing (`routes` specs Routes; crossings are numbered by branch and then in the walk's order). A cleared path has none.
+-- The crossings of branch e, a line from station s to station t: a point on each mesh edge that its walk crosses, in
+-- the walk's order, at the place where the iterations of spacing leave that crossing (crate `routing`, specs Routes;
+-- crossings are numbered by branch and then in the walk's order). A cleared path has none.
 unfoldable pub crossing_points : Route.Scene → ℕ → ℕ → ℕ → ℕ → List Point
 crossing_points R iterations e s t =
     let w = walk_of R s t in
     let before = length (Route.traced_to R e).crossings in
-    table (λ k. point_on R (get_or w.edges k 0) (get_or (crossings_of R iterations) (before + k) nan)) (cond w.kept (length w.edges) 0)
+    table (λ k. point_on R (get_or w.edges k 0) (get_or (crossings_of R iterations) (before + k) nan))
+    (cond w.kept (length w.edges) 0)
 
--- A path from station s to station t with the points that `detour` inserts (`detour` specs Detour), where there are iterations.
+-- A path from station s to station t with the points that `detour` inserts (crate `boxes`, specs Detour), where there
+-- are iterations.
 abbrev pub detoured : Options → Network → Plot → Lists → ℕ → ℕ → List Point → List Point
 detoured o N p L s t path =
     cond
@@ -367,7 +392,7 @@ detoured o N p L s t path =
     (detour (box_list N L) (stations N) (gap_of p.unit) s t path)
     path
 
--- ---- runs (01, 6 and 8)
+-- ---- runs (docs/RULES.md, 'Runs, pieces, roles and bounds')
 
 -- piece j: its branch, where it starts and where it ends; the first n pieces of the two lists
 abbrev pub piece_in : Lists → ℕ → Piece
@@ -388,7 +413,8 @@ joining e (p ∷ (q ∷ ps)) =
     let rest = joining e (q ∷ ps) in
     pick (coincide p q) rest (record { branch = e; start = p; end = q } ∷ rest)
 
--- Pieces lead unbroken from a to b: the first starts at a, each next where the one before ended, and the last ends at b.
+-- Pieces lead unbroken from a to b: the first starts at a, each next where the one before ended, and the last ends at
+-- b.
 unfoldable pub Leads : Point → List Piece → Point → Type 0
 Leads a [] b = T (coincide a b)
 Leads a (p ∷ ps) b = T (coincide a p.start) × Leads p.end ps b
@@ -411,8 +437,10 @@ unfoldable pub OnePoint : List Point → Type 0
 OnePoint [] = Unit {0}
 OnePoint (p ∷ ps) = AllAt p ps
 
--- The points of branch e's run: an open branch runs between the buses' `positions`, an internal one between its row ends; an undrawn one has no point.
--- A line runs from its from bus's row end by that station's exit, its crossings and the other station's exit, with the detour's points, to its to bus's row end.
+-- The points of branch e's run: an open branch runs between the buses' `positions`, an internal one between its row
+-- ends; an undrawn one has no point.
+-- A line runs from its from bus's row end by that station's exit, its crossings and the other station's exit, with the
+-- detour's points, to its to bus's row end.
 unfoldable pub points_by : Options → Network → Plot → Lists → (ℕ → Point) → ℕ → Kind → List Point
 points_by o N p L places e Undrawn = []
 points_by o N p L places e (Open a b) = position_in L a ∷ position_in L b ∷ []
@@ -438,23 +466,29 @@ abbrev pub other_run : Options → Network → Plot → Lists → (ℕ → Point
 other_run o N p L places e = pick (eqb (role_of (kind N e)) 0) [] (run_of o N p L places e)
 
 pub record Runs (o : Options) (N : Network) (L : Lists) (p : Plot) (places : ℕ → Point) : Type 0 where
-  -- The piece list is one run for each open or internal branch by branch number, then one for each line by branch number, and nothing else.
-  pub listed : pieces_in L p.pieces ≡ joined (other_run o N p L places) (length N.from) ++ joined (line_run o N p L places) (length N.from)
+  -- The piece list is one run for each open or internal branch by branch number, then one for each line by branch
+  -- number, and nothing else.
+  pub listed : pieces_in L p.pieces ≡ joined (other_run o N p L places) (length N.from)
+      ++ joined (line_run o N p L places) (length N.from)
   -- The pieces of a run lead from its first point to its last, each from where the one before ended.
   pub unbroken : (e : ℕ) → e < length N.from → Unbroken (run_of o N p L places e) (points_of o N p L places e)
   -- It is absent only if all its points coincide.
   pub absent : (e : ℕ) → e < length N.from → run_of o N p L places e ≡ [] → OnePoint (points_of o N p L places e)
   -- Corner v of the mesh is at the place of the occupied station number v.
-  pub corners : (v : ℕ) → v < length (stations N) → point_at (routed_in o N p L places).centres v ≡ places (get_or (stations N) v 0)
+  pub corners : (v : ℕ) → v < length (stations N)
+      → point_at (routed_in o N p L places).centres v ≡ places (get_or (stations N) v 0)
   -- Every piece is one of a branch between two known, different buses: no other branch has a piece.
-  pub named : (j : ℕ) → j < p.pieces → ((piece_in L j).branch < length N.from) × (a : ℕ) × (b : ℕ) × Joins N (piece_in L j).branch a b
+  pub named : (j : ℕ) → j < p.pieces → ((piece_in L j).branch < length N.from) × (a : ℕ) × (b : ℕ)
+      × Joins N (piece_in L j).branch a b
 
 -- ---- the audit
 
 -- a drawing as it is handed to an audit, with its network: the parts of the lists that layout filled, so many pieces
-unfoldable pub audit_parts : List ℕ → List ℕ → List ℤ → List ℤ → List Float → List Float → List ℕ → List Float → List ℕ → ℕ → Audit.Drawn
+unfoldable pub audit_parts : List ℕ → List ℕ → List ℤ → List ℤ → List Float → List Float → List ℕ → List Float → List ℕ
+    → ℕ → Audit.Drawn
 audit_parts sub kv from to xy boxes roles pieces branches count =
-    Audit.drawn sub kv from to xy (take (4 * station_count sub) boxes) (take (length from) roles) (take (4 * count) pieces) (take count branches)
+    Audit.drawn sub kv from to xy (take (4 * station_count sub) boxes) (take (length from) roles)
+    (take (4 * count) pieces) (take count branches)
 
 unfoldable pub audited : Network → Lists → ℕ → Audit.Drawn
 audited N L count =
@@ -469,6 +503,8 @@ pub record Wall (o : Options) (N : Network) (L : Lists) (p : Plot) : Type 0 wher
   pub boxes : Boxes o N L p
   pub bars : Bars o N L p
   pub runs : Runs o N L p boxes.places
-  -- If every station found a free place, every audit that accepts the drawing, whatever lists are lent to it, counts 0 overlaps.
+  -- If every station found a free place, every audit that accepts the drawing, whatever lists are lent to it, counts 0
+  -- overlaps.
   pub audit : ((i : ℕ) → i < length (order N) → is_free o N L p i (boxes.places (get_or (order N) i 0)) ≡ true)
-      → (A : Audit.Lists) (W : Audit.Work) (f : Figures) → (audit_of (audited N L p.pieces) A W).answer ≡ Ok f → f.overlaps ≡ 0
+      → (A : Audit.Lists) (W : Audit.Work) (f : Figures) → (audit_of (audited N L p.pieces) A W).answer ≡ Ok f
+      → f.overlaps ≡ 0

@@ -6,7 +6,14 @@ use crate::paper::Paper;
 use crate::save::is_standard_output;
 use tansygate::TxLayoutOptions;
 
-#[derive(Debug)]
+/// Which options of the drawing were given: these aren't varied.
+#[derive(Clone, Copy, Debug, Default)]
+pub struct Kept {
+    pub fill: bool,
+    pub iterations: bool,
+}
+
+#[derive(Clone, Debug)]
 pub struct Settings {
     pub command: Command,
     pub network: String,
@@ -27,6 +34,11 @@ pub struct Settings {
     pub title: Option<String>,
     pub strict: bool,
     pub y_up: bool,
+    /// Whether one drawing is made, by these options, and not the best of several.
+    pub as_asked: bool,
+    pub kept: Kept,
+    /// Which of several drawings it is, in words.
+    pub drawn: String,
 }
 
 /// What the command line asks for.
@@ -88,6 +100,9 @@ impl Settings {
             title: None,
             strict: false,
             y_up: false,
+            as_asked: false,
+            kept: Kept::default(),
+            drawn: String::new(),
         }
     }
 
@@ -160,6 +175,7 @@ impl Settings {
             _ if !self.command.has(name) => return self.takes_value(name).map(|()| false),
             "--strict" => self.strict = true,
             "--y-up" => self.y_up = true,
+            "--as-asked" => self.as_asked = true,
             "--allow-empty" => self.allow_empty = true,
             "--anyway" => self.anyway = true,
             _ => return self.takes_value(name).map(|()| false),
@@ -190,7 +206,10 @@ impl Settings {
             "--index-paper" => self.index_paper = Some(paper(name, value)?),
             "--tiles" => self.tiles = Some(paper(name, value)?),
             "--colours" => self.colours = Some(value.to_string()),
-            "--fill" => self.options.fill = fill(name, value)?,
+            "--fill" => {
+                self.options.fill = fill(name, value)?;
+                self.kept.fill = true;
+            }
             "--search" => self.options.search = whole(name, value, 20)? as i32,
             "--tier-radius" => self.options.tier_radius = radius(name, value)?,
             "--tier-counts" => self.options.tier_counts = counts(name, value)?,
@@ -199,7 +218,10 @@ impl Settings {
             "--padding" => self.options.pad = gap(name, value)?,
             "--shortest-bar" => self.options.min_bar = gap(name, value)?,
             "--buffer" => self.options.buffer = gap(name, value)?,
-            _ => self.options.route_iterations = whole(name, value, 100)?,
+            _ => {
+                self.options.route_iterations = whole(name, value, 100)?;
+                self.kept.iterations = true;
+            }
         }
         Ok(())
     }

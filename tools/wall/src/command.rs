@@ -12,7 +12,7 @@ pub enum Command {
 pub const COMMANDS: &str = "expected a command: draw, audit, list, compare or check";
 
 /// Options without and with a value.
-const FLAGS: [&str; 4] = ["--strict", "--y-up", "--allow-empty", "--anyway"];
+const FLAGS: [&str; 5] = ["--strict", "--y-up", "--allow-empty", "--anyway", "--as-asked"];
 const VALUES: [&str; 18] = [
     "-o",
     "--output",
@@ -49,11 +49,12 @@ impl Command {
     /// Whether this command has an option.
     pub fn has(self, option: &str) -> bool {
         match option {
-            "-o" | "--output" | "--title" | "--paper" | "--index-paper" | "--tiles" | "--colours" | "--anyway" => {
+            "-o" | "--output" | "--title" | "--index-paper" | "--tiles" | "--colours" | "--anyway" => {
                 matches!(self, Command::Draw | Command::Compare)
             }
             "--csv" => self == Command::Compare,
-            "--strict" => matches!(self, Command::Draw | Command::Audit),
+            "--strict" => matches!(self, Command::Draw | Command::Audit | Command::Check),
+            "--paper" | "--as-asked" => matches!(self, Command::Draw | Command::Audit | Command::Compare),
             "--allow-empty" => self != Command::List,
             _ => self != Command::Check,
         }

@@ -1,10 +1,10 @@
 //! The commands that read a finished sheet or two networks.
 use crate::args::Settings;
 use crate::check;
+use crate::choice;
 use crate::compare::table::Table;
 use crate::compare::{items, marks, words, Item};
 use crate::decode;
-use crate::drawing;
 use crate::fault::Fault;
 use crate::guard;
 use crate::leaves;
@@ -28,12 +28,14 @@ pub fn check(settings: &Settings) -> Result<ExitCode, Fault> {
     for source in network.sources.iter().filter(|source| !reading.was_drawn_from(&source.name, &source.sha256)) {
         eprintln!("wall: note: the sheet doesn't say that it was drawn from this {}", source.path);
     }
-    if found.is_empty() {
-        save::printed(&check::summary(&reading))?;
-        return Ok(ExitCode::SUCCESS);
+    let mut lines: String = found.wrong.iter().map(|line| format!("{file}: {line}\n")).collect();
+    lines.extend(found.doubts.iter().map(|line| format!("{file}: may be misread: {line}\n")));
+    if found.wrong.is_empty() {
+        lines.push_str(&check::summary(&reading, found.doubts.len()));
     }
-    save::printed(&found.iter().map(|line| format!("{file}: {line}\n")).collect::<String>())?;
-    Ok(ExitCode::from(1))
+    save::printed(&lines)?;
+    let sound = found.wrong.is_empty() && (found.doubts.is_empty() || !settings.strict);
+    Ok(ExitCode::from(u8::from(!sound)))
 }
 
 /// What differs between two networks: printed, and where it is asked for as rows and on a sheet of the new one.
@@ -74,13 +76,14 @@ fn marked(
     items: &[Item],
     settings: &Settings,
 ) -> Result<(sheet::Sheet, Vec<String>), Fault> {
-    let drawing = drawing::audited(new, &settings.options)?;
+    let colours = leaves::colours(settings)?;
+    let choice::Chosen { drawing, settings: chosen } = choice::drawn(new, settings, &colours)?;
     guard::has_places(new, settings)?;
     guard::is_legible(new, &drawing, settings)?;
-    let table = Table::new(items, old, settings.paper);
-    let colours = leaves::colours(settings)?;
-    let (mut sheet, panel) = sheet::drawn_beside(new, &drawing, settings, &colours, &|height| table.width(height));
-    marks::mark(&mut sheet.leaves[0].root, items, &table, &panel)?;
+    // Its width, with squares as long as they can be.
+    let table = Table::new(items, [old, new], settings.paper, &|_| "H12–H12".to_string());
+    let (mut sheet, panel) = sheet::drawn_beside(new, &drawing, &chosen, &colours, &|height| table.width(height));
+    marks::mark(&mut sheet.leaves[0].root, items, [old, new], settings.paper, &panel)?;
     let notes = report::notes(new, &drawing).into_iter().chain(remarks::all(new, &drawing)).collect();
     Ok((sheet, notes))
 }

@@ -1,10 +1,11 @@
 //! A network drawn and audited by the library, or its refusal with the row to blame.
 use crate::fault::Fault;
-use crate::mesh::delaunay;
+use crate::mesh::{delaunay, Weave};
 use crate::network::Network;
 use crate::number::thousands;
 use tansygate::{
-    tx_layout_quality, tx_schematic_layout, Mesh, Refusal, TxLayout, TxLayoutInput, TxLayoutOptions, TxLayoutQuality,
+    tx_layout_quality, tx_schematic_layout, Mesh, MeshBuf, Refusal, TxLayout, TxLayoutInput, TxLayoutOptions,
+    TxLayoutQuality,
 };
 
 /// The most buses and branches of a network.
@@ -28,6 +29,13 @@ impl Drawing {
         drawn
     }
 
+    /// Audits the drawing again, as it is now.
+    pub fn audit(&mut self, network: &Network) -> Result<(), Fault> {
+        let quality = tx_layout_quality(&network.input(), &self.layout);
+        self.quality = quality.map_err(|refusal| explained(network, refusal))?;
+        Ok(())
+    }
+
     /// Whether the audit found overlapping boxes or lines through boxes.
     pub fn flawed(&self) -> bool {
         self.quality.overlapping_pairs > 0 || self.quality.lines_through_boxes > 0
@@ -39,24 +47,60 @@ pub fn laid_out(network: &Network, options: &TxLayoutOptions) -> Result<TxLayout
     layout(&network.input(), options).map_err(|refusal| explained(network, refusal))
 }
 
-pub fn audited(network: &Network, options: &TxLayoutOptions) -> Result<Drawing, Fault> {
+/// The drawing through a mesh of a kind, and its audit.
+pub fn audited(
+    network: &Network,
+    options: &TxLayoutOptions,
+    weave: Weave,
+    threads: &mut Threads,
+) -> Result<Drawing, Fault> {
     let input = network.input();
-    let both = || {
-        let layout = layout(&input, options)?;
+    let mut both = || {
+        let layout = woven(&input, options, weave, threads)?;
         let quality = tx_layout_quality(&input, &layout)?;
         Ok(Drawing { layout, quality })
     };
     both().map_err(|refusal| explained(network, refusal))
 }
 
-fn layout(input: &TxLayoutInput, options: &TxLayoutOptions) -> Result<TxLayout, Refusal> {
-    let straight = TxLayoutOptions { route_iterations: 0, ..options.clone() };
-    let placed = tx_schematic_layout(input, &straight, Mesh::default())?;
-    if options.route_iterations == 0 {
-        return Ok(placed);
+/// A drawing with straight lines and the mesh over its boxes, which other drawings of its box sizes have too.
+#[derive(Default)]
+pub struct Threads(Option<(TxLayoutOptions, TxLayout, MeshBuf)>);
+
+impl Threads {
+    /// The straight drawing and the mesh for these options.
+    fn of(&mut self, input: &TxLayoutInput, options: &TxLayoutOptions) -> Result<(&TxLayout, &MeshBuf), Refusal> {
+        let straight = TxLayoutOptions { route_iterations: 0, ..options.clone() };
+        let kept = self.0.take().filter(|(of, ..)| *of == straight);
+        let kept = match kept {
+            Some(kept) => kept,
+            None => {
+                let placed = tx_schematic_layout(input, &straight, Mesh::default())?;
+                let mesh = delaunay(&placed.mesh_points(input));
+                (straight, placed, mesh)
+            }
+        };
+        let (_, placed, mesh) = self.0.insert(kept);
+        Ok((placed, mesh))
     }
-    let mesh = delaunay(&placed.mesh_points(input));
+}
+
+fn woven(
+    input: &TxLayoutInput,
+    options: &TxLayoutOptions,
+    weave: Weave,
+    threads: &mut Threads,
+) -> Result<TxLayout, Refusal> {
+    let (placed, mesh) = threads.of(input, options)?;
+    if options.route_iterations == 0 {
+        return Ok(placed.clone());
+    }
+    let mesh = weave.of(mesh, &placed.mesh_points(input));
     tx_schematic_layout(input, options, mesh.lend())
+}
+
+fn layout(input: &TxLayoutInput, options: &TxLayoutOptions) -> Result<TxLayout, Refusal> {
+    woven(input, options, Weave::Whole, &mut Threads::default())
 }
 
 fn explained(network: &Network, refusal: Refusal) -> Fault {

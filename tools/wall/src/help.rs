@@ -7,12 +7,13 @@ Draws substation networks for the wall, audits the drawings, and checks and comp
 
 Usage:
   wall draw NETWORK -o FILE [OPTIONS]   draw the sheet, an SVG or PDF file
-  wall audit NETWORK [OPTIONS]          print the figures of the drawing's audit
+  wall audit NETWORK [OPTIONS]          print the figures of the drawing's audit, and how much of
+                                        its sheet may be misread
   wall list NETWORK [OPTIONS]           print the drawing's pieces, one a line, as drawlist does
   wall compare OLD NEW [OPTIONS]        print what differs between two networks; with -o FILE,
                                         draw the new one with what differs marked and listed
   wall check SHEET NETWORK              read a finished sheet back and print where it doesn't
-                                        show the network
+                                        show the network, and where it may be misread
 
 NETWORK is a folder with buses.csv (columns name, substation, kv, x, y) and branches.csv
 (columns name, from, to, in_service; number where the sheet is to call branches by numbers of
@@ -25,7 +26,7 @@ Options of the sheet (draw, compare):
                          other name an SVG file, with pages of the index beside it where
                          the sheet has no room for it (FILE-index.svg, FILE-index-2.svg);
                          - is standard output, an SVG without those pages (draw)
-      --paper SIZE       A0, A1, A2, A3 or A4                                  [A1]
+      --paper SIZE       A0, A1, A2, A3 or A4 (audit too)                      [A1]
       --index-paper SIZE paper of the index's pages [A3, that of the tiles, or the sheet's
                          where that is A4 or A3 would take more than 16 pages]
       --tiles SIZE       cut a PDF sheet up for this paper: pages that overlap by 8 mm, with
@@ -60,19 +61,24 @@ Options of the drawing:
                          more, and a note names such bars                       [2]
       --buffer B         kept free around each box: 0.5 to 8                    [1]
       --y-up             y grows upwards, as northings do; without it, downwards
+      --as-asked         draw by these options alone, each line where the library puts it.
+                         Without it the best of several drawings is taken, measured by what
+                         may be misread: with this fill, 0.85 and 0.7 of it, these rounds and
+                         3, and three meshes, with lines led clear of boxes and each other;
+                         an option that is given isn't varied (draw, audit, compare)
 
 list has drawlist's defaults: --fill 0.5 --iterations 0 --tier-radius 3.
 
 Other options:
-      --strict           exit with 1 where boxes overlap or lines run through boxes
-                         (draw, audit)
+      --strict           exit with 1 where boxes overlap, lines run through boxes or a place
+                         may be misread (draw, audit), or a place may be misread (check)
       --allow-empty      take an export without buses or branches (all but list)
   -h, --help             print this help
   -V, --version          print the version
 
-Exit status: 0 done, or nothing differs or is wrong; 1 done, but with --strict the audit found
-overlapping boxes or lines through boxes, or compare found a difference, or check found the sheet
-wrong; 2 refused, unreadable or not written. draw and compare check a sheet as check does before
+Exit status: 0 done, or nothing differs or is wrong; 1 done, but with --strict something was found
+that it asks for, or compare found a difference, or check found the sheet wrong; 2 refused,
+unreadable or not written. draw and compare check a sheet as check does before
 it takes its place. Where the status is 2, no sheet is written, and one that was there stays as
 it was.
 ";

@@ -3,6 +3,7 @@ mod alike;
 mod args;
 mod check;
 mod checksum;
+mod choice;
 mod colours;
 mod command;
 mod commands;
@@ -17,10 +18,12 @@ mod grid;
 mod guard;
 mod held;
 mod help;
+mod lead;
 mod leaves;
 mod listing;
 mod load;
 mod mesh;
+mod misread;
 mod network;
 mod number;
 mod paper;
@@ -67,7 +70,8 @@ fn obey(settings: &Settings) -> Result<ExitCode, Fault> {
     }
     let network = read(settings)?;
     guard::has_rows(&network, settings)?;
-    let drawing = drawing::audited(&network, &settings.options)?;
+    let colours = leaves::colours(settings)?;
+    let choice::Chosen { drawing, settings: chosen } = choice::drawn(&network, settings, &colours)?;
     let mut notes = report::notes(&network, &drawing);
     notes.extend(remarks::all(&network, &drawing));
     if settings.command == Command::Draw {
@@ -75,16 +79,19 @@ fn obey(settings: &Settings) -> Result<ExitCode, Fault> {
         save::not_input(output, &network)?;
         guard::has_places(&network, settings)?;
         guard::is_legible(&network, &drawing, settings)?;
-        let sheet = sheet::drawn(&network, &drawing, settings, &leaves::colours(settings)?);
+    }
+    let sheet = sheet::drawn(&network, &drawing, &chosen, &colours);
+    if settings.command == Command::Draw {
         let text = leaves::checked(&sheet, &network)?;
         notes.extend(leaves::written(&sheet, text, settings)?);
     } else {
-        save::printed(&report::printed(&network, &drawing))?;
+        save::printed(&report::printed(&network, &drawing, &chosen, &sheet.doubts))?;
     }
     for note in notes {
         eprintln!("wall: {note}");
     }
-    Ok(ExitCode::from(u8::from(settings.strict && drawing.flawed())))
+    let flawed = drawing.flawed() || !sheet.doubts.is_empty();
+    Ok(ExitCode::from(u8::from(settings.strict && flawed)))
 }
 
 fn read(settings: &Settings) -> Result<network::Network, Fault> {

@@ -15,6 +15,67 @@ pub fn delaunay(points: &[[f64; 2]]) -> MeshBuf {
     }
 }
 
+/// Which triangles of a mesh lines are led through.
+#[derive(Clone, Copy, Debug, PartialEq, Eq)]
+pub enum Weave {
+    Whole,
+    /// Without triangles that are thin: a line that crosses one is led far aside.
+    Sound,
+    None,
+}
+
+/// The least height of a triangle that isn't thin, as a part of its longest side.
+const THIN: f64 = 0.25;
+
+impl Weave {
+    pub const ALL: [Weave; 3] = [Weave::Whole, Weave::Sound, Weave::None];
+
+    /// What the title block calls it.
+    pub fn words(self) -> &'static str {
+        match self {
+            Weave::Whole => "whole mesh",
+            Weave::Sound => "mesh without thin triangles",
+            Weave::None => "no mesh",
+        }
+    }
+
+    /// The mesh without the triangles that aren't wanted.
+    pub fn of(self, mesh: &MeshBuf, points: &[[f64; 2]]) -> MeshBuf {
+        match self {
+            Weave::Whole => mesh.clone(),
+            Weave::None => MeshBuf::default(),
+            Weave::Sound => without(mesh, &|corners| is_thin(corners.map(|v| points[v as usize]))),
+        }
+    }
+}
+
+fn is_thin([a, b, c]: [[f64; 2]; 3]) -> bool {
+    let square = |p: [f64; 2], q: [f64; 2]| (p[0] - q[0]) * (p[0] - q[0]) + (p[1] - q[1]) * (p[1] - q[1]);
+    let twice = ((b[0] - a[0]) * (c[1] - a[1]) - (b[1] - a[1]) * (c[0] - a[0])).abs();
+    twice < THIN * square(a, b).max(square(b, c)).max(square(c, a))
+}
+
+/// The mesh without the triangles of which the function says so, by their corners.
+fn without(mesh: &MeshBuf, unwanted: &dyn Fn([u32; 3]) -> bool) -> MeshBuf {
+    let triangles = mesh.triangles.chunks_exact(3).map(|t| !unwanted([t[0], t[1], t[2]]));
+    let mut places = Vec::new();
+    let mut kept = MeshBuf::default();
+    for (i, wanted) in triangles.enumerate() {
+        places.push(wanted.then_some(kept.triangles.len()));
+        if wanted {
+            kept.triangles.extend(&mesh.triangles[3 * i..3 * i + 3]);
+        }
+    }
+    for (i, _) in places.iter().enumerate().filter(|(_, place)| place.is_some()) {
+        let twin = |h: usize| match mesh.halfedges[h] {
+            EMPTY => EMPTY,
+            g => places[g as usize / 3].map_or(EMPTY, |first| (first + g as usize % 3) as u32),
+        };
+        kept.halfedges.extend((3 * i..3 * i + 3).map(twin));
+    }
+    kept
+}
+
 /// The library's test of a mesh over so many points.
 pub fn passes(mesh: &MeshBuf, points: usize) -> bool {
     let (corners, twins) = (&mesh.triangles, &mesh.halfedges);
@@ -220,6 +281,21 @@ mod tests {
     fn clouds_and_grids() {
         for (count, below) in [(3, 1 << 20), (10, 1 << 30), (60, 1 << 40), (300, 1 << 50), (200, 12), (80, 5)] {
             check(&cloud(count, below));
+        }
+    }
+
+    /// What is left passes the test, and has no thin triangle.
+    #[test]
+    fn without_thin_triangles() {
+        for (count, below) in [(60, 1 << 40), (300, 1 << 50), (200, 12)] {
+            let points = cloud(count, below);
+            let mesh = delaunay(&points);
+            let sound = Weave::Sound.of(&mesh, &points);
+            assert!(
+                passes(&sound, count) && sound.triangles.len() < mesh.triangles.len() && !sound.triangles.is_empty()
+            );
+            let thin = |t: &[u32]| is_thin([t[0], t[1], t[2]].map(|v| points[v as usize]));
+            assert!(!sound.triangles.chunks_exact(3).any(thin));
         }
     }
 

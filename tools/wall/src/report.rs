@@ -1,5 +1,7 @@
 //! The audit's figures, as rows of a name and a value.
+use crate::args::Settings;
 use crate::drawing::Drawing;
+use crate::misread::{self, Kind, Place};
 use crate::network::Network;
 use crate::number::{median, short, thousands};
 use tansygate::{TX_ROLE_INTERNAL, TX_ROLE_LINE, TX_ROLE_OPEN};
@@ -60,11 +62,17 @@ pub fn files(network: &Network) -> Vec<(String, String)> {
 }
 
 /// The report that `wall audit` prints.
-pub fn printed(network: &Network, drawing: &Drawing) -> String {
+pub fn printed(network: &Network, drawing: &Drawing, settings: &Settings, doubts: &[Place]) -> String {
     let mut rows = vec![("Network".to_string(), network.name.clone())];
     rows.extend(files(network).into_iter().map(|(name, sum)| (format!("SHA-256 of {name}"), sum)));
     let figures = counts(network, drawing).into_iter().chain(figures(drawing));
     rows.extend(figures.map(|(name, value)| (name.to_string(), value)));
+    let options = &settings.options;
+    let way = format!("fill {}, iterations {}, {}", short(options.fill), options.route_iterations, settings.drawn);
+    rows.push(("Drawn with".to_string(), way));
+    rows.push((format!("May be misread on {}", settings.paper.name()), thousands(doubts.len())));
+    let counts = Kind::ALL.into_iter().zip(misread::counts(doubts));
+    rows.extend(counts.map(|(kind, count)| (kind.figure().to_string(), thousands(count))));
     let width = rows.iter().map(|(name, _)| name.chars().count()).max().unwrap_or(0);
     rows.iter().map(|(name, value)| format!("{name:width$}  {value}\n")).collect()
 }

@@ -13,6 +13,9 @@
     const name = (element) => element.textContent || element.id || element.tagName;
     const number = (element, attribute) => parseFloat(element.getAttribute(attribute) || 0);
 
+    // Substations to whose boxes a line leads from their names.
+    const led = new Set(all('[data-leads]').map((line) => line.dataset.leads));
+
     // The rows of a file of the export by its header's names; none where the network is a text.
     const read = (id) => {
         const rows = [[]], text = document.getElementById(id).textContent.trim().replace(/^\uFEFF/, '');
@@ -88,7 +91,8 @@
             const out = Math.max(box.left - r.left, r.right - box.right, box.top - r.top, r.bottom - box.bottom);
             if (meet(r, box, 0.05) && out > high) wrong.push(`'${name(element)}' overlaps its box's edge by ${out} mm`);
             const apart = Math.max(box.left - r.right, r.left - box.right, box.top - r.bottom, r.top - box.bottom);
-            if (apart > 1.3 * high + 1) wrong.push(`'${name(element)}' is ${apart} mm away from its box`);
+            const most = element.dataset.outside ? 24 : led.has(of) ? 12 : 1.3 * high + 1;
+            if (apart > most) wrong.push(`'${name(element)}' is ${apart} mm away from its box`);
             for (const [station, other] of boxes) {
                 const own = element.dataset.number !== undefined;
                 if (station !== of && meet(r, other, 0.05) && !(own && meet(box, other, -3))) wrong.push(`'${name(element)}' overlaps the box of station ${station}`);
@@ -103,7 +107,26 @@
         [steps[0], steps[steps.length - 1]].forEach((at, end) => ends.push({ branch, end, at }));
     }
     const digits = all('[data-number]');
-    for (const element of digits.filter((element) => element.dataset.end !== undefined)) {
+    const offRun = (at, points) => points.slice(1).reduce((least, q, i) => {
+        const p = points[i], [x, y] = [q[0] - p[0], q[1] - p[1]];
+        const part = Math.min(1, Math.max(0, ((at[0] - p[0]) * x + (at[1] - p[1]) * y) / (x * x + y * y || 1)));
+        return Math.min(least, Math.hypot(p[0] + part * x - at[0], p[1] + part * y - at[1]));
+    }, Infinity);
+    const leaders = new Map(all('[data-leads-to]').map((line) => [line.dataset.leadsTo, line]));
+    for (const element of digits.filter((element) => element.dataset.outside)) {
+        const leader = leaders.get(`${element.dataset.number} ${element.dataset.end}`);
+        if (leader) {
+            const to = leader.getAttribute('d').split('L')[1].split(' ').map(Number);
+            const own = ends.find((end) => end.branch === element.dataset.number && String(end.end) === element.dataset.end).at;
+            if (Math.hypot(to[0] - own[0], to[1] - own[1]) > 0.02) wrong.push(`the line from '${name(element)}' ends elsewhere`);
+            continue;
+        }
+        const r = rect(element), at = [(r.left + r.right) / 2, number(element, 'y') - 0.365 * number(element, 'font-size')];
+        const d = runs.get(element.dataset.number)[0].getAttribute('d');
+        const parts = d.split('M').filter((part) => part).map((part) => part.split('L').map((step) => step.split(' ').map(Number)));
+        if (Math.min(...parts.map((points) => offRun(at, points))) > 0.3) wrong.push(`'${name(element)}' outside its box isn't on its run`);
+    }
+    for (const element of digits.filter((element) => element.dataset.end !== undefined && !element.dataset.outside)) {
         const at = [number(element, 'x'), number(element, 'y') - 0.365 * number(element, 'font-size')];
         const far = (end) => Math.hypot(end.at[0] - at[0], end.at[1] - at[1]);
         const least = ends.reduce((best, end) => Math.min(best, far(end)), Infinity);
@@ -214,6 +237,14 @@
     }
     if (counted.size && !/by row for shaded boxes|rows are too close to be counted/.test(block)) wrong.push('the sheet does not say how to find what has no number');
 
+    // A box without a name, or without numbers, has its sign.
+    const signs = new Set(all('[data-sign]').map((sign) => sign.dataset.sign));
+    for (const box of all('[data-station]')) {
+        const station = box.dataset.station, banded = fiveOf.has(station) || signs.has(`rows ${station}`);
+        if (box.dataset.unnamed && !signs.has(`name ${station}`)) wrong.push(`station ${station} has no name and no sign`);
+        if (box.dataset.counted && !banded) wrong.push(`station ${station} has no band and no sign`);
+    }
+
     // Stretches: steps of a run that lie close to another for five millimetres and more belong to a marked pair.
     const wide = (branch) => (runs.get(branch)[0].hasAttribute('stroke-dasharray') ? 0 : Number(runs.get(branch)[0].getAttribute('stroke-width')));
     const far = (a, b) => Math.max(0.5, (wide(a) + wide(b)) / 2) - 0.05;
@@ -225,7 +256,9 @@
         for (const part of steps) {
             for (let i = 1; i < part.length; i++) {
                 const [p, q] = [part[i - 1], part[i]], long = Math.hypot(q[0] - p[0], q[1] - p[1]), count = Math.max(1, Math.ceil(long / STEP));
-                for (let s = 0; s < count; s++) points.push([p[0] + (q[0] - p[0]) * s / count, p[1] + (q[1] - p[1]) * s / count, long / count]);
+                // A live run that goes on behind a gap begins anew.
+                const anew = i === 1 && !runs.get(branch)[0].hasAttribute('stroke-dasharray');
+                for (let s = 0; s < count; s++) points.push([p[0] + (q[0] - p[0]) * s / count, p[1] + (q[1] - p[1]) * s / count, long / count, anew && s === 0]);
             }
         }
         paths.set(branch, points);
@@ -243,7 +276,8 @@
     const seen = new Set();
     for (const [branch, points] of paths) {
         const lengths = new Map();
-        for (const [x, y, long] of points) {
+        for (const [x, y, long, anew] of points) {
+            if (anew) lengths.clear();
             const here = new Set();
             for (let i = -1; i <= 1; i++) for (let j = -1; j <= 1; j++) {
                 for (const [u, v, other] of near.get(cell(x + i, y + j)) || []) {
@@ -253,7 +287,8 @@
             for (const other of lengths.keys()) if (!here.has(other)) lengths.delete(other);
             for (const other of here) {
                 lengths.set(other, (lengths.get(other) || 0) + long);
-                if (lengths.get(other) >= 5.5) seen.add(`${branch} ${other}`);
+                // A stretch is measured along the first of its runs.
+                if (lengths.get(other) >= 5.5 && Number(branch) < Number(other)) seen.add(`${branch} ${other}`);
             }
         }
     }

@@ -10,7 +10,8 @@ fn a_sheet_as_it_was_drawn() {
     let folder = Folder::new("whole");
     let path = folder.write("sheet.svg", sheet().join("\n").as_bytes());
     let output = wall(&["check", path.to_str().unwrap(), FORTY]);
-    let expected = "ok: 40 boxes, 131 bars, 300 branches, 9 of them open; names left out: 0\n";
+    let expected =
+        "ok: 40 boxes, 131 bars, 300 branches, 9 of them open; names left out: 0; places that may be misread: 0\n";
     assert_eq!((status(&output), text(&output.stdout), text(&output.stderr)), (0, expected.to_string(), String::new()));
     let small = Path::new(HERE).join("tests/networks/small");
     for (network, options) in
@@ -87,6 +88,11 @@ fn gaps_of_open_runs() {
         (status(&output), text(&output.stdout))
     };
     assert_eq!(with_gap(left - 1.2, left + wide + 1.2).0, 0, "{}", with_gap(left, left + wide).1);
+    let closed = format!("M{} {}L{} {}", first.0, first.1, last.0, last.1);
+    folder.write("gap.svg", drawn.replace(run, &run.replace(d, &closed)).as_bytes());
+    let output = wall_in(&folder.0, &["check", "gap.svg", "."]);
+    let said = text(&output.stdout);
+    assert!(status(&output) == 1 && said.contains("has no gap at the box of substation '"), "{said}");
     for (from, to) in [(left - 9.0, left - 5.0), (left - 1.2, left + wide + 5.0), (left + wide + 2.0, left - 2.0)] {
         let (found, said) = with_gap(from, to);
         assert!(found == 1 && said.contains("has a run in 2 stretches, not one"), "{said}");
@@ -214,8 +220,8 @@ fn numbers() {
             let at = lines.iter().position(|line| *line == sheet()[i]).unwrap();
             lines[at] = titled(i, title);
         }
-        let last = lines.len() - 1;
-        lines.insert(last, texts.join("\n"));
+        let group = lines.iter().position(|line| line.contains("<g id=\"numbers\"")).unwrap();
+        lines.insert(group + 1, texts.join("\n"));
         lines
     };
     let right =

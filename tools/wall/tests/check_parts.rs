@@ -172,9 +172,9 @@ fn other_files() {
 /// The reader shares no code with the writer.
 #[test]
 fn nothing_of_the_writer_is_in_the_check() {
-    let folder = Path::new(HERE).join("src/check");
+    let folders = ["src/check", "src/misread"].map(|folder| Path::new(HERE).join(folder));
     let mut files = 0;
-    for entry in fs::read_dir(folder).unwrap() {
+    for entry in folders.iter().flat_map(|folder| fs::read_dir(folder).unwrap()) {
         let source = fs::read_to_string(entry.unwrap().path()).unwrap();
         assert!(!source.contains("sheet::") && !source.contains("drawing::") && !source.contains("tansygate"));
         files += 1;

@@ -66,7 +66,7 @@ fn what_differs_is_printed_and_marked() {
     let checked = wall(&["check", &path("sheet.svg"), &path("")]);
     assert_eq!(status(&checked), 0, "{}", text(&checked.stdout));
     let sheet = fs::read_to_string(path("sheet.svg")).unwrap();
-    for mark in ["1 VOLTAGE", "2 NEW", "3 OPENED", "4 MOVED", "5 RENAMED"] {
+    for mark in ["bus VOLTAGE", "1 NEW", "2 OPENED", "3 MOVED", "4 RENAMED"] {
         assert_eq!(sheet.matches(&format!(">{mark}</text>")).count(), 1, "{mark}");
     }
     let table: Vec<&str> = sheet.split("<g id=\"changes\"").nth(1).unwrap().lines().collect();
@@ -75,7 +75,20 @@ fn what_differs_is_printed_and_marked() {
     for line in SAID {
         assert!(texts.contains(line), "{line} in {texts}");
     }
-    assert!(texts.contains("Removed, not on the drawing branch KES 66 section 1-2: removed"));
+    assert!(texts.contains("Removed, not on the drawing (was 1) branch KES 66 section 1-2: removed"));
+    // Branches by the sheet's numbers, and each by its substations' squares.
+    let square = |station: &str| {
+        let checked = fs::read_to_string(path("sheet-index.svg")).unwrap();
+        let row = checked.lines().position(|line| line.contains(&format!(">{station}</text>"))).unwrap();
+        let cells: Vec<&str> =
+            checked.lines().skip(row).take(8).filter_map(|l| l.strip_suffix("</text>")?.rsplit('>').next()).collect();
+        cells.into_iter().find(|cell| cell.contains('–') && cell.len() < 12).unwrap().to_string()
+    };
+    let squares = square("New tie");
+    assert!(texts.contains(&format!("1 {squares} branch New tie: added")), "{squares} in {texts}");
+    let own = squares.split('–').next().unwrap();
+    assert!(texts.contains(&format!(" {own} bus Kestrel Moor 11/1: voltage")), "{own} in {texts}");
+    assert!(texts.contains(&format!("2 {own} branch KES 66 section 2-3: opened")), "{own} in {texts}");
     let place = |id: &str| sheet.find(&format!("<g id=\"{id}\"")).unwrap();
     assert!(place("boxes") < place("fives") && place("fives") < place("changed") && place("changed") < place("lines"));
 }

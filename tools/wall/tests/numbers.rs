@@ -31,6 +31,11 @@ fn numbered(sheet: &str) {
     let mut seen = HashSet::new();
     for element in with(sheet, "data-number").into_iter().filter(|e| attribute(e, "data-end").is_some()) {
         let (branch, at) = (attribute(element, "data-number").unwrap(), anchor(element));
+        if attribute(element, "data-outside").is_some() {
+            assert!(seen.insert((branch, attribute(element, "data-end").unwrap())), "{element}");
+            on_its_run(sheet, element);
+            continue;
+        }
         let far = |end: [f64; 2]| away(at, end, end);
         // Open branches may share an end.
         let nearest = ends.iter().map(|end| far(end.0)).fold(f64::INFINITY, f64::min);
@@ -46,6 +51,24 @@ fn numbered(sheet: &str) {
         let beside = |e: &&str| attribute(e, "data-number") == Some(branch) && attribute(e, "data-end").is_none();
         assert_eq!(with(sheet, "data-number").into_iter().filter(beside).count(), 1, "{cross}");
     }
+}
+
+/// A number outside its box stands on its own run, nearer to the end that it is of than to the other.
+fn on_its_run(sheet: &str, element: &str) {
+    let branch = attribute(element, "data-number").unwrap();
+    let run = with(sheet, "data-branch").into_iter().find(|e| attribute(e, "data-branch") == Some(branch)).unwrap();
+    let (path, at) = (points(run), anchor(element));
+    let key = format!("{branch} {}", attribute(element, "data-end").unwrap());
+    let leader = with(sheet, "data-leads-to").into_iter().find(|e| attribute(e, "data-leads-to") == Some(&key));
+    if let Some(leader) = leader {
+        let (to, end) = (points(leader)[1], path[if key.ends_with(" 0") { 0 } else { path.len() - 1 }]);
+        assert!(away(to, end, end) < 0.02, "{leader}");
+        return;
+    }
+    let off = path.windows(2).map(|two| away(at, two[0], two[1])).fold(f64::INFINITY, f64::min);
+    let ends = [path[0], path[path.len() - 1]].map(|end| away(at, end, end));
+    let own = attribute(element, "data-end").unwrap().parse::<usize>().unwrap();
+    assert!(off < 0.1 && ends[own] <= ends[1 - own], "{element}");
 }
 
 /// The cells of a table of the index, by the keys of its rows and by column; lines of one cell are joined.
@@ -224,8 +247,11 @@ fn the_index_has_every_branch() {
 fn every_end_is_named() {
     let forty = root().join("examples/forty");
     assert_eq!(named(&forty, &["--paper", "A1"]), 0);
-    for (folder, paper) in [(&forty, "A3"), (&forty, "A4"), (&made(40).0, "A3"), (&made(400).0, "A0")] {
-        assert!(named(folder, &["--paper", paper]) > 100, "{paper}");
+    for (folder, paper, least) in
+        [(&forty, "A3", 40), (&forty, "A4", 100), (&made(40).0, "A3", 10), (&made(400).0, "A0", 100)]
+    {
+        let by_row = named(folder, &["--paper", paper]);
+        assert!(by_row > least, "{paper} {by_row}");
     }
 }
 
@@ -276,6 +302,40 @@ fn a_missing_number_is_found() {
         folder.write("sheet.svg", drawn.replace(element, "").as_bytes());
         assert!(text_of_check(&folder, &forty).contains(expected));
     }
+}
+
+/// A number at a cross stands beside it, not somewhere on its run, or a line leads from it there.
+#[test]
+fn numbers_at_crosses() {
+    let (folder, network) = (Folder::new("crosses"), made(40));
+    let drawn = sheet(&network.0, &["--paper", "A2"]).0;
+    let check = |changed: &str| {
+        assert_ne!(changed, drawn);
+        folder.write("sheet.svg", changed.as_bytes());
+        text_of_check(&folder, &network.0)
+    };
+    let led: Vec<&str> = with(&drawn, "data-leads-to").into_iter().filter(|e| e.contains(" cross\"")).collect();
+    assert!(!led.is_empty());
+    assert!(check(&drawn.replace(led[0], "")).contains("away from its place"));
+    let along = with(&drawn, "data-cross").into_iter().find_map(|cross| {
+        let branch = attribute(cross, "data-cross")?;
+        let own = |e: &&&str| attribute(e, "data-number") == Some(branch) && attribute(e, "data-end").is_none();
+        let numbers = with(&drawn, "data-number");
+        let number = *numbers.iter().find(own)?;
+        let run = with(&drawn, "data-branch").into_iter().find(|e| attribute(e, "data-branch") == Some(branch))?;
+        let (ends, at) = (points(run), points(cross)[0]);
+        let far = |p: &[f64; 2]| (p[0] - at[0]).hypot(p[1] - at[1]);
+        let end = *ends.iter().max_by(|a, b| far(a).total_cmp(&far(b)))?;
+        let [x, y] = [0, 1].map(|axis| at[axis] + (end[axis] - at[axis]) * 0.9);
+        let place = |x: &str, y: &str| format!(" x=\"{x}\" y=\"{y}\"");
+        let old = place(attribute(number, "x")?, attribute(number, "y")?);
+        let new = place(&format!("{x:.2}"), &format!("{y:.2}"));
+        (far(&end) > 40.0).then(|| drawn.replace(number, &number.replace(&old, &new)))
+    });
+    assert!(check(&along.unwrap()).contains("away from its place"));
+    let label = with(&drawn, "data-mark").into_iter().find(|e| content(e).contains(", ")).unwrap();
+    let said = check(&drawn.replace(label, &label.replace(", ", ", 9")));
+    assert!(said.contains("hasn't the numbers of the circuits of its band"), "{said}");
 }
 
 /// Numbers that the export gives are in order in the index.

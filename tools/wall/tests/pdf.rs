@@ -143,3 +143,13 @@ fn texts_do_not_rely_on_a_width() {
     assert!(!sheet.contains("textLength") && !index.iter().any(|page| page.contains("textLength")));
     assert!(with(&sheet, "font-size").iter().all(|e| !content(e).is_empty()));
 }
+
+/// Signs at boxes are filled outlines: they are closed, and nothing else of the path's letters is left in the file.
+#[test]
+fn signs_are_filled() {
+    let network = help::kind("town");
+    let (file, drawn) = (lossy(&pdf(&network.0, &["--paper", "A4"]).0), sheet(&network.0, &["--paper", "A4"]).0);
+    let signs = with(&drawn, "data-sign").len();
+    assert!(signs > 20 && file.matches("l\nh\nf\n").count() >= signs, "{signs}");
+    assert!(!file.contains("Z l\n") && !file.contains("Z\n"));
+}

@@ -180,17 +180,20 @@ fn listed(words: &[&str]) -> HashMap<String, (String, Vec<[f64; 2]>)> {
     runs
 }
 
-/// The sheet shows the library's pieces, moved and scaled as a whole and not otherwise.
+/// As asked, the sheet shows the library's pieces, moved and scaled as a whole and not otherwise; a run that passes under a
+/// box isn't whole.
 #[test]
 fn the_sheet_shows_the_pieces_that_list_gives() {
     let runs = listed(&["list", FORTY[0], "--fill", "0.8", "--iterations", "10", "--tier-radius", "0"]);
-    let sheet = fs::read_to_string(root().join("examples/forty/sheet.svg")).unwrap();
+    let sheet = text(&wall(&["draw", FORTY[0], "-o", "-", "--as-asked"]).stdout);
     let mut pairs = Vec::new();
     for run in sheet.lines().filter(|line| line.contains(" data-branch=")) {
         let (role, given) = &runs[attribute(run, "data-branch").unwrap()];
-        let shown = points(run);
-        assert!(role == "2" || given.len() == shown.len(), "{run}");
-        pairs.extend(given.iter().copied().zip(shown).filter(|_| role != "2"));
+        let shown = svg::parts(run);
+        if role != "2" && shown.len() == 1 {
+            assert_eq!(given.len(), shown[0].len(), "{run}");
+            pairs.extend(given.iter().copied().zip(shown[0].clone()));
+        }
     }
     let (first, last) = pairs.iter().fold((pairs[0], pairs[0]), |(low, high), &pair| {
         (if pair.0[0] < low.0[0] { pair } else { low }, if pair.0[0] > high.0[0] { pair } else { high })
@@ -202,5 +205,5 @@ fn the_sheet_shows_the_pieces_that_list_gives() {
             assert!((expected - shown[axis]).abs() < 0.03, "{given:?} {shown:?}");
         }
     }
-    assert!(pairs.len() > 900);
+    assert!(pairs.len() > 700, "{}", pairs.len());
 }

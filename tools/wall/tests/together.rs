@@ -13,12 +13,12 @@ fn close(sheet: &str, slack: f64) -> BTreeSet<(usize, usize)> {
         None => attribute(e, "stroke-width").unwrap().parse::<f64>().unwrap(),
     };
     let widths: Vec<f64> = with(sheet, "data-branch").into_iter().map(wide).collect();
-    let runs: Vec<(usize, Vec<[f64; 2]>)> = with(sheet, "data-branch")
+    let runs: Vec<(usize, Vec<Vec<[f64; 2]>>)> = with(sheet, "data-branch")
         .into_iter()
         .map(|e| (attribute(e, "data-branch").unwrap().parse().unwrap(), whole(e)))
         .collect();
-    let bounds = |path: &[[f64; 2]]| {
-        let side = |axis: usize, by: fn(f64, f64) -> f64| path.iter().map(|p| p[axis]).reduce(by).unwrap();
+    let bounds = |path: &[Vec<[f64; 2]>]| {
+        let side = |axis: usize, by: fn(f64, f64) -> f64| path.iter().flatten().map(|p| p[axis]).reduce(by).unwrap();
         [side(0, f64::min) - 1.0, side(1, f64::min) - 1.0, side(0, f64::max) + 1.0, side(1, f64::max) + 1.0]
     };
     let boxes: Vec<[f64; 4]> = runs.iter().map(|(_, path)| bounds(path)).collect();
@@ -40,27 +40,30 @@ fn close(sheet: &str, slack: f64) -> BTreeSet<(usize, usize)> {
     found
 }
 
-/// A run from end to end, over its gaps.
-fn whole(element: &str) -> Vec<[f64; 2]> {
+/// What is seen of a live run; an open one from end to end, over its gaps.
+fn whole(element: &str) -> Vec<Vec<[f64; 2]>> {
     let all = points(element);
-    if parts(element).len() > 1 {
-        return vec![all[0], all[all.len() - 1]];
+    if attribute(element, "stroke-dasharray").is_some() {
+        return vec![vec![all[0], all[all.len() - 1]]];
     }
-    all
+    parts(element)
 }
 
-fn longest(path: &[[f64; 2]], other: &[[f64; 2]], far: f64) -> f64 {
+fn longest(path: &[Vec<[f64; 2]>], other: &[Vec<[f64; 2]>], far: f64) -> f64 {
     const STEP: f64 = 0.05;
     let (mut most, mut now) = (0.0_f64, 0.0);
-    for two in path.windows(2) {
-        let long = ((two[1][0] - two[0][0]).powi(2) + (two[1][1] - two[0][1]).powi(2)).sqrt();
-        let steps = (long / STEP).ceil() as usize;
-        for s in 0..steps {
-            let part = (s as f64 + 0.5) / steps as f64;
-            let at = [two[0][0] + part * (two[1][0] - two[0][0]), two[0][1] + part * (two[1][1] - two[0][1])];
-            let near = other.windows(2).any(|two| away(at, two[0], two[1]) <= far);
-            now = if near { now + long / steps as f64 } else { 0.0 };
-            most = most.max(now);
+    for part in path {
+        now = 0.0_f64.min(now);
+        for two in part.windows(2) {
+            let long = ((two[1][0] - two[0][0]).powi(2) + (two[1][1] - two[0][1]).powi(2)).sqrt();
+            let steps = (long / STEP).ceil() as usize;
+            for s in 0..steps {
+                let part = (s as f64 + 0.5) / steps as f64;
+                let at = [two[0][0] + part * (two[1][0] - two[0][0]), two[0][1] + part * (two[1][1] - two[0][1])];
+                let near = other.iter().flat_map(|part| part.windows(2)).any(|two| away(at, two[0], two[1]) <= far);
+                now = if near { now + long / steps as f64 } else { 0.0 };
+                most = most.max(now);
+            }
         }
     }
     most
@@ -82,10 +85,13 @@ fn marked(sheet: &str) -> BTreeSet<(usize, usize)> {
 #[test]
 fn every_stretch_is_marked() {
     let network = made(40);
-    for (folder, paper) in
-        [(root().join("examples/forty"), "A1"), (root().join("examples/forty"), "A3"), (network.0.clone(), "A1")]
-    {
-        let (sheet, pages) = sheet(&folder, &["--paper", paper]);
+    for (folder, options) in [
+        (root().join("examples/forty"), &["--as-asked"][..]),
+        (root().join("examples/forty"), &["--paper", "A3"]),
+        (network.0.clone(), &[]),
+        (network.0.clone(), &["--as-asked"]),
+    ] {
+        let (sheet, pages) = sheet(&folder, options);
         let (sure, marked) = (close(&sheet, 0.3), marked(&sheet));
         assert!(sure.is_subset(&marked), "{:?}", sure.difference(&marked));
         // Three circuits may be one stretch of which two are close for less.
@@ -112,7 +118,7 @@ fn every_stretch_is_marked() {
 /// The two circuits of the example that its maker knows of.
 #[test]
 fn forty_marks_quayside_to_ferry_lane() {
-    let (sheet, _) = sheet(&root().join("examples/forty"), &[]);
+    let (sheet, _) = sheet(&root().join("examples/forty"), &["--as-asked"]);
     let branches = rows(&fs::read_to_string(root().join("examples/forty/branches.csv")).unwrap());
     let both: Vec<usize> = (0..branches.len()).filter(|&i| branches[i]["name"].starts_with("QUA-FER 11 ")).collect();
     assert!(marked(&sheet).contains(&(both[0], both[1])));
@@ -125,7 +131,7 @@ fn forty_marks_quayside_to_ferry_lane() {
 #[test]
 fn both_colours_are_seen() {
     let network = made(40);
-    let (sheet, _) = sheet(&network.0, &[]);
+    let (sheet, _) = sheet(&network.0, &["--as-asked"]);
     let stroke: HashMap<&str, &str> = with(&sheet, "data-branch")
         .into_iter()
         .map(|e| (attribute(e, "data-branch").unwrap(), attribute(e, "stroke").unwrap()))
@@ -170,7 +176,7 @@ fn gaps(sheet: &str) {
     let boxes: Vec<(&str, [f64; 4])> =
         with(sheet, "data-station").into_iter().map(|e| (attribute(e, "data-station").unwrap(), rect(e))).collect();
     for run in with(sheet, "data-branch").into_iter().filter(|e| attribute(e, "stroke-dasharray").is_some()) {
-        let ends = whole(run);
+        let ends = whole(run).concat();
         let inside = |p: [f64; 2], r: &[f64; 4], by: f64| {
             r[0] - by < p[0] && p[0] < r[2] + by && r[1] - by < p[1] && p[1] < r[3] + by
         };

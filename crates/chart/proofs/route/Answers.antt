@@ -5,13 +5,21 @@ use Rattle.chart.proofs.Laying.{below_of}
 use Rattle.chart.proofs.Charts.{charted, charted_ill}
 use Rattle.chart.proofs.route.Goals as goal
 
-pub returns-then-ill_sized : goal.returns-then-ill_sized
-returns-then-ill_sized c = charted_ill _ _ _ _ _ _ _ _ _ _ (below_of _ _ c.requires.k_value.0) c.requires.laid _ _ _ _ c.ill_sized.ensures c.if-ill_sized.true
+pub returns-then-ill_sized-clause-charted : goal.returns-then-ill_sized-clause-charted
+returns-then-ill_sized-clause-charted c =
+    charted_ill _ _ _ _ _ _ _ _ _ _ (below_of _ _ c.requires.counted) c.requires.laid _ _ _ _ c.ill_sized.ensures
+    c.if-ill_sized.true
 
-pub returns-in_err-route_lines : goal.returns-in_err-route_lines
-returns-in_err-route_lines c =
+pub returns-in_err-route_lines-clause-charted : goal.returns-in_err-route_lines-clause-charted
+returns-in_err-route_lines-clause-charted c =
     let p = err_from_is_err_and c.from_residual.result c.from_residual.ensures.1 in
-    rw (p.1, p.2) (charted _ _ _ _ _ _ _ _ _ _ (below_of _ _ c.requires.k_value.0) c.requires.laid _ _ _ _ _ _ c.in_err-route_lines.ensures _ c.ill_sized.ensures c.if-ill_sized.false (omega (arith, c.requires.corners_in_bounds.4, c.route_lines.auto.path)))
+    rw (p.1, p.2)
+    (charted _ _ _ _ _ _ _ _ _ _ (below_of _ _ c.requires.counted) c.requires.laid _ _ _ _ _ _
+    c.in_err-route_lines.ensures _ c.ill_sized.ensures c.if-ill_sized.false
+    (omega (arith, c.requires.mesh_room.4, c.route_lines.auto.path)))
 
-pub returns : goal.returns
-returns c = charted _ _ _ _ _ _ _ _ _ _ (below_of _ _ c.requires.k_value.0) c.requires.laid _ _ _ _ _ _ c.in_ok-route_lines.ensures _ c.ill_sized.ensures c.if-ill_sized.false (omega (arith, c.requires.corners_in_bounds.4, c.route_lines.auto.path))
+pub returns-clause-charted : goal.returns-clause-charted
+returns-clause-charted c =
+    charted _ _ _ _ _ _ _ _ _ _ (below_of _ _ c.requires.counted) c.requires.laid _ _ _ _ _ _
+    c.in_ok-route_lines.ensures _ c.ill_sized.ensures c.if-ill_sized.false
+    (omega (arith, c.requires.mesh_room.4, c.route_lines.auto.path))

@@ -1,7 +1,7 @@
 -- What the loops of `offset_lines::offset_lines` keep.
 use Rattle.std.proofs.Common.{◌≡◌, ◌+◌, ◌*◌, ◌≤◌, length}
 use Rattle.offsets.specs.Stages.OffsetList.{offsets_in}
-use Rattle.fields.specs.Spell.{put_at}
+use Rattle.text.specs.Spell.{put_at}
 use Rattle.offset_lines.specs.Stages.Text.{offset_lines}
 use Rattle.offset_lines.proofs.offset_lines.Given as goal
 

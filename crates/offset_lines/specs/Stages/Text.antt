@@ -1,7 +1,7 @@
--- 02, change 3: the text of a list of offsets, spaced as in `drawlist`. Definitions only.
+-- The text of a list of offsets, spaced as in `drawlist` (docs/RULES.md, 'Text of the table'). Definitions only.
 use Rattle.std.specs.Prelude.{ℕ, List, [], ◌∷◌, ◌++◌}
 use Rattle.offsets.specs.declared.offset.Offset.{Offset}
-use Rattle.fields.specs.Spell.{signed_field}
+use Rattle.text.specs.Spell.{signed_field}
 
 -- the header line, `a b`
 unfoldable pub offset_names : List ℕ

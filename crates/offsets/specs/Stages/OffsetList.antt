@@ -1,6 +1,6 @@
 -- How the lent work lists hold offsets. Definitions only.
 use Rattle.std.specs.Prelude.{ℕ, List, get_or}
-use Rattle.order.specs.Table.{table}
+use Rattle.numbers.specs.Table.{table}
 use Rattle.offsets.specs.declared.offset.Offset.{Offset}
 use Rattle.offsets.specs.Offset.{offset_of}
 

@@ -1,16 +1,16 @@
 -- How the lent work lists hold boxes and what the interiors are drawn in. Definitions only.
 use Rattle.std.specs.Prelude.{ℕ, suc, ◌+◌, ◌*◌, ◌≡◌, List, get_or, set, take, Float}
 use Rattle.std.specs.Float.{nan}
-use Rattle.geometry.specs.declared.Point.{Point}
-use Rattle.geometry.specs.declared.Box.{Box}
-use Rattle.geometry.specs.Plane.{point_at, box_at}
-use Rattle.cells.specs.Stages.Cells.{by_cell, put_in}
-use Rattle.box_order.specs.Stages.Kept.{Kept}
-use Rattle.measures.specs.declared.Measures.{Measures}
-use Rattle.sizes.specs.Stages.Views.{size_in, sizes_in, scales_in}
+use Rattle.plane.specs.declared.geometry.Point.{Point}
+use Rattle.plane.specs.declared.geometry.Box.{Box}
+use Rattle.plane.specs.Plane.{point_at, box_at}
+use Rattle.plane.specs.Stages.Cells.{by_cell, put_in}
+use Rattle.plane.specs.Stages.Kept.{Kept}
+use Rattle.stations.specs.declared.measures.Measures.{Measures}
+use Rattle.stations.specs.Stages.Views.{size_in, sizes_in, scales_in}
 use Rattle.offsets.specs.declared.offset.Offset.{Offset}
-use Rattle.free_places.specs.Search.{Frame, frame_for, frames, box_on, place_for}
-use Rattle.free_places.specs.Stages.Among.{kept_boxes}
+use Rattle.placement.specs.Search.{Frame, frame_for, frames, box_on, place_for}
+use Rattle.placement.specs.Stages.Among.{kept_boxes}
 
 -- a list of boxes after one is stored at i
 abbrev pub put_box : List Float → ℕ → Box → List Float
@@ -23,9 +23,10 @@ frame_in M l s = frame_for M (get_or l (3 * s + 2) nan) (size_in l s)
 abbrev pub frames_in : Measures → ℕ → List Float → List Frame
 frames_in M k l = frames M (scales_in k l) (sizes_in k l)
 
--- Station s was placed behind p others, by the boxes kept of them: its place stands in the list of places, its box in that of boxes, and all else is as it was;
--- and it is kept with them.
-pub record PlacedAs (M : Measures) (blocks : List Float) (os : List Offset) (s p wider : ℕ) (places₀ boxes₀ : List Float) (sorted₀ : List ℕ) (places boxes : List Float) (keys sorted : List ℕ) : Type 0 where
+-- Station s was placed behind p others, by the boxes kept of them: its place stands in the list of places, its box in
+-- that of boxes, and all else is as it was; and it is kept with them.
+pub record PlacedAs (M : Measures) (blocks : List Float) (os : List Offset) (s p wider : ℕ)
+    (places₀ boxes₀ : List Float) (sorted₀ : List ℕ) (places boxes : List Float) (keys sorted : List ℕ) : Type 0 where
   pub at : Point
   pub chosen : at ≡ place_for (point_at places₀ s) (frame_in M blocks s) (kept_boxes boxes₀ (take p sorted₀)) os
   pub placed : places ≡ set (set places₀ (2 * s) at.x) (2 * s + 1) at.y

@@ -1,11 +1,11 @@
 -- What tracing all branches answers and leaves in the lent lists. Definitions only.
 use Rattle.std.specs.Prelude.{ℕ, ◌≡◌, List, ltb, ℤ, length, Float, Result, Ok, Err}
 use Rattle.std.specs.Result.{is_err}
-use Rattle.order.specs.Table.{table, strided}
-use Rattle.crossings.specs.Route.{Scene, routing}
-use Rattle.crossings.specs.Stages.Views.{Grid, grid, Stored}
-use Rattle.routing.specs.declared.lines.Counts.{Counts}
-use Rattle.crossings.specs.Stages.Store.{Filled, SameRows, crossings_to, stock}
+use Rattle.numbers.specs.Table.{table, strided}
+use Rattle.routing.specs.Route.{Scene, routing}
+use Rattle.routing.specs.Stages.Views.{Grid, grid, Stored}
+use Rattle.routing.specs.declared.tracing.lines.Counts.{Counts}
+use Rattle.routing.specs.Stages.Store.{Filled, SameRows, crossings_to, stock}
 
 -- ---- the answer
 
@@ -15,18 +15,23 @@ crossings_in (Ok c) = c.crossings
 crossings_in (Err x) = x
 
 -- What `store_routes` answers: the crossings, whether they outnumber the room for them, and, where not, what it stored.
-pub record Settled (m : ℕ) (corners twins : List ℕ) (points : List Float) (room : ℕ) (ways : List ℕ) (r : Result Counts ℕ) (ends numbers : List ℕ) (places : List Float) : Type 0 where
+pub record Settled (m : ℕ) (corners twins : List ℕ) (points : List Float) (room : ℕ)
+    (ways : List ℕ) (r : Result Counts ℕ) (ends numbers : List ℕ) (places : List Float) : Type 0 where
   pub crossings : crossings_in r ≡ crossings_to corners twins points ways m
   pub full : is_err r ≡ ltb room (crossings_in r)
   pub rows : SameRows m ways ends
-  pub filled : (c : Counts) → r ≡ Ok c → Filled m corners twins points ways m (stock c.channels c.crossings ends numbers places)
+  pub filled : (c : Counts) → r ≡ Ok c
+      → Filled m corners twins points ways m (stock c.channels c.crossings ends numbers places)
 
 -- work lists with this network
 abbrev pub lined : List ℕ → List ℤ → List ℤ → List ℕ → Grid → Grid
 lined sub from to service G = grid sub from to service G.measures G.ends G.blocks G.places G.frames
 
--- What tracing answers, whatever k, the unit and the exits of a scene are: the number of its crossings; refusal 10, where they outnumber the room for them; and, where not, its routing in the lists and the number of its channels. The rows are as before.
-pub record Traced (scene : ℕ → Grid → Scene) (m : ℕ) (corners : List ℕ) (room : ℕ) (before : List ℕ) (r : Result Counts ℕ) (ends numbers : List ℕ) (places : List Float) : Type 0 where
+-- What tracing answers, whatever k, the unit and the exits of a scene are: the number of its crossings; refusal 10,
+-- where they outnumber the room for them; and, where not, its routing in the lists and the number of its channels.
+-- The rows are as before.
+pub record Traced (scene : ℕ → Grid → Scene) (m : ℕ) (corners : List ℕ) (room : ℕ)
+    (before : List ℕ) (r : Result Counts ℕ) (ends numbers : List ℕ) (places : List Float) : Type 0 where
   pub crossings : (k : ℕ) (G : Grid) → crossings_in r ≡ length (routing (scene k G)).crossings
   pub full : is_err r ≡ ltb room (crossings_in r)
   pub rows : SameRows m before ends

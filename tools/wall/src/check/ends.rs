@@ -2,6 +2,7 @@
 use super::parts::{Bar, Boxed, Kind, Wanted};
 use super::plane::{away, Point, Span};
 use super::Check;
+use crate::misread::shapes::{inside, part_of};
 use std::collections::{BTreeMap, HashMap, HashSet};
 
 /// Numbers on the sheet are rounded to a hundredth of a millimetre.
@@ -13,8 +14,20 @@ const BESIDE: f64 = 0.03;
 /// How far a gap at a box may reach beyond it.
 const UNDER: f64 = 1.7;
 
+/// How far inside its edge a box begins.
+const EDGE: f64 = 0.03;
+
+/// How many steps what is seen over a box is looked at in.
+const STEPS: usize = 8;
+
 /// The least side of a cross.
 const CROSS: f64 = 0.5;
+
+/// Whether the rectangle around two points meets another.
+fn meets(span: &Span, a: Point, b: Point) -> bool {
+    let (s, t) = (span.0, Span::of(a, b).0);
+    s[0] <= t[2] && t[0] <= s[2] && s[1] <= t[3] && t[1] <= s[3]
+}
 
 /// The points of runs, by branch.
 pub type Runs = BTreeMap<usize, Vec<Point>>;
@@ -52,9 +65,15 @@ impl Check<'_> {
                 self.say(format!("{} has a run without straight pieces", row.row));
                 continue;
             };
-            if stretches.len() != 1 && (self.live(row.number) || !self.gaps_under_boxes(row.number, stretches, boxes)) {
+            if stretches.len() != 1 && !self.gaps_under_boxes(row.number, stretches, boxes) {
                 self.say(format!("{} has a run in {} stretches, not one", row.row, stretches.len()));
                 continue;
+            }
+            if let Some(station) =
+                (!self.live(row.number)).then(|| self.laid_over(row.number, stretches, boxes)).flatten()
+            {
+                let name = self.network.station_name(station);
+                self.say(format!("{} has no gap at the box of substation '{name}', which it passes under", row.row));
             }
             let points = stretches.concat();
             if self.reading.looks[part.element].dashed == self.live(row.number) {
@@ -72,24 +91,46 @@ impl Check<'_> {
         runs
     }
 
-    /// Whether an open run is straight, and has its gaps only at boxes of other stations, which it passes under.
+    /// Whether a run has its gaps only at boxes which it passes under: an open one, which is straight, at boxes of other
+    /// stations; a live one at these and at its own, but with none of its ends inside these.
     fn gaps_under_boxes(&self, branch: usize, stretches: &[Vec<Point>], boxes: &HashMap<usize, Boxed>) -> bool {
         let all = stretches.concat();
         let (Some(buses), Some((&p, &q))) = (self.two_buses(branch), all.first().zip(all.last())) else { return false };
-        let own = buses.map(|bus| self.network.buses[bus].station as usize);
+        let (live, own) = (self.live(branch), buses.map(|bus| self.network.buses[bus].station as usize));
         let along = |r: &Point| (r[0] - p[0]) * (q[0] - p[0]) + (r[1] - p[1]) * (q[1] - p[1]);
-        let straight = all.iter().all(|&r| away(r, p, q) < 2.0 * ROUNDING);
-        let onwards = all.windows(2).all(|two| along(&two[0]) <= along(&two[1]));
-        let near = |r: Point| {
-            let spot = Span([r[0], r[1], r[0], r[1]]);
-            boxes.iter().any(|(s, boxed)| !own.contains(s) && boxed.span.grown(UNDER).holds(&spot))
-        };
+        let straight = live || all.iter().all(|&r| away(r, p, q) < 2.0 * ROUNDING);
+        let onwards = live || all.windows(2).all(|two| along(&two[0]) <= along(&two[1]));
+        let spot = |r: Point| Span::of(r, r);
         let under = |a: Point, b: Point| {
+            let other = boxes.iter().filter(|(s, _)| live || !own.contains(s));
+            let wide: Vec<&Boxed> =
+                other.map(|(_, boxed)| boxed).filter(|boxed| meets(&boxed.span.grown(UNDER), a, b)).collect();
+            let near = |r: Point| wide.iter().any(|boxed| boxed.span.grown(UNDER).holds(&spot(r)));
+            let within =
+                |r: Point| own.iter().filter_map(|s| boxes.get(s)).any(|boxed| boxed.span.grown(-EDGE).holds(&spot(r)));
             let steps = (b[0] - a[0]).hypot(b[1] - a[1]).ceil().clamp(2.0, 1e4) as usize;
             let part = |i: usize| i as f64 / steps as f64;
-            (0..=steps).all(|i| near([a[0] + (b[0] - a[0]) * part(i), a[1] + (b[1] - a[1]) * part(i)]))
+            let at = |i: usize| [a[0] + (b[0] - a[0]) * part(i), a[1] + (b[1] - a[1]) * part(i)];
+            (0..=steps).all(|i| near(at(i))) && !(live && (within(a) || within(b)))
         };
         straight && onwards && stretches.windows(2).all(|two| under(two[0][two[0].len() - 1], two[1][0]))
+    }
+
+    /// The first substation, by its number, over whose box an open run is seen, outside the boxes of its own.
+    fn laid_over(&self, branch: usize, stretches: &[Vec<Point>], boxes: &HashMap<usize, Boxed>) -> Option<usize> {
+        let stations = self.two_buses(branch)?.map(|bus| self.network.buses[bus].station as usize);
+        let own: Vec<Span> = stations.iter().filter_map(|s| boxes.get(s)).map(|b| b.span.grown(EDGE)).collect();
+        let over = |boxed: &Boxed, two: &[Point]| {
+            let piece = [two[0], two[1]];
+            let Some([from, to]) = inside(&boxed.span.grown(-EDGE), piece) else { return false };
+            (0..=STEPS).any(|i| {
+                let at = part_of(piece, from + (to - from) * i as f64 / STEPS as f64);
+                !own.iter().any(|own| own.holds(&Span::of(at, at)))
+            })
+        };
+        let pieces = || stretches.iter().flat_map(|one| one.windows(2));
+        let seen = |(s, boxed): &(&usize, &Boxed)| !stations.contains(s) && pieces().any(|two| over(boxed, two));
+        boxes.iter().filter(seen).map(|(&s, _)| s).min()
     }
 
     /// Says where a run doesn't begin at the bar of its first bus or end at that of its second.

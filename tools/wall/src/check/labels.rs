@@ -4,7 +4,10 @@ use super::parts::{Bar, Boxed};
 use super::plane::Span;
 use super::reading::Label;
 use super::Check;
-use std::collections::{BTreeMap, HashMap};
+use std::collections::{BTreeMap, HashMap, HashSet};
+
+/// How far from its box a name may stand where a line leads there.
+const LED: f64 = 10.0;
 
 impl Check<'_> {
     fn unnamed(&self, element: usize) -> bool {
@@ -41,6 +44,7 @@ impl Check<'_> {
         for number in labels.keys().filter(|number| !boxes.contains_key(number)) {
             self.say(format!("there is a name of substation number {number}, which has no box"));
         }
+        let led = self.led_names(boxes);
         let mut numbers: Vec<&usize> = boxes.keys().collect();
         numbers.sort();
         for &number in numbers {
@@ -55,11 +59,27 @@ impl Check<'_> {
             if !shortens(&words(&text), &words(&name)) {
                 self.say(format!("{row} is named '{text}'"));
             }
-            let room = |line: &Label| boxes[&number].span.grown(2.0 * tall(line) + 1.0);
+            let far = if led.contains(&number) { LED } else { 1.0 };
+            let room = |line: &Label| boxes[&number].span.grown(2.0 * tall(line) + far);
             if lines.iter().any(|line| line.span.is_none_or(|span| !meet(&room(line), &span))) {
                 self.say(format!("{row} has its name away from its box"));
             }
         }
+    }
+
+    /// The substations to whose boxes a line leads from their names; says where one ends elsewhere.
+    fn led_names(&mut self, boxes: &HashMap<usize, Boxed>) -> HashSet<usize> {
+        let mut led = HashSet::new();
+        for (station, points) in self.leaders() {
+            let ends = |boxed: &Boxed| points.last().is_some_and(|&p| boxed.span.grown(0.02).holds(&Span::of(p, p)));
+            if points.len() == 2 && boxes.get(&station).is_some_and(ends) {
+                led.insert(station);
+            } else {
+                let name = self.network.station_name(station);
+                self.say(format!("the line from the name of substation '{name}' doesn't end at its box"));
+            }
+        }
+        led
     }
 
     pub fn bus_labels(&mut self, boxes: &HashMap<usize, Boxed>, bars: &HashMap<usize, Bar>) {

@@ -1,9 +1,12 @@
 //! Whether a finished sheet shows its network: it is read back as a file, with code that shares nothing with the writer.
+mod doubts;
 mod ends;
+mod foreign;
 mod labels;
 mod look;
 mod names;
 mod numbers;
+mod outside;
 mod page;
 mod parts;
 mod plane;
@@ -11,7 +14,8 @@ pub mod reading;
 mod rows;
 mod xml;
 
-pub use plane::{Point, Span};
+pub use doubts::tally;
+pub use plane::{away, Point, Span};
 
 use crate::fault::Fault;
 use crate::network::Network;
@@ -32,8 +36,13 @@ impl Check<'_> {
     }
 }
 
-/// All that is wrong with a sheet, in words; nothing where it shows the network.
-pub fn findings(reading: &Reading<'_>, network: &Network) -> Vec<String> {
+/// What is wrong with a sheet, in words, nothing where it shows the network; and what on it may be misread.
+pub struct Findings {
+    pub wrong: Vec<String>,
+    pub doubts: Vec<String>,
+}
+
+pub fn findings(reading: &Reading<'_>, network: &Network) -> Findings {
     let mut check = Check { reading, network, found: Vec::new() };
     check.page();
     let boxes = check.boxes();
@@ -46,7 +55,9 @@ pub fn findings(reading: &Reading<'_>, network: &Network) -> Vec<String> {
     check.numbers(&boxes, &runs);
     check.station_labels(&boxes);
     check.bus_labels(&boxes, &bars);
-    check.found
+    check.foreign();
+    let doubts = check.doubts();
+    Findings { wrong: check.found, doubts }
 }
 
 /// How many findings a message has.
@@ -63,7 +74,7 @@ pub fn listed(findings: &[String]) -> String {
 
 /// A fault where a sheet that was just drawn doesn't show its network.
 pub fn passed(text: &str, network: &Network) -> Result<(), Fault> {
-    let found = findings(&reading::read(text, "the sheet")?, network);
+    let found = findings(&reading::read(text, "the sheet")?, network).wrong;
     if found.is_empty() {
         return Ok(());
     }
@@ -72,17 +83,18 @@ pub fn passed(text: &str, network: &Network) -> Result<(), Fault> {
 }
 
 /// What a sheet that shows its network has on it.
-pub fn summary(reading: &Reading<'_>) -> String {
+pub fn summary(reading: &Reading<'_>, doubts: usize) -> String {
     let named = |list: &[reading::Part]| {
         list.iter().filter(|part| reading.elements[part.element].attribute("data-unnamed").is_none()).count()
     };
     let unnamed = reading.boxes.len() + reading.bars.len() - named(&reading.boxes) - named(&reading.bars);
     format!(
-        "ok: {} boxes, {} bars, {} branches, {} of them open; names left out: {}\n",
+        "ok: {} boxes, {} bars, {} branches, {} of them open; names left out: {}; places that may be misread: {}\n",
         thousands(reading.boxes.len()),
         thousands(reading.bars.len()),
         thousands(reading.runs.len()),
         thousands(reading.crosses.len()),
-        thousands(unnamed)
+        thousands(unnamed),
+        thousands(doubts)
     )
 }

@@ -63,7 +63,7 @@ fn stands_for(label: &str, name: &str) -> bool {
 /// shortened, or its row's number.
 pub fn labels(label: &str, name: &str, station: &str, number: usize) -> bool {
     let (label, name, station) = (words(label), words(name), words(station));
-    let bare = name.strip_suffix(&station).and_then(|rest| rest.strip_suffix(' ')).filter(|rest| !rest.is_empty());
+    let bare = bared(&name, &station);
     let stands = |name: &str| {
         let mut starts = std::iter::once(0).chain(name.match_indices(' ').map(|(at, _)| at + 1));
         starts.any(|at| stands_for(&label, &name[at..]))
@@ -71,16 +71,26 @@ pub fn labels(label: &str, name: &str, station: &str, number: usize) -> bool {
     !label.is_empty() && (label == format!("#{}", number + 1) || stands(&name) || bare.is_some_and(stands))
 }
 
+/// A name without its substation's before or behind it. Words end at a blank, a stroke or a dash, whichever.
+fn bared<'a>(name: &'a str, station: &str) -> Option<&'a str> {
+    let cut = |c: char| matches!(c, ' ' | '/' | '-' | '_');
+    let plain = |text: &str| text.split(cut).filter(|word| !word.is_empty()).map(str::to_string).collect::<Vec<_>>();
+    let (own, count) = (plain(station), plain(name).len());
+    if own.is_empty() || count <= own.len() {
+        return None;
+    }
+    let places: Vec<usize> = name.match_indices(cut).map(|(at, _)| at).collect();
+    let before = places.iter().find(|&&at| plain(&name[..at]) == own && !name[at + 1..].starts_with(cut));
+    let behind = || places.iter().rev().find(|&&at| plain(&name[at..]) == own && !name[..at].ends_with(cut));
+    before.map(|&at| &name[at + 1..]).or_else(|| behind().map(|&at| &name[..at]))
+}
+
 /// The names of a box's buses without its own name before or behind all of them, and without the words that all then
 /// begin with: what tells them apart.
 pub fn apart(names: &[&str], station: &str) -> Vec<String> {
     let station = words(station);
     let whole: Vec<String> = names.iter().map(|name| words(name)).collect();
-    let bare = |name: &String| {
-        let before = name.strip_prefix(&station).and_then(|rest| rest.strip_prefix(' '));
-        let behind = || name.strip_suffix(&station).and_then(|rest| rest.strip_suffix(' '));
-        before.or_else(behind).filter(|rest| !rest.is_empty()).map(str::to_string)
-    };
+    let bare = |name: &String| bared(name, &station).map(str::to_string);
     let bared: Option<Vec<String>> = whole.iter().map(bare).collect();
     let differ = |list: &Vec<String>| list.iter().collect::<HashSet<_>>().len() == list.len();
     let mut list = bared.filter(differ).unwrap_or(whole);
@@ -122,10 +132,10 @@ mod tests {
         for label in ["Busbar-A Long Acre", "Busbar-A", "…-A", "Bu…A", "…A…"] {
             assert!(labels(label, "Busbar-A Long Acre", "Long Acre", 0), "{label}");
         }
-        assert!(
-            !labels("Busbar-A", "Busbar-A Long Acre", "Acre", 0) && !labels("Busbar", "Busbar-A Acre", "A Acre", 0)
-        );
+        assert!(!labels("Busbar-A", "Busbar-A Long Acre", "Acre", 0) && labels("Busbar", "Busbar-A Acre", "A Acre", 0));
         assert!(shortens("Long…re", "Long Acre") && !shortens("Acre", "Long Acre") && !shortens("", ""));
+        assert!(labels("11", "RMU/076/11", "RMU 076", 0) && labels("66/1", "66/1-RMU_076", "RMU 076", 0));
+        assert!(!labels("11", "RMU/076/11", "RMU 77", 0) && !labels("1", "RMU/076/66/1", "RMU 076", 0));
         let label = |text: &str, name: &str| labels(text, name, "S", 0);
         assert!(label("a…b", "a…b") && label("a……b", "a…cd…b") && label("B\u{200B}1", "B\u{200B}1"));
         assert!(!label("a…c", "a…b") && !label("B1", "B\u{200B}1"));

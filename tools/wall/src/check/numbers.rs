@@ -2,17 +2,28 @@
 //! isn't there, its box is marked and banded, so that its rows can be counted.
 use super::ends::Runs;
 use super::names::words;
+use super::outside::Around;
 use super::parts::Boxed;
-use super::plane::{away, Point, Span};
+use super::plane::{Point, Span};
+use super::reading::Part;
 use super::Check;
 use std::collections::{BTreeMap, HashMap, HashSet};
 
 /// How far from its end a number may begin, beside the size of its text.
 const BESIDE: f64 = 3.0;
 
+/// The same for a number at a cross, beside half the size of its text; and where a line leads from it to the cross.
+const CLOSE: f64 = 0.3;
+const LED: f64 = 13.0;
+
+/// How many circuits the label of a band names.
+const NAMED: usize = 4;
+
 impl Check<'_> {
     pub fn numbers(&mut self, boxes: &HashMap<usize, Boxed>, runs: &Runs) {
-        let given = self.given();
+        let (given, around) = (self.given(), Around::new(self.reading, boxes));
+        let cross = |part: &Part| Some((part.number?, Span::around(&part.stretches.as_ref()?.concat())?));
+        let crosses: HashMap<usize, Span> = self.reading.crosses.iter().filter_map(cross).collect();
         let mut seen = HashSet::new();
         for i in 0..self.reading.elements.len() {
             let element = &self.reading.elements[i];
@@ -30,10 +41,19 @@ impl Check<'_> {
             if !seen.insert((branch, end)) {
                 self.say(format!("{row} has a second number at one place"));
             }
-            if !self.at_its_place(i, end, &runs[&branch]) {
+            let there = match (element.attribute("data-outside"), end) {
+                (Some(_), Some(end)) => {
+                    around.led_to(i, branch, end, &runs[&branch]) || self.on_its_run(i, branch, end, boxes, &around)
+                }
+                (_, None) => crosses.get(&branch).is_some_and(|cross| self.at_cross(i, branch, cross, &around)),
+                _ => self.at_its_place(i, end, &runs[&branch]),
+            };
+            if !there {
                 self.say(format!("{row} has its number '{}' away from its place", element.text));
             }
         }
+        self.at_gaps(&given, &around);
+        self.stretch_labels(&given);
         let counted = self.counted(boxes, runs);
         self.missing(runs, &seen, &counted);
     }
@@ -89,6 +109,30 @@ impl Check<'_> {
         counted
     }
 
+    /// Says where the label of circuits that run as one stroke doesn't have just the numbers of its band's branches: all,
+    /// or the first four.
+    fn stretch_labels(&mut self, given: &HashMap<usize, String>) {
+        let mut labels: BTreeMap<&str, Vec<&str>> = BTreeMap::new();
+        let mut bands: HashMap<&str, Vec<&str>> = HashMap::new();
+        for element in &self.reading.elements {
+            if let Some(mark) = element.attribute("data-mark").filter(|_| element.name == "text") {
+                labels.entry(mark).or_default().push(&element.text);
+            }
+            if let Some((stretch, list)) = element.attribute("data-stretch").zip(element.attribute("data-branches")) {
+                let number = |branch: &str| given.get(&branch.parse().ok()?).map(String::as_str);
+                bands.insert(stretch, list.split(' ').filter_map(number).collect());
+            }
+        }
+        let wrong = labels.into_iter().map(|(mark, lines)| (mark, lines.join(" "))).filter(|(mark, text)| {
+            let own = bands.get(mark).map_or(&[][..], Vec::as_slice);
+            !says(text, own)
+        });
+        let wrong: Vec<String> = wrong.map(|(_, text)| text).collect();
+        for text in wrong {
+            self.say(format!("the label '{text}' hasn't the numbers of the circuits of its band"));
+        }
+    }
+
     /// The word before the name in each run's title, by branch; says where two have the same.
     fn given(&mut self) -> HashMap<usize, String> {
         let mut list = HashMap::new();
@@ -108,7 +152,16 @@ impl Check<'_> {
         list
     }
 
-    /// Whether a number stands level with its end and beside it; one without an end, near the run.
+    /// Whether a number stands beside its cross, or near it with a line that leads there.
+    fn at_cross(&self, i: usize, branch: usize, cross: &Span, around: &Around<'_>) -> bool {
+        let Some(span) = self.reading.covered(i) else { return false };
+        let ([left, top, right, bottom], [x, y]) = (span.0, cross.middle());
+        let off = (left - x).max(x - right).max(top - y).max(y - bottom);
+        let (arm, tall) = ((cross.0[2] - cross.0[0]) / 2.0, bottom - top);
+        off <= arm + CLOSE + 0.5 * tall || off <= arm + LED && around.led_to_cross(&span, branch, [x, y])
+    }
+
+    /// Whether a number stands level with its end and beside it.
     fn at_its_place(&self, i: usize, end: Option<&str>, run: &[Point]) -> bool {
         let Some(Span([left, top, right, bottom])) = self.reading.points(i).and_then(|points| Span::around(&points))
         else {
@@ -118,15 +171,18 @@ impl Check<'_> {
         let p = match end {
             Some("0") => run[0],
             Some("1") => run[run.len() - 1],
-            Some(_) => return false,
-            None => {
-                let off = run.windows(2).map(|two| away(middle, two[0], two[1])).fold(f64::INFINITY, f64::min);
-                return off <= (right - left) / 2.0 + 2.0 * tall + BESIDE;
-            }
+            _ => return false,
         };
         let across = (left - p[0]).max(p[0] - right);
         (middle[1] - p[1]).abs() <= 0.6 * tall && across <= tall + BESIDE
     }
+}
+
+/// Whether a label says how many circuits these are, and which: all, or the first four.
+fn says(text: &str, numbers: &[&str]) -> bool {
+    let shown = numbers[..numbers.len().min(NAMED)].join(", ");
+    let more = if numbers.len() > NAMED { ", …" } else { "" };
+    text == format!("{} circuits {shown}{more}", numbers.len())
 }
 
 /// Whether bands are as wide as a box, one for every other five of its rows, and have just these in them.

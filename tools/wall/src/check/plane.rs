@@ -3,7 +3,7 @@
 pub type Point = [f64; 2];
 
 /// Left, top, right, bottom.
-#[derive(Clone, Copy, Debug, PartialEq)]
+#[derive(Clone, Copy, Debug, Default, PartialEq)]
 pub struct Span(pub [f64; 4]);
 
 impl Span {
@@ -14,9 +14,27 @@ impl Span {
         Some(Span(points.iter().fold([first[0], first[1], first[0], first[1]], grow)))
     }
 
+    /// The smallest one around two points.
+    pub fn of(p: Point, q: Point) -> Span {
+        Span([p[0].min(q[0]), p[1].min(q[1]), p[0].max(q[0]), p[1].max(q[1])])
+    }
+
+    /// The smallest one around two.
+    pub fn and(&self, other: &Span) -> Span {
+        let (a, b) = (self.0, other.0);
+        Span([a[0].min(b[0]), a[1].min(b[1]), a[2].max(b[2]), a[3].max(b[3])])
+    }
+
     pub fn grown(&self, by: f64) -> Span {
         let s = self.0;
         Span([s[0] - by, s[1] - by, s[2] + by, s[3] + by])
+    }
+
+    /// With a part of its sides, about its middle.
+    pub fn narrowed(&self, part: f64) -> Span {
+        let ([x, y], s) = (self.middle(), self.0);
+        let (wide, high) = (part * (s[2] - s[0]) / 2.0, part * (s[3] - s[1]) / 2.0);
+        Span([x - wide, y - high, x + wide, y + high])
     }
 
     pub fn holds(&self, other: &Span) -> bool {
@@ -169,7 +187,8 @@ pub fn away(p: Point, a: Point, b: Point) -> f64 {
     let (dx, dy) = (b[0] - a[0], b[1] - a[1]);
     let square = dx * dx + dy * dy;
     let part = if square > 0.0 { (((p[0] - a[0]) * dx + (p[1] - a[1]) * dy) / square).clamp(0.0, 1.0) } else { 0.0 };
-    (a[0] + part * dx - p[0]).hypot(a[1] + part * dy - p[1])
+    let (x, y) = (a[0] + part * dx - p[0], a[1] + part * dy - p[1]);
+    (x * x + y * y).sqrt()
 }
 
 #[cfg(test)]

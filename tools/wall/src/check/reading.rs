@@ -3,6 +3,7 @@ use super::look::Look;
 use super::plane::{number, stretches, Map, Point, Span};
 use super::xml::{elements, Element};
 use crate::fault::{Fault, Place};
+use crate::misread::shapes::lettering;
 use std::collections::HashMap;
 use std::rc::Rc;
 
@@ -75,21 +76,8 @@ pub struct Reading<'a> {
     pub dots: Vec<Point>,
     /// Bands of rows: the station that each is of, and where it is.
     pub fives: Vec<(usize, Span)>,
-}
-
-/// How far text reaches above and below its baseline, in sizes: capitals and descenders.
-const RISE: f64 = 0.75;
-const DROP: f64 = 0.22;
-
-/// About how wide a character is in the fonts that viewers have, in sizes.
-fn character(c: char) -> f64 {
-    match c {
-        'i' | 'j' | 'l' | 't' | 'f' | 'I' | ' ' | '.' | ',' | ':' | ';' | '\'' | '|' | '!' | '/' => 0.28,
-        'm' | 'w' | 'M' | 'W' | '@' | '%' => 0.9,
-        'A'..='Z' => 0.7,
-        _ if c.is_ascii() => 0.556,
-        _ => 0.7,
-    }
+    /// Letters and numbers of the grid of squares, each with the middle of its squares.
+    squares: Vec<(String, f64)>,
 }
 
 pub fn read<'a>(text: &'a str, file: &'a str) -> Result<Reading<'a>, Fault> {
@@ -121,6 +109,7 @@ pub fn read<'a>(text: &'a str, file: &'a str) -> Result<Reading<'a>, Fault> {
         station_labels: Vec::new(),
         dots: Vec::new(),
         fives: Vec::new(),
+        squares: Vec::new(),
     };
     reading.sort_out();
     Ok(reading)
@@ -164,6 +153,8 @@ impl Reading<'_> {
                 let label = self.label(i, data);
                 let list = if data == "data-of" { &mut self.station_labels } else { &mut self.bus_labels };
                 list.extend(label);
+                let middle = element.attribute("data-grid").and_then(number);
+                self.squares.extend(middle.map(|middle| (element.text.to_string(), middle)));
             } else if kind("station-", "data-station") {
                 self.boxes.push(part("data-station"));
             } else if kind("bus-", "data-bus") {
@@ -180,6 +171,18 @@ impl Reading<'_> {
                 self.dots.extend(middle.map(|span| span.middle()));
             }
         }
+    }
+
+    /// The square of a point, by the letters and numbers round the sheet.
+    pub fn square(&self, p: Point) -> Option<String> {
+        let [_, _, wide, high] = self.page.0;
+        let nearest = |letters: bool| {
+            let axis = usize::from(letters == (wide >= high));
+            let list = self.squares.iter().filter(|(text, _)| text.chars().all(|c| c.is_ascii_alphabetic()) == letters);
+            let far = |middle: f64| (middle - p[axis]).abs();
+            list.min_by(|a, b| far(a.1).total_cmp(&far(b.1))).map(|(text, _)| text)
+        };
+        Some(format!("{}{}", nearest(true)?, nearest(false)?))
     }
 
     /// Whether the sheet says that it was drawn from a file of this name with this SHA-256.
@@ -240,20 +243,23 @@ impl Reading<'_> {
         Some(self.geometry(i)?.concat())
     }
 
+    /// What a line of text covers on the page, about.
+    pub fn covered(&self, i: usize) -> Option<Span> {
+        Span::around(&self.points(i)?)
+    }
+
+    /// The middle of a circle on the page, and its radius.
+    pub fn circle(&self, i: usize) -> Option<(Point, f64)> {
+        let [x, y, radius] = self.numbers(i, ["cx", "cy", "r"])?;
+        let map = &self.looks[i].map;
+        Some((map.at([x, y]), radius * map.scale()))
+    }
+
     /// What a line of text covers, in its own numbers.
     fn lettering(&self, i: usize) -> Option<Span> {
         let element = &self.elements[i];
         let [x, y] = self.numbers(i, ["x", "y"])?;
         let size = self.looks[i].size?;
-        let wide = match element.attribute("textLength") {
-            Some(length) => number(length)?,
-            None => size * element.text.chars().map(character).sum::<f64>(),
-        };
-        let left = match &*self.looks[i].anchor {
-            "middle" => x - wide / 2.0,
-            "end" => x - wide,
-            _ => x,
-        };
-        Some(Span([left, y - RISE * size, left + wide, y + DROP * size]))
+        Some(lettering(&element.text, [x, y], size, &self.looks[i].anchor))
     }
 }

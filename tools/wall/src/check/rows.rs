@@ -1,4 +1,4 @@
-//! Columns and rows of a box, as the scope has them: a bar in each column, one live branch in each row.
+//! Columns and rows of a box, as docs/RULES.md, 'Columns' and 'Rows', has them: a bar in each column, one live branch in each row.
 use super::ends::Runs;
 use super::parts::{Bar, Boxed};
 use super::Check;

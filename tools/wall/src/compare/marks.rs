@@ -4,8 +4,10 @@ use super::places::Places;
 use super::table::Table;
 use super::{Item, Kind};
 use crate::check::reading::{read, Part, Reading};
-use crate::check::Point;
+use crate::check::{Point, Span};
 use crate::fault::Fault;
+use crate::network::Network;
+use crate::paper::Paper;
 use crate::sheet::lettering::width;
 use crate::sheet::shape::Rect;
 use crate::sheet::svg::{file, Node};
@@ -20,19 +22,30 @@ const PALE: &str = "#fff6c2";
 const BROAD: f64 = 1.1;
 
 /// Puts changes on a sheet: broad lines under the runs, marks over the drawing, the table in the panel.
-pub fn mark(sheet: &mut Node, items: &[Item], table: &Table, panel: &Rect) -> Result<(), Fault> {
+pub fn mark(
+    sheet: &mut Node,
+    items: &[Item],
+    networks: [&Network; 2],
+    paper: Paper,
+    panel: &Rect,
+) -> Result<(), Fault> {
     let text = file(sheet);
     let reading = read(&text, "the sheet")?;
+    let table = &Table::new(items, networks, paper, &|item| squares(&reading, item, networks[1]));
     let mut places = Places::new(&reading, panel);
     let (mut below, mut above) = (Ink::group("changed"), Ink::group("changes"));
     let parts = [Kind::Substation, Kind::Bus, Kind::Branch].map(|kind| by_number(&reading, kind));
     let mut marks = Vec::new();
-    for (i, item) in items.iter().filter(|item| !item.is_removed()).enumerate() {
+    for item in items.iter().filter(|item| !item.is_removed()) {
         let Some(part) = item.new.and_then(|n| parts[item.kind as usize].get(&n)) else { continue };
         let Some(way) = way(part, item.kind) else { continue };
         below.line(&way, BRIGHT, broad(&reading, part, item.kind));
         let words: Vec<&str> = item.differences.iter().map(|d| d.change.mark()).collect();
-        let text = format!("{} {}", i + 1, words.join(", "));
+        let name = match (item.kind, item.new) {
+            (Kind::Branch, Some(e)) => networks[1].branches[e].number.clone(),
+            (kind, _) => kind.word().to_string(),
+        };
+        let text = format!("{name} {}", words.join(", "));
         let (at, rect) = places.best(&way, [width(&text, table.size, true) + 1.2, 1.4 * table.size]);
         marks.push((text, at, rect));
     }
@@ -46,6 +59,26 @@ pub fn mark(sheet: &mut Node, items: &[Item], table: &Table, panel: &Rect) -> Re
     below.into(sheet, "fives");
     above.into(sheet, "");
     Ok(())
+}
+
+/// The squares of an item that is on the sheet: those of its substations.
+fn squares(reading: &Reading<'_>, item: &Item, new: &Network) -> String {
+    let of_bus = |bus: usize| new.buses[bus].station as usize;
+    let stations: Vec<usize> = match (item.kind, item.new) {
+        (Kind::Branch, Some(e)) => {
+            let row = &new.branches[e];
+            [row.from, row.to].into_iter().filter_map(|bus| new.known(bus)).map(of_bus).collect()
+        }
+        (Kind::Bus, Some(bus)) => vec![of_bus(bus)],
+        (_, station) => station.into_iter().collect(),
+    };
+    let square = |station: usize| {
+        let part = reading.boxes.iter().find(|part| part.number == Some(station))?;
+        reading.square(Span::around(&part.stretches.as_ref()?.concat())?.middle())
+    };
+    let mut list: Vec<String> = stations.into_iter().filter_map(square).collect();
+    list.dedup();
+    list.join("–")
 }
 
 /// The width of the broad line: a bar has a rim of its own, nearly twice as wide as it is.

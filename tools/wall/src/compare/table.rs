@@ -1,7 +1,7 @@
 //! The table of changes on the sheet: what is removed first, since the drawing can't show it; then what is marked.
 use super::ink::{Ink, Words};
 use super::words::line;
-use super::Item;
+use super::{Item, Kind};
 use crate::network::Network;
 use crate::number::thousands;
 use crate::paper::Paper;
@@ -34,8 +34,8 @@ pub struct Table {
 }
 
 impl Table {
-    /// The table of all items; marked ones have the numbers of their marks.
-    pub fn new(items: &[Item], old: &Network, paper: Paper) -> Self {
+    /// The table of all items: a branch by its number on the sheet, and each by the squares that the function gives.
+    pub fn new(items: &[Item], [old, new]: [&Network; 2], paper: Paper, squares: &dyn Fn(&Item) -> String) -> Self {
         let size = (0.8 * paper.text()).max(SMALLEST);
         let mut table = Table { size, paper, rows: Vec::new() };
         table.entry(&format!("Changes against {}", old.name), true);
@@ -46,13 +46,13 @@ impl Table {
         if !removed.is_empty() {
             table.entry("Removed, not on the drawing", true);
         }
-        removed.iter().for_each(|item| table.entry(&line(item), false));
+        removed.iter().for_each(|item| table.entry(&(number(item, old, new) + &line(item)), false));
         let marked: Vec<&Item> = items.iter().filter(|item| !item.is_removed()).collect();
         if !marked.is_empty() {
             table.entry("Marked on the drawing", true);
         }
-        for (i, item) in marked.iter().enumerate() {
-            table.entry(&format!("{} {}", i + 1, line(item)), false);
+        for item in marked {
+            table.entry(&format!("{}{} {}", number(item, old, new), squares(item), line(item)), false);
         }
         table
     }
@@ -112,6 +112,19 @@ impl Table {
 
     fn put(&self, ink: &mut Ink, text: &str, at: Point, bold: bool) {
         ink.words(&Words { text, at, size: self.size, bold, colour: BLACK });
+    }
+}
+
+/// What the sheet calls a branch, and what it was called where that differs; nothing for others.
+fn number(item: &Item, old: &Network, new: &Network) -> String {
+    if item.kind != Kind::Branch {
+        return String::new();
+    }
+    let was = item.old.map(|e| old.branches[e].number.as_str());
+    match (item.new.map(|e| new.branches[e].number.as_str()), was) {
+        (Some(now), Some(was)) if was != now => format!("{now} (was {was}) "),
+        (Some(now), _) => format!("{now} "),
+        (None, was) => format!("(was {}) ", was.unwrap_or("")),
     }
 }
 

@@ -116,14 +116,18 @@ impl Content {
     }
 
     fn path(&mut self, node: &Node, paint: &Paint) {
-        // A path without a fill of its own is a stroke: the sheet fills none.
+        // A path that isn't closed is a stroke: the sheet fills none of them.
+        let d = node.attribute("d").unwrap_or("");
         let bare = Paint { fill: "none".to_string(), ..paint.clone() };
-        let both = self.prepare(node, &bare);
-        for part in node.attribute("d").unwrap_or("").split('M').filter(|part| !part.is_empty()) {
+        let both = self.prepare(node, if d.ends_with('Z') { paint } else { &bare });
+        for part in d.trim_end_matches('Z').split('M').filter(|part| !part.is_empty()) {
             for (i, point) in part.split('L').enumerate() {
                 self.text.push_str(point);
                 self.text.push_str(if i == 0 { " m\n" } else { " l\n" });
             }
+        }
+        if d.ends_with('Z') {
+            self.text.push_str("h\n");
         }
         self.finish(both);
     }

@@ -1,4 +1,5 @@
 //! The title block: title and files, legend, and the audit's figures.
+use super::legend::Present;
 use super::lettering::{fitted, halves, width, Anchor, Line};
 use super::page::{Page, PITCH, ROWS};
 use super::palette::{stroke, Palette};
@@ -7,7 +8,7 @@ use crate::args::Settings;
 use crate::drawing::Drawing;
 use crate::help::VERSION;
 use crate::network::Network;
-use crate::number::thousands;
+use crate::number::{short, thousands};
 use crate::plain::one_line;
 use crate::report;
 use tansygate::TxLayoutOptions;
@@ -32,6 +33,10 @@ pub struct Block<'a> {
     pub open: Vec<usize>,
     /// Stretches where circuits run as one stroke.
     pub stretches: usize,
+    /// How many places may be misread, and their squares.
+    pub doubts: (String, Vec<String>),
+    /// Which signs the sheet has.
+    pub present: Present,
     /// Where the index is.
     pub index: String,
 }
@@ -114,7 +119,8 @@ impl Block<'_> {
                 wide = wide.max(self.put(svg, line, [left, 0.2 + i as f64], size * t, true, most));
             }
         }
-        let rows = self.rows();
+        let mut rows = self.rows();
+        rows.push(self.doubted(most));
         for (i, text) in rows.iter().enumerate() {
             let row = (ROWS - rows.len() + i) as f64 - 0.25;
             wide = wide.max(self.put(svg, text, [left, row], t, false, most));
@@ -136,7 +142,9 @@ impl Block<'_> {
             let x = left + (i / 3) as f64 * most / 2.0;
             self.put(svg, text, [x, top + 1.45 + (i % 3) as f64], t, false, most / 2.0 - t);
         }
-        self.put(svg, last, [left, top + 4.45], t, false, most);
+        self.put(svg, last, [left, top + 4.45], t, false, most / 2.0 - t);
+        let beside = most / 2.0;
+        self.put(svg, &self.doubted(beside), [left + beside, top + 4.45], t, false, beside);
     }
 
     /// What was drawn, and how; where the index is comes last.
@@ -147,6 +155,18 @@ impl Block<'_> {
         rows.push(format!("{}, {}", self.page.name, VERSION.trim()));
         rows.push(self.index.clone());
         rows
+    }
+
+    /// How many places may be misread, and as many of their squares as have room.
+    fn doubted(&self, most: f64) -> String {
+        let (head, squares) = &self.doubts;
+        let line = |shown: usize| {
+            let more = squares.len() - shown;
+            let rest = if more > 0 { format!(", and {} more squares", thousands(more)) } else { String::new() };
+            format!("{head}{}{rest}", squares[..shown].join(", "))
+        };
+        let fits = |shown: &usize| width(&line(*shown), self.page.text, false) <= most;
+        (0..=squares.len()).rev().find(fits).map_or_else(|| head.clone(), line)
     }
 
     /// The names of the open branches, where there is room for a column of them.
@@ -188,7 +208,8 @@ impl Block<'_> {
         ];
         let other = gaps.into_iter().filter(|(_, gap, usual)| gap != usual);
         let gaps: String = other.map(|(name, gap, _)| format!(", {name} {gap}")).collect();
-        format!("fill {}, search {}, iterations {}{gaps}{turned}", o.fill, o.search, o.route_iterations)
+        let (fill, drawn) = (short(o.fill), &self.settings.drawn);
+        format!("fill {fill}, search {}, iterations {}{gaps}{turned}, {drawn}", o.search, o.route_iterations)
     }
 
     fn table(&self, svg: &mut Svg, left: f64, columns: f64, head: &str, rows: &[report::Row]) {

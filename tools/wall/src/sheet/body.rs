@@ -1,9 +1,10 @@
 //! The drawing on the sheet: boxes, runs, bars, crosses, numbers and names, from the back to the front.
+use super::doubts;
 use super::ids::Ids;
 use super::marks::BAND;
 use super::palette::{core, Palette, RED};
 use super::placing::Placed;
-use super::scene::Run;
+use super::scene::{Bar, Run, Scene};
 use super::svg::{self, mm, path, Attribute, Svg};
 use crate::colours::{Paint, Style};
 use crate::network::Network;
@@ -21,6 +22,10 @@ pub struct Body<'a> {
 pub const PAPER: &str = "#f6f5f1";
 pub const FIVES: &str = "#dde2e6";
 pub const SHARED: &str = "#e3ddc8";
+
+/// The colours of the marks at what may be misread: inside, and their edge.
+pub const DOUBTED: &str = "#fbdcec";
+pub const DOUBT: &str = "#c2007a";
 
 /// The length of a dash where circuits of two voltages run as one stroke.
 const DASH: f64 = 3.0;
@@ -40,6 +45,11 @@ pub fn bar_width(block: f64) -> f64 {
     stroke(block, 0.27, 0.4, 1.6)
 }
 
+/// The radius of a dot or ring on a bar.
+pub fn dot(scene: &Scene, bar: &Bar) -> f64 {
+    0.98 * bar_width(scene.station(bar.station).block)
+}
+
 fn group(id: &str) -> Vec<Attribute> {
     vec![("id", id.to_string()), ("fill", "none".to_string())]
 }
@@ -55,6 +65,7 @@ impl Body<'_> {
         self.bands(svg);
         self.boxes(svg, &mut ids);
         self.fives(svg);
+        self.doubts(svg);
         self.guides(svg);
         self.runs(svg, &mut ids, TX_ROLE_LINE, "lines");
         self.alternating(svg);
@@ -64,6 +75,7 @@ impl Body<'_> {
         self.rings(svg);
         self.dots(svg);
         self.crosses(svg);
+        self.signs(svg);
         self.names(svg);
     }
 
@@ -159,6 +171,26 @@ impl Body<'_> {
         svg.close();
     }
 
+    /// A disc under each place that may be misread.
+    fn doubts(&self, svg: &mut Svg) {
+        let look = [("fill", DOUBTED.to_string()), ("stroke", DOUBT.to_string()), ("stroke-width", "0.3".to_string())];
+        svg.open("g", &[&[("id", "doubts".to_string())], &look[..]].concat());
+        for at in doubts::marks(&self.placed.doubts) {
+            svg.leaf("circle", &[("cx", mm(at[0])), ("cy", mm(at[1])), ("r", mm(doubts::RADIUS))]);
+        }
+        svg.close();
+    }
+
+    /// Signs that send the reader to the index.
+    fn signs(&self, svg: &mut Svg) {
+        svg.open("g", &[("id", "signs".to_string()), ("fill", "#111111".to_string())]);
+        for sign in &self.placed.signs {
+            let key = format!("{} {}", sign.what.word(), sign.station);
+            svg.leaf("path", &[("data-sign", key), ("d", path(&sign.points) + "Z")]);
+        }
+        svg.close();
+    }
+
     /// From a bus's name to its bar, where they are apart.
     fn guides(&self, svg: &mut Svg) {
         svg.open(
@@ -190,7 +222,7 @@ impl Body<'_> {
             }
             svg.titled("path", &attributes, &format!("{} {}", branch.number, visible(&branch.name)));
             if !run.is_open() {
-                core(svg, paint, &run.points, wide);
+                core(svg, paint, &run.shown, wide);
             }
         }
         svg.close();
@@ -217,7 +249,7 @@ impl Body<'_> {
             ];
             attributes.extend(marked("data-unnamed", without.contains(&i)));
             svg.titled("path", &attributes, &visible(name));
-            core(svg, paint, &points, wide);
+            core(svg, paint, &[points.to_vec()], wide);
         }
         svg.close();
     }
@@ -246,7 +278,7 @@ impl Body<'_> {
         for (end, bus) in run.ends().into_iter().zip([row.from, row.to]) {
             let Some(bus) = self.network.known(bus) else { continue };
             let bar = &self.placed.scene.bars[bus];
-            let radius = 0.98 * bar_width(self.placed.scene.station(bar.station).block);
+            let radius = dot(&self.placed.scene, bar);
             let place = vec![("cx", mm(end[0])), ("cy", mm(end[1])), ("r", mm(radius))];
             svg.leaf("circle", &[place, paint(self.palette.colour(bar.level), radius)].concat());
         }

@@ -29,19 +29,29 @@ pub fn placed(network: &Network, scene: &Scene, largest: f64) -> Vec<BusName> {
 /// The names without the station's own name before or behind, or without the words that all of them begin with.
 fn labels(network: &Network, station: &Station) -> Vec<String> {
     let names: Vec<String> = station.buses.iter().map(|&bus| one_line(&network.buses[bus].name)).collect();
-    let words: Vec<Vec<&str>> = names.iter().map(|name| name.split(' ').collect()).collect();
     let title = one_line(&network.station_name(station.number));
-    let own: Vec<&str> = title.split(' ').collect();
-    let bare = |w: &Vec<&str>| -> Option<String> {
-        let rest = if w.starts_with(&own) { &w[own.len()..] } else { w.strip_suffix(&own[..])? };
-        (!rest.is_empty()).then(|| rest.join(" "))
-    };
-    let bared: Option<Vec<String>> = words.iter().map(bare).collect();
-    if let Some(labels) = bared.filter(|labels| labels.iter().collect::<HashSet<_>>().len() == labels.len()) {
-        let words: Vec<Vec<&str>> = labels.iter().map(|label| label.split(' ').collect()).collect();
-        return unshared(&words);
+    let bared: Option<Vec<&str>> = names.iter().map(|name| without(name, &title)).collect();
+    let bared = bared.filter(|labels| labels.iter().collect::<HashSet<_>>().len() == labels.len());
+    let labels = bared.unwrap_or_else(|| names.iter().map(String::as_str).collect());
+    unshared(&labels.iter().map(|label| label.split(' ').collect()).collect::<Vec<Vec<&str>>>())
+}
+
+/// What words are cut at.
+const CUTS: [char; 4] = [' ', '/', '-', '_'];
+
+/// A name without the words of the station's name before it or behind it; none where they aren't there, or nothing else is.
+fn without<'a>(name: &'a str, station: &str) -> Option<&'a str> {
+    let own: Vec<&str> = station.split(CUTS).filter(|word| !word.is_empty()).collect();
+    let words: Vec<&str> = name.split(CUTS).filter(|word| !word.is_empty()).collect();
+    if own.is_empty() || words.len() <= own.len() {
+        return None;
     }
-    unshared(&words)
+    let at = |word: &str| word.as_ptr() as usize - name.as_ptr() as usize;
+    if words.starts_with(&own) {
+        return Some(&name[at(words[own.len()])..]);
+    }
+    let last = words[words.len() - own.len() - 1];
+    words.ends_with(&own).then(|| &name[..at(last) + last.len()])
 }
 
 /// The names without the words that all begin with.
@@ -180,5 +190,7 @@ mod tests {
         assert_eq!(labels_of("Acre", &["Acre", "Acre spare"]), ["Acre", "Acre spare"]);
         assert_eq!(labels_of("Acre 2", &["Busbar-A Acre 2", "Acre 2 11/1"]), ["Busbar-A", "11/1"]);
         assert_eq!(labels_of("Acre", &["Acre A", "A Acre"]), ["Acre A", "A Acre"], "they would be the same");
+        assert_eq!(labels_of("RMU 076", &["RMU/076/11", "RMU_076-LV"]), ["11", "LV"]);
+        assert_eq!(labels_of("Acre-2", &["66/1 Acre 2", "66/2 Acre 2"]), ["66/1", "66/2"]);
     }
 }

@@ -1,12 +1,12 @@
 //! The index: every branch by its number, circuits that run as one stroke, names that the sheet doesn't show in full, and
 //! by row what ends in boxes where numbers found no room.
 use super::bus_names::BusName;
-use super::marks;
 use super::placing::Placed;
 use super::rows::Row;
 use super::squares::Squares;
 use super::tables::{Column, Table};
 use super::together::{middle, Stretch};
+use super::{doubts, marks};
 use crate::network::Network;
 use crate::number::{list_key, short};
 use crate::plain::one_line;
@@ -39,7 +39,11 @@ fn kilovolts(a: f64, b: f64) -> String {
 
 impl Contents<'_> {
     pub fn tables(&self) -> Vec<Table> {
-        vec![self.branches(), self.together(), self.boxes(), self.bars(), self.rows()]
+        vec![self.branches(), self.doubts(), self.together(), self.boxes(), self.bars(), self.rows()]
+    }
+
+    fn doubts(&self) -> Table {
+        doubts::table(self.network, self.squares, self.placed)
     }
 
     fn square(&self, station: usize) -> String {

@@ -1,11 +1,13 @@
 //! The legend in the title block: how voltages are drawn, and what the signs mean.
 use super::block::{Block, SIGNS, VOLTAGES};
-use super::body::{FIVES, PAPER, SHARED};
+use super::body::{DOUBT, DOUBTED, FIVES, PAPER, SHARED};
 use super::lettering::{width, Anchor, Line};
 use super::page::ROWS;
 use super::palette::{core, stroke, RED};
-use super::shape::Point;
+use super::shape::{Point, Rect};
+use super::signs::What;
 use super::svg::{cross, mm, path, Attribute, Svg};
+use crate::colours::Paint;
 use crate::number::{thousands, voltage};
 
 /// The colour of the edges of boxes.
@@ -20,6 +22,77 @@ fn filled([x, y]: Point, [wide, high]: Point, fill: &str, edge: Option<&str>) ->
         attributes.extend([("stroke", edge.to_string()), ("stroke-width", "0.2".to_string())]);
     }
     attributes
+}
+
+/// What the legend explains.
+#[derive(Clone, Copy, PartialEq)]
+pub enum Sign {
+    Bar,
+    Branch,
+    Mixed,
+    Open,
+    Joined,
+    UnderBar,
+    UnderBox,
+    Shared,
+    Fives,
+    Doubt,
+    Index,
+}
+
+impl Sign {
+    const ALL: [Sign; 11] = [
+        Sign::Bar,
+        Sign::Branch,
+        Sign::Mixed,
+        Sign::Open,
+        Sign::Joined,
+        Sign::UnderBar,
+        Sign::UnderBox,
+        Sign::Shared,
+        Sign::Fives,
+        Sign::Doubt,
+        Sign::Index,
+    ];
+
+    fn words(self) -> &'static str {
+        match self {
+            Sign::Bar => "bar of a bus",
+            Sign::Branch => "branch, one voltage",
+            Sign::Mixed => "branch, two voltages",
+            Sign::Open => "open branch",
+            Sign::Joined => "joined, with its number",
+            Sign::UnderBar => "passes under the bar",
+            Sign::UnderBox => "passes under a box",
+            Sign::Shared => "circuits as one stroke",
+            Sign::Fives => "rows in fives, see index",
+            Sign::Doubt => "may be misread, see index",
+            Sign::Index => "name, rows: see index",
+        }
+    }
+}
+
+/// Which signs the sheet has that not every sheet has.
+#[derive(Clone, Copy, Default)]
+pub struct Present {
+    pub under: bool,
+    pub shared: bool,
+    pub fives: bool,
+    pub doubts: bool,
+    pub index: bool,
+}
+
+impl Present {
+    fn has(self, sign: Sign) -> bool {
+        match sign {
+            Sign::UnderBox => self.under,
+            Sign::Shared => self.shared,
+            Sign::Fives => self.fives,
+            Sign::Doubt => self.doubts,
+            Sign::Index => self.index,
+            _ => true,
+        }
+    }
 }
 
 impl Block<'_> {
@@ -46,7 +119,7 @@ impl Block<'_> {
                 ([[x, y + 0.28 * t], [x + 2.6 * t, y + 0.28 * t]], 0.14),
             ] {
                 svg.leaf("path", &stroke(path(&points), &paint.hex(), wide * t));
-                core(svg, paint, &points, wide * t);
+                core(svg, paint, &[points.to_vec()], wide * t);
             }
             self.put(svg, &voltage(kv), [x + 3.2 * t, row], t, false, (VOLTAGES - 4.0) * t);
         }
@@ -57,63 +130,59 @@ impl Block<'_> {
         }
     }
 
+    /// The signs that the sheet has, in their rows; where they are too many, bars and lines stand beside the voltages only.
     pub fn signs(&self, svg: &mut Svg, left: f64) {
         let t = self.page.text;
-        let words = [
-            "bar of a bus",
-            "branch, one voltage",
-            "branch, two voltages",
-            "open branch",
-            "joined, with its number",
-            "passes under the bar",
-            "open, passes under a box",
-            "circuits as one stroke",
-            "rows in fives, see index",
-        ];
-        let words = &words[..words.len() - usize::from(self.lost.numbers == 0)];
+        let mut shown: Vec<Sign> = Sign::ALL.into_iter().filter(|sign| self.present.has(*sign)).collect();
+        let spare = shown.len().saturating_sub(ROWS - 1).min(2);
+        shown.drain(..spare);
         self.put(svg, "Signs", [left + t, 0.0], t, true, SIGNS * t);
-        for (i, words) in words.iter().enumerate() {
+        for (i, sign) in shown.into_iter().enumerate() {
             let row = (i + 1) as f64;
-            self.sign(svg, i, left + t, self.row(row) - 0.36 * t);
-            self.put(svg, words, [left + 5.0 * t, row], t, false, (SIGNS - 5.2) * t);
+            self.sign(svg, sign, left + t, self.row(row) - 0.36 * t);
+            self.put(svg, sign.words(), [left + 5.0 * t, row], t, false, (SIGNS - 5.2) * t);
         }
     }
 
     /// The sign in a row of the legend, three text sizes wide.
-    fn sign(&self, svg: &mut Svg, row: usize, x: f64, y: f64) {
+    fn sign(&self, svg: &mut Svg, sign: Sign, x: f64, y: f64) {
         let (t, paint) = (self.page.text, self.palette.paint((!self.palette.levels.is_empty()).then_some(0)));
-        let (colour, middle) = (paint.hex(), x + 1.5 * t);
-        let across = [[x, y], [x + 3.0 * t, y]];
-        let dashes = ("stroke-dasharray", format!("{} {}", mm(0.5 * t), mm(0.3 * t)));
-        let dashed = |d: String| [stroke(d, &colour, 0.14 * t), vec![dashes.clone()]].concat();
-        match row {
-            0 | 1 => {
-                let wide = if row == 0 { 0.32 } else { 0.14 } * t;
-                svg.leaf("path", &stroke(path(&across), &colour, wide));
-                core(svg, paint, &across, wide);
-            }
-            2 => {
-                let mixed = self.palette.paint(None);
-                svg.leaf("path", &stroke(path(&across), &mixed.hex(), 0.14 * t));
-                core(svg, mixed, &across, 0.14 * t);
-            }
-            3 => {
-                svg.leaf("path", &dashed(path(&across)));
+        let (colour, middle, across) = (paint.hex(), x + 1.5 * t, [[x, y], [x + 3.0 * t, y]]);
+        let line = |paint: Paint, wide: f64, svg: &mut Svg| {
+            svg.leaf("path", &stroke(path(&across), &paint.hex(), wide));
+            core(svg, paint, &[across.to_vec()], wide);
+        };
+        match sign {
+            Sign::Bar => line(paint, 0.32 * t, svg),
+            Sign::Branch => line(paint, 0.14 * t, svg),
+            Sign::Mixed => line(self.palette.paint(None), 0.14 * t, svg),
+            Sign::Open => {
+                let dashes = ("stroke-dasharray", format!("{} {}", mm(0.5 * t), mm(0.3 * t)));
+                svg.leaf("path", &[stroke(path(&across), &colour, 0.14 * t), vec![dashes]].concat());
                 svg.leaf("path", &stroke(cross([middle, y], 0.35 * t), RED, 0.16 * t));
             }
-            6 => {
-                svg.leaf(
-                    "path",
-                    &dashed(path(&[[x, y], [x + 0.8 * t, y]]) + &path(&[[x + 2.2 * t, y], [x + 3.0 * t, y]])),
-                );
+            Sign::UnderBox => {
+                let parts = path(&[[x, y], [x + 0.8 * t, y]]) + &path(&[[x + 2.2 * t, y], [x + 3.0 * t, y]]);
+                svg.leaf("path", &stroke(parts, &colour, 0.14 * t));
                 svg.leaf("rect", &filled([middle - 0.45 * t, y - 0.55 * t], [0.9 * t, 1.1 * t], PAPER, Some(EDGE)));
             }
-            7 => {
+            Sign::Shared => {
                 svg.leaf("path", &stroke(path(&across), SHARED, 0.55 * t));
                 svg.leaf("path", &stroke(path(&across), &colour, 0.14 * t));
             }
-            8 => self.fives(svg, [x + 0.6 * t, y - 0.55 * t]),
-            _ => self.joint(svg, row == 4, x, y),
+            Sign::Fives => self.fives(svg, [x + 0.6 * t, y - 0.55 * t]),
+            Sign::Doubt => {
+                let disc = [("cx", mm(middle)), ("cy", mm(y)), ("r", mm(0.5 * t)), ("fill", DOUBTED.to_string())];
+                let edge = [("stroke", DOUBT.to_string()), ("stroke-width", mm(0.08 * t))];
+                svg.leaf("circle", &[&disc[..], &edge[..]].concat());
+            }
+            Sign::Index => {
+                for (what, left) in [(What::Name, middle - 0.9 * t), (What::Rows, middle + 0.3 * t)] {
+                    let outline = what.outline(&Rect::new(left, y - 0.3 * t, left + 0.6 * t, y + 0.3 * t), true, true);
+                    svg.leaf("path", &[("d", path(&outline) + "Z"), ("fill", "#111111".to_string())]);
+                }
+            }
+            Sign::Joined | Sign::UnderBar => self.joint(svg, sign == Sign::Joined, x, y),
         }
     }
 

@@ -78,7 +78,9 @@ impl Around<'_> {
                         continue;
                     }
                     let through = |line: &Line| self.scene.through(self.pieces, &line.rect(), None);
-                    let cost = i + j + k + 6 * lines.iter().map(through).sum::<usize>();
+                    let bends = |line: &Line| self.scene.bends(self.pieces, &line.rect());
+                    let covered: usize = lines.iter().map(|line| 6 * through(line) + 6 * bends(line)).sum();
+                    let cost = i + j + k + covered;
                     if found.as_ref().is_none_or(|(least, _)| cost < *least) {
                         found = Some((cost, Mark { lines, guide }));
                     }

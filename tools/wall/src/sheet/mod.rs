@@ -3,21 +3,26 @@ mod block;
 mod body;
 mod bus_names;
 mod crosses;
+mod doubts;
 mod ids;
 mod index;
 mod index_page;
 mod legend;
 pub mod lettering;
 mod marks;
+mod measure;
 mod near;
 mod numbers;
+mod outside;
 mod page;
 mod palette;
 mod placing;
 mod rows;
 mod scene;
+mod seen;
 pub mod shape;
 mod short_names;
+mod signs;
 mod squares;
 mod station_names;
 pub mod svg;
@@ -29,12 +34,16 @@ mod widths;
 mod writing;
 
 use crate::args::Settings;
+use crate::check;
 use crate::colours::Colours;
 use crate::drawing::Drawing;
+use crate::misread::Place;
 use crate::network::Network;
 use crate::number::{thousands, voltage};
 use crate::paper::Paper;
 use crate::plain::{one_line, visible};
+pub use measure::{measured, roughly, Measure};
+
 use block::{Block, Lost};
 use body::Body;
 use index::Contents;
@@ -57,6 +66,8 @@ pub struct Leaf {
 pub struct Sheet {
     pub leaves: Vec<Leaf>,
     pub notes: Vec<String>,
+    /// What on the sheet may be misread.
+    pub doubts: Vec<Place>,
 }
 
 /// What a sheet is drawn from.
@@ -98,7 +109,8 @@ pub fn drawn(network: &Network, drawing: &Drawing, settings: &Settings, colours:
     let (lost, notes) = composed.notes(source);
     let words = index_words(pages.len(), lost, composed.placed.apart());
     let sheet = composed.leaf(source, lost, words, if beside { &tables } else { &[] });
-    Sheet { leaves: std::iter::once(sheet).chain(pages).collect(), notes }
+    let leaves = std::iter::once(sheet).chain(pages).collect();
+    Sheet { leaves, notes, doubts: composed.placed.doubts }
 }
 
 /// The sheet with room kept free at its right, as much as the function takes for a height, and that room. Its index
@@ -119,7 +131,8 @@ pub fn drawn_beside(
     let sheet = composed.leaf(source, lost, words, &[]);
     let page = &composed.page;
     let panel = shape::Rect::new(page.area.right, page.area.top, page.inner.right, page.area.bottom);
-    (Sheet { leaves: std::iter::once(sheet).chain(pages).collect(), notes }, panel)
+    let leaves = std::iter::once(sheet).chain(pages).collect();
+    (Sheet { leaves, notes, doubts: composed.placed.doubts }, panel)
 }
 
 /// How many millimetres a unit of the drawing becomes, where this is what the drawing takes up.
@@ -206,8 +219,19 @@ impl Composed {
             };
             format!("note: rows of boxes are {apart:.2} mm apart on {}, too close to be counted; {way}", paper.name())
         });
-        let notes = lost_notes(lost).into_iter().chain(close).chain(alike_note(source.palette)).collect();
+        let notes = lost_notes(lost).into_iter().chain(close).chain(self.doubted()).chain(alike_note(source.palette));
+        let notes = notes.collect();
         (lost, notes)
+    }
+
+    /// A remark on what may be misread.
+    fn doubted(&self) -> Option<String> {
+        let tally = check::tally(&self.placed.doubts);
+        let kinds: Vec<String> = tally.iter().map(|(kind, n)| format!("{} {}", thousands(*n), kind.words())).collect();
+        let count = thousands(self.placed.doubts.len());
+        let where_ = "marked on the sheet and listed in the index";
+        (!kinds.is_empty())
+            .then(|| format!("note: places that may be misread: {count}, {where_}: {}", kinds.join(", ")))
     }
 
     fn leaf(&self, source: Source<'_>, lost: Lost, index: String, beside: &[Table]) -> Leaf {
@@ -216,7 +240,9 @@ impl Composed {
         let body = Body { network, palette, placed };
         let open = placed.crosses.iter().map(|cross| placed.scene.runs[cross.run].branch).collect();
         let stretches = placed.stretches.len();
-        let block = Block { network, drawing, settings, palette, page, lost, open, stretches, index };
+        let doubts = doubts::words(&placed.doubts, &page.squares);
+        let present = placed.present();
+        let block = Block { network, drawing, settings, palette, page, lost, open, stretches, doubts, present, index };
         leaf(source, page, &source.title(), &|svg| {
             page.squares.draw(svg, page);
             body.draw(svg);

@@ -16,7 +16,21 @@ pub struct Number {
     pub open: bool,
     /// Whether its own run goes through it, and is cut there.
     pub cuts: bool,
+    /// Whether it stands on its run outside the box.
+    pub outside: bool,
+    /// From it to its cross, where it doesn't stand beside it.
+    pub leader: Option<[Point; 2]>,
     pub line: Line,
+}
+
+impl Number {
+    /// What it covers left and right of its box, in the widest font.
+    pub fn outer(&self, scene: &Scene) -> Vec<Rect> {
+        let Some(station) = self.station else { return Vec::new() };
+        let (r, own) = (self.line.capitals(), scene.station(station).rect);
+        let (left, right) = (Rect { right: r.right.min(own.left), ..r }, Rect { left: r.left.max(own.right), ..r });
+        [left, right].into_iter().filter(|rect| rect.width() > 0.0).collect()
+    }
 }
 
 #[derive(Default)]
@@ -24,6 +38,8 @@ pub struct Numbers {
     pub list: Vec<Number>,
     /// Runs, each with the end or the cross that found no room for one.
     pub left_out: Vec<(usize, Option<usize>)>,
+    /// Branches with their numbers once more where they pass under boxes.
+    pub at_gaps: Vec<(usize, Line)>,
 }
 
 /// Between a dot and its number, and round a number.
@@ -35,6 +51,12 @@ pub const TIGHT: f64 = 0.9;
 
 /// Where rows are closer, in millimetres, a number would stand for a crowd of them.
 const LOWEST: f64 = 0.45;
+
+/// A number, and a line from it to its cross where it doesn't stand beside it.
+type Led = (Line, Option<[Point; 2]>);
+
+/// How far beyond its place beside a cross a number may stand, in millimetres; a line leads to it.
+const FARTHER: [f64; 4] = [0.0, 2.5, 5.0, 9.0];
 
 pub struct Around<'a> {
     pub network: &'a Network,
@@ -65,11 +87,16 @@ pub fn placed(around: &Around<'_>, crosses: &[Cross], taken: &mut Taken) -> Numb
     }
     for cross in crosses {
         let run = &around.scene.runs[cross.run];
-        match around.beside_cross(cross, taken) {
-            Some(line) => {
+        let nearer = |[x, y]: Point| {
+            let far = |p: Point| (p[0] - x).hypot(p[1] - y);
+            crosses.iter().any(|other| other.run != cross.run && far(other.at) < far(cross.at) + 0.1)
+        };
+        match around.beside_cross(cross, &nearer, taken) {
+            Some((line, leader)) => {
                 taken.add(line.capitals().grown(ROUND));
-                let number = Number { branch: run.branch, end: None, station: None, open: true, cuts: false, line };
-                numbers.list.push(number);
+                let (branch, end, station) = (run.branch, None, None);
+                let of = Number { branch, end, station, open: true, cuts: false, outside: false, leader, line };
+                numbers.list.push(of);
             }
             None => numbers.left_out.push((cross.run, None)),
         }
@@ -92,7 +119,8 @@ impl Around<'_> {
                 taken.add(line.narrowed(TIGHT).grown(ROUND));
                 let (station, open) = (Some(of.station.number), run.is_open());
                 let cuts = !open && (line.x < of.at[0]) == (of.way < 0.0);
-                numbers.list.push(Number { branch: run.branch, end: Some(end), station, open, cuts, line });
+                let (branch, end) = (run.branch, Some(end));
+                numbers.list.push(Number { branch, end, station, open, cuts, outside: false, leader: None, line });
             }
             None => numbers.left_out.push((i, Some(end))),
         }
@@ -161,13 +189,17 @@ impl Around<'_> {
         self.bars.near(rect).iter().any(hit)
     }
 
-    /// A number beside a cross, where it covers little.
-    fn beside_cross(&self, cross: &Cross, taken: &Taken) -> Option<Line> {
+    /// A number beside a cross, where it covers little, or farther from it with a line that leads there.
+    fn beside_cross(&self, cross: &Cross, nearer: &dyn Fn(Point) -> bool, taken: &Taken) -> Option<Led> {
+        FARTHER.into_iter().find_map(|far| self.off_cross(cross, far, nearer, taken))
+    }
+
+    fn off_cross(&self, cross: &Cross, far: f64, nearer: &dyn Fn(Point) -> bool, taken: &Taken) -> Option<Led> {
         let run = &self.scene.runs[cross.run];
         let text = &self.network.branches[run.branch].number;
-        let size = (0.65 * run.block).clamp(SMALLEST, self.largest);
+        let size = if far > 0.0 { SMALLEST } else { (0.65 * run.block).clamp(SMALLEST, self.largest) };
         let (wide, tall) = (width(text, size, false), CAPITALS * size);
-        let (x, y) = (cross.arm + BESIDE + 0.2 + wide / 2.0, cross.arm + BESIDE + tall / 2.0);
+        let (x, y) = (cross.arm + BESIDE + 0.2 + far + wide / 2.0, cross.arm + BESIDE + far + tall / 2.0);
         let own = |i: &usize| self.scene.stations[*i].rect.has(cross.at);
         let mut found: Option<(usize, Line)> = None;
         for (i, (dx, dy)) in
@@ -182,7 +214,7 @@ impl Around<'_> {
                 anchor: Anchor::Middle,
             };
             let rect = line.capitals().grown(ROUND);
-            if !taken.free(&rect) || self.crosses_bar(&rect, usize::MAX) {
+            if !taken.free(&rect) || self.crosses_bar(&rect, usize::MAX) || nearer(rect.middle()) {
                 continue;
             }
             let boxes = self.boxes.near(&rect);
@@ -192,6 +224,10 @@ impl Around<'_> {
                 found = Some((cost, line));
             }
         }
-        found.map(|(_, line)| line)
+        let leader = |line: &Line| {
+            let r = line.capitals();
+            [[cross.at[0].clamp(r.left, r.right), cross.at[1].clamp(r.top, r.bottom)], cross.at]
+        };
+        found.map(|(_, line)| (line.clone(), (far > 0.0).then(|| leader(&line))))
     }
 }

@@ -64,10 +64,10 @@ pub fn stroke(d: String, colour: &str, wide: f64) -> Vec<Attribute> {
 }
 
 /// The light core of a stroke, for styles that have one: a tint, so that it is seen as one line, not as two. The rims stay
-/// whole: only an open branch has gaps.
-pub fn core(svg: &mut Svg, paint: Paint, points: &[[f64; 2]], wide: f64) {
+/// whole: only an open branch is dashed.
+pub fn core(svg: &mut Svg, paint: Paint, parts: &[Vec<[f64; 2]>], wide: f64) {
     if let Some(dashes) = paint.style.core() {
-        let mut attributes = stroke(path(points), &paint.tint(), 0.45 * wide);
+        let mut attributes = stroke(parts.iter().map(|part| path(part)).collect(), &paint.tint(), 0.45 * wide);
         if !dashes.is_empty() {
             attributes.push(("stroke-dasharray", dashes.to_string()));
         }

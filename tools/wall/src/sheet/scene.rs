@@ -30,7 +30,7 @@ pub struct Run {
     pub branch: usize,
     pub role: u8,
     pub points: Vec<Point>,
-    /// What is seen of it: an open run has gaps at the boxes of other stations.
+    /// What is seen of it: it has gaps where it passes under boxes.
     pub shown: Vec<Vec<Point>>,
     /// The voltage level, where both ends have one and the same.
     pub level: Option<usize>,
@@ -63,6 +63,7 @@ impl Scene {
             runs: runs(network, layout, palette, view, &block),
         };
         scene.clear_rows(network);
+        scene.clear_tips();
         scene
     }
 
@@ -77,7 +78,7 @@ impl Scene {
     pub fn pieces(&self, page: &Rect) -> Near {
         let mut near = Near::new(page);
         for (i, run) in self.runs.iter().enumerate() {
-            run.points.windows(2).for_each(|two| near.insert_piece(i, two[0], two[1]));
+            run.seen().for_each(|[p, q]| near.insert_piece(i, p, q));
         }
         near
     }
@@ -102,33 +103,86 @@ impl Scene {
 
     /// How many runs go through a rectangle, without one of them; in a crowd, at least so many.
     pub fn through(&self, pieces: &Near, rect: &Rect, but: Option<usize>) -> usize {
-        let meets = |run: usize| self.runs[run].points.windows(2).any(|two| rect.meets(two[0], two[1]));
+        let meets = |run: usize| self.runs[run].seen().any(|[p, q]| rect.meets(p, q));
         pieces.some(rect).into_iter().filter(|&run| Some(run) != but && meets(run)).count()
     }
 
-    /// Moves the ends of open runs along their bars to between two rows, so that they lie on no live run.
+    /// How many bends of runs lie in a rectangle; in a crowd, at least so many.
+    pub fn bends(&self, pieces: &Near, rect: &Rect) -> usize {
+        let inner = |part: &Vec<Point>| part[1..part.len() - 1].iter().filter(|p| rect.has(**p)).count();
+        pieces.some(rect).into_iter().map(|run| self.runs[run].shown.iter().map(inner).sum::<usize>()).sum()
+    }
+
+    /// Moves the ends of open runs along their bars to between two rows, so that they lie on no live run, each where no other
+    /// ends.
     fn clear_rows(&mut self, network: &Network) {
+        let mut taken: Vec<Vec<f64>> = vec![Vec::new(); self.bars.len()];
         for run in self.runs.iter_mut().filter(|run| run.is_open() && run.points.len() == 2) {
             let row = &network.branches[run.branch];
             let [p, q] = run.ends();
             for (i, (bus, other)) in [(row.from, q), (row.to, p)].into_iter().enumerate() {
                 let Some(bus) = network.known(bus) else { continue };
                 let at = self.stations.partition_point(|s| s.number < network.buses[bus].station as usize);
-                run.points[i][1] = self.stations[at].between_rows(run.points[i][1], other[1]);
+                let places = self.stations[at].between_rows(&self.bars[bus], run.points[i][1], other[1]);
+                let free =
+                    |y: &&f64| taken[bus].iter().all(|other| (**y - other).abs() > 0.4 * self.stations[at].block);
+                let place = places.iter().find(free).or(places.first()).copied();
+                run.points[i][1] = place.unwrap_or(run.points[i][1]);
+                taken[bus].push(run.points[i][1]);
             }
             run.shown = vec![run.points.clone()];
         }
     }
 }
 
-impl Station {
-    /// A height half a block towards another, or downwards, where it is a row's.
-    fn between_rows(&self, y: f64, other: f64) -> f64 {
-        let rows = (y - self.rect.top - self.pad) / self.block - 0.5;
-        if (rows - rows.round()).abs() > 0.25 {
-            return y;
+/// A bar's tip this near to a row of another branch, in blocks, is drawn so much short of it.
+const NEAR_ROW: f64 = 0.3;
+const SHORT: f64 = 0.35;
+
+impl Scene {
+    /// Shortens bars whose tips lie on the rows of other branches, which would look joined to them, unless something ends there.
+    fn clear_tips(&mut self) {
+        let mut rows: Vec<Vec<(f64, [f64; 2])>> = vec![Vec::new(); self.stations.len()];
+        let mut ends: Vec<Vec<(f64, f64)>> = vec![Vec::new(); self.stations.len()];
+        for run in &self.runs {
+            let count = run.points.len();
+            let two = [(0, 1), (count - 1, count - 2)];
+            for (station, (row, next)) in run.stations.into_iter().zip(two) {
+                let (place, [p, q]) = (self.place(station), [run.points[row], run.points[next]]);
+                ends[place].push((p[0], p[1]));
+                if !run.is_open() {
+                    rows[place].push((p[1], [p[0].min(q[0]), p[0].max(q[0])]));
+                }
+            }
         }
-        y + if other < y - 0.01 { -0.5 } else { 0.5 } * self.block
+        for i in 0..self.bars.len() {
+            let (place, bar) = (self.place(self.bars[i].station), &self.bars[i]);
+            let (block, x) = (self.stations[place].block, bar.x);
+            let near = |a: f64, b: f64| (a - b).abs() < NEAR_ROW * block;
+            let passed = |tip: f64| rows[place].iter().any(|(y, [a, b])| near(*y, tip) && a + 0.01 < x && x < b - 0.01);
+            let used = |tip: f64| ends[place].iter().any(|(u, y)| (u - x).abs() < 0.01 && near(*y, tip));
+            let by = |tip: f64| if passed(tip) && !used(tip) { SHORT * block } else { 0.0 };
+            let (above, below) = (by(bar.top), by(bar.bottom));
+            self.bars[i].top += above;
+            self.bars[i].bottom -= below;
+        }
+    }
+}
+
+impl Station {
+    /// Heights on a bar between two rows, the nearest to its middle first: of two as near, the one towards another height,
+    /// or the lower one.
+    fn between_rows(&self, bar: &Bar, middle: f64, other: f64) -> Vec<f64> {
+        let rows = (middle - self.rect.top - self.pad) / self.block - 0.5;
+        let on_row = (rows - rows.round()).abs() <= 0.25;
+        let towards = if other < middle - 0.01 { -1.0 } else { 1.0 };
+        let first = if on_row { middle + 0.5 * towards * self.block } else { middle };
+        let count = ((bar.bottom - bar.top) / self.block).round() as i32;
+        let mut list: Vec<f64> = (-count..=count).map(|k| first + f64::from(k) * self.block).collect();
+        list.retain(|y| bar.top - 0.01 <= *y && *y <= bar.bottom + 0.01);
+        let off = |y: &f64| ((y - middle).abs() * 100.0).round();
+        list.sort_by(|a, b| off(a).total_cmp(&off(b)).then(((b - a) * towards).total_cmp(&0.0)));
+        list.iter().map(|y| y.clamp(bar.top, bar.bottom)).collect()
     }
 }
 
@@ -190,6 +244,20 @@ fn runs(network: &Network, layout: &TxLayout, palette: &Palette, view: &View, bl
 impl Run {
     pub fn is_open(&self) -> bool {
         self.role == TX_ROLE_OPEN
+    }
+
+    /// What a reader follows: an open run on through its gaps, of a live one what is seen.
+    pub fn traced(&self) -> &[Vec<Point>] {
+        if self.is_open() {
+            std::slice::from_ref(&self.points)
+        } else {
+            &self.shown
+        }
+    }
+
+    /// The straight pieces that are seen.
+    pub fn seen(&self) -> impl Iterator<Item = [Point; 2]> + '_ {
+        self.shown.iter().flat_map(|part| part.windows(2).map(|two| [two[0], two[1]]))
     }
 
     /// Whether both its ends stand in one row of one box.

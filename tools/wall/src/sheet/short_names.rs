@@ -12,7 +12,7 @@ pub struct Wish<'a> {
 }
 
 /// Whether a short form, with dots for what is left out, could stand for a name.
-fn fits(short: &str, name: &str) -> bool {
+pub fn fits(short: &str, name: &str) -> bool {
     let parts: Vec<&str> = short.split('…').collect();
     let Some(rest) = name.strip_prefix(parts[0]) else { return false };
     match &parts[1..] {

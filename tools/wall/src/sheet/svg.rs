@@ -34,6 +34,11 @@ pub fn mm(x: f64) -> String {
     text
 }
 
+/// The number that `mm` writes.
+pub fn hundredths(x: f64) -> f64 {
+    (100.0 * x).round() / 100.0
+}
+
 /// The same at the end of a text.
 pub fn add_mm(out: &mut String, x: f64) {
     let hundredths = (100.0 * x).round() as i64;

@@ -8,6 +8,9 @@ use std::collections::BTreeMap;
 const CLOSE: f64 = 0.5;
 const LONG: f64 = 5.0;
 
+/// What is seen of a run on both sides of a gap counts as so far apart, in millimetres.
+const APART: f64 = 1.0;
+
 pub struct Stretch {
     /// The runs, by their place in the scene.
     pub runs: Vec<usize>,
@@ -56,9 +59,12 @@ fn pieces(scene: &Scene) -> Vec<Piece> {
     let mut list = Vec::new();
     for (run, of) in scene.runs.iter().enumerate() {
         let mut start = 0.0;
-        for two in of.points.windows(2) {
-            list.push(Piece { run, ends: [two[0], two[1]], start });
-            start += distance(two[0], two[1]);
+        for part in of.traced() {
+            for two in part.windows(2) {
+                list.push(Piece { run, ends: [two[0], two[1]], start });
+                start += distance(two[0], two[1]);
+            }
+            start += APART;
         }
     }
     list
@@ -107,19 +113,22 @@ fn joined(mut parts: Vec<[f64; 2]>) -> Vec<[f64; 2]> {
     list
 }
 
-/// The points of a run from one length along it to another.
-fn along(points: &[Point], from: f64, to: f64) -> Vec<Point> {
+/// The points of what is seen of a run from one length along it to another.
+fn along(parts: &[Vec<Point>], from: f64, to: f64) -> Vec<Point> {
     let (mut list, mut start) = (Vec::new(), 0.0);
-    for two in points.windows(2) {
-        let long = distance(two[0], two[1]);
-        let (a, b) = ((from - start) / long, (to - start) / long);
-        if long > 0.0 && a < 1.0 && b > 0.0 {
-            if list.is_empty() {
-                list.push(between(two[0], two[1], a.max(0.0)));
+    for part in parts {
+        for two in part.windows(2) {
+            let long = distance(two[0], two[1]);
+            let (a, b) = ((from - start) / long, (to - start) / long);
+            if long > 0.0 && a < 1.0 && b > 0.0 {
+                if list.is_empty() {
+                    list.push(between(two[0], two[1], a.max(0.0)));
+                }
+                list.push(between(two[0], two[1], b.min(1.0)));
             }
-            list.push(between(two[0], two[1], b.min(1.0)));
+            start += long;
         }
-        start += long;
+        start += APART;
     }
     list
 }
@@ -165,7 +174,7 @@ pub fn found(scene: &Scene, widths: &[f64], page: &Rect) -> Vec<Stretch> {
             runs.push(run);
             runs.sort_unstable();
             runs.dedup();
-            let points = along(&scene.runs[run].points, from, to);
+            let points = along(scene.runs[run].traced(), from, to);
             let there = [points[0], middle(&points), points[points.len() - 1]];
             let known =
                 |i: &&usize| there.iter().all(|&p| away(p, &list[**i].points) < 2.0 * reach(widths[run], widths[run]));
@@ -210,7 +219,7 @@ mod tests {
             branch,
             role: 0,
             points: points.to_vec(),
-            shown: Vec::new(),
+            shown: vec![points.to_vec()],
             level: None,
             block: 1.0,
             stations: [0, 1],

@@ -38,7 +38,7 @@ pub fn points(line: &str) -> Vec<[f64; 2]> {
         let (x, y) = p.split_once(' ').unwrap();
         [x.parse().unwrap(), y.parse().unwrap()]
     };
-    value(line, "d").trim_start_matches('M').split('L').map(one).collect()
+    value(line, "d").trim_start_matches('M').split(['L', 'M']).map(one).collect()
 }
 
 /// The line with other points.

@@ -1,7 +1,7 @@
 //! Made-up networks, the same for the same number of stations.
 
 /// Numbers that look random (xorshift).
-struct Dice(u64);
+pub struct Dice(pub u64);
 
 impl Dice {
     fn next(&mut self) -> u64 {
@@ -11,7 +11,7 @@ impl Dice {
         self.0
     }
 
-    fn below(&mut self, n: u64) -> u64 {
+    pub fn below(&mut self, n: u64) -> u64 {
         self.next() % n
     }
 }

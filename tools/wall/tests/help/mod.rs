@@ -1,6 +1,7 @@
 //! What the tests share: running the program, and folders of their own.
 #![allow(dead_code)]
 pub mod damage;
+pub mod kinds;
 pub mod made;
 pub mod svg;
 use std::fs;
@@ -72,6 +73,15 @@ pub fn text(bytes: &[u8]) -> String {
 pub fn made(stations: usize) -> Folder {
     let folder = Folder::new(&format!("made{stations}"));
     let (buses, branches) = made::network(stations);
+    folder.write("buses.csv", buses.as_bytes());
+    folder.write("branches.csv", branches.as_bytes());
+    folder
+}
+
+/// A folder with a network of a kind in it.
+pub fn kind(kind: &str) -> Folder {
+    let folder = Folder::new(kind);
+    let (buses, branches) = kinds::network(kind).unwrap();
     folder.write("buses.csv", buses.as_bytes());
     folder.write("branches.csv", branches.as_bytes());
     folder

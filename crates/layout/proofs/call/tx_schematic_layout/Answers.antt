@@ -1,13 +1,35 @@
 -- Answers for `layout::call::tx_schematic_layout`.
-use mathlib.Core.Path.{◌∙◌}
+use mathlib.Core.Path.{ap, ◌∙◌}
+use lib.ListN.{length}
 use Rattle.std.proofs.lemmas.Result.{err_from_is_err_and}
-use Rattle.drawing.specs.Network.{network, crossings}
-use Rattle.drawing.proofs.Lent.{lists, work}
+use Rattle.drawing.specs.Network.{network_of}
+use Rattle.lent.specs.Held.{held_lists, held_work, held_crossings}
 use Rattle.layout.proofs.Calls.{call_early_lem, call_late_lem}
 use Rattle.layout.proofs.call.tx_schematic_layout.Goals as goal
 
-pub returns-in_err-check_input : goal.returns-in_err-check_input
-returns-in_err-check_input c = let p = err_from_is_err_and c.from_residual.result c.from_residual.ensures.1 in rw (p.1, p.2) (call_early_lem _ _ _ _ _ _ c.in_err-check_input.ensures)
+pub returns-in_err-check_input-clause-is : goal.returns-in_err-check_input-clause-is
+returns-in_err-check_input-clause-is c =
+    let p = err_from_is_err_and c.from_residual.result c.from_residual.ensures.1 in
+    rw (p.1, p.2) (call_early_lem _ _ _ _ _ _ c.in_err-check_input.ensures)
 
-pub returns : goal.returns
-returns c = call_late_lem c.args.o (network c.args.sub.now c.args.kv.now c.args.from.now c.args.to.now c.args.service.now c.args.xy.now c.args.corners.now c.args.twins.now) (lists c.args.positions.now c.args.bars.now c.args.boxes.now c.args.scales.now c.args.roles.now c.args.pieces.now c.args.branches.now) _ (work c.args.stations.now c.args.buses.now c.args.ends.now c.args.sorted.now c.args.spare.now c.args.keys.now c.args.places.now c.args.blocks.now c.args.frames.now c.args.path.now) _ _ (crossings c.args.crossing_numbers.now c.args.crossing_places.now c.args.crossing_ways.now) _ _ _ c.in_ok-check_input.ensures c.finish-a.ensures c.clear_work.ensures (record { stations = c.chart-course.auto.stations; buses = c.chart-course.auto.buses; ends = c.chart-course.auto.ends; sorted = c.chart-course.auto.sorted; spare = c.chart-course.auto.spare; keys = c.chart-course.auto.keys; places = c.chart-course.auto.places; blocks = c.chart-course.auto.blocks; frames = c.chart-course.auto.frames; path = c.finish-a.auto.path ∙ c.chart-course.auto.path }) c.clear_crossings.ensures (record { numbers = c.chart-course.auto.numbers; places = c.chart-course.auto.along; ways = c.chart-course.auto.ways })
+pub returns-clause-is : goal.returns-clause-is
+returns-clause-is c =
+    let drawn = c.chart-course.ensures.long in
+    let kept = c.finish-answer.ensures.kept in
+    call_late_lem c.args.options (network_of c.args.net.now) (held_lists c.args.lists.now) _ (held_work c.args.work.now) _ _
+    (held_crossings c.args.crossings.now) _ _ _ c.in_ok-check_input.ensures c.finish-answer.ensures.drew
+    c.clear_work.ensures.is
+    (record {
+      stations = ap length kept.0 ∙ drawn.0.0;
+      buses = ap length kept.1 ∙ drawn.0.1;
+      ends = ap length kept.2 ∙ drawn.0.2;
+      sorted = ap length kept.3 ∙ drawn.0.3;
+      spare = ap length kept.4 ∙ drawn.0.4;
+      keys = ap length kept.5 ∙ drawn.0.5;
+      places = ap length kept.6 ∙ drawn.0.6;
+      blocks = ap length kept.7 ∙ drawn.0.7;
+      frames = ap length kept.8 ∙ drawn.0.8;
+      path = c.finish-answer.ensures.long ∙ drawn.0.9;
+    })
+    c.clear_crossings.ensures.is
+    (record { numbers = drawn.1.0; places = drawn.1.1; ways = drawn.1.2 })

@@ -1,6 +1,6 @@
 -- What the loop of `network::words::clear_counts` keeps.
 use mathlib.Core.Path.{◌≡◌}
-use Rattle.order.specs.Table.{table}
+use Rattle.numbers.specs.Table.{table}
 use Rattle.network.specs.Views.{counts_in}
 use Rattle.network.proofs.words.clear_counts.Given as goal
 

@@ -7,7 +7,7 @@ use Rattle.std.specs.Int.{FitsUnsignedBits}
 use Rattle.std.specs.Prelude.{Some, None, Result, Ok, Err}
 use Rattle.std.specs.Result.{OkIff, result_ok}
 use Rattle.std.proofs.lemmas.Option.{same_Some, none-some}
-use Rattle.order.specs.Order.{pick}
+use Rattle.numbers.specs.Order.{pick}
 use Rattle.network.specs.Words.{known}
 use Rattle.network.proofs.words.known_bus.Goals as goal
 
@@ -30,7 +30,7 @@ refused n (Err y) (pos j) e k f = absurd (k (omega (arith, f.sfits)))
 refused n (Err y) (negsuc j) e k f = refl
 
 pub returns-in_err-i : goal.returns-in_err-i
-returns-in_err-i c = let q = to_z-of_z c.ranges.x in c.from_residual.ensures ∙ refused c.args.n c.try_from.result c.args.x (sym c.ok.ensures.value ∙ c.in_err-i.was) (rw q at c.try_from.ensures) c.ranges.x
+returns-in_err-i c = let q = to_z-of_z c.ranges.number in c.from_residual.ensures ∙ refused c.args.buses c.try_from.result c.args.number (sym c.ok.ensures.value ∙ c.in_err-i.was) (rw q at c.try_from.ensures) c.ranges.number
 
 pub returns : goal.returns
-returns c = let q = to_z-of_z c.ranges.x in c.then_some.ensures ∙ converted c.args.n c.in_ok-i.i c.try_from.result c.args.x (sym c.ok.ensures.value ∙ c.in_ok-i.was) (rw q at c.try_from.ensures)
+returns c = let q = to_z-of_z c.ranges.number in c.then_some.ensures ∙ converted c.args.buses c.in_ok-i.i c.try_from.result c.args.number (sym c.ok.ensures.value ∙ c.in_ok-i.was) (rw q at c.try_from.ensures)

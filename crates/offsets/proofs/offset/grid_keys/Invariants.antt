@@ -3,7 +3,7 @@ use Prim.Native.Nat.{◌≤◌, ◌-◌}
 use mathlib.Core.Path.{◌≡◌}
 use mathlib.Core.List.{◌++◌}
 use lib.ListN.{length, drop}
-use Rattle.order.specs.Table.{table}
+use Rattle.numbers.specs.Table.{table}
 use Rattle.offsets.specs.Offset.{grid_number}
 use Rattle.offsets.proofs.offset.grid_keys.Given as goal
 

@@ -11,4 +11,4 @@ pub returns : goal.returns
 returns c =
     let e : (2 * c.args.search + 1) * (2 * c.args.search + 1) ≡ suc (2 * c.args.search) * suc (2 * c.args.search) = omega arith in
     let g = grid_offsets _ _ _ _ _ _ _ e c.grid_keys.ensures c.number_first.ensures c.sort_part.ensures.order_after in
-    (e, g, subst (Complete c.args.search) (sym g) (offsets_complete c.args.search c.requires.0))
+    record { how_many = e; are_offsets = g; complete = subst (Complete c.args.search) (sym g) (offsets_complete c.args.search c.requires.search_fits) }

@@ -3,7 +3,7 @@ use Prim.Native.Nat.{◌≤◌, ◌<◌, ◌+◌, ◌*◌}
 use mathlib.Core.Path.{refl, sym}
 use native.Mathlib.Omega.{arith}
 use lib.ListN.{length, get_or}
-use Rattle.order.proofs.Strides.{get_d_strided, length_strided}
+use Rattle.numbers.proofs.order.Strides.{get_d_strided, length_strided}
 use Rattle.network.specs.Views.{order_in}
 use Rattle.placement.proofs.Placing.{placed_none, placed_more, placed_end, holds_of, fresh_of, turn_below}
 use Rattle.placement.proofs.search.place_all.Goals as goal
@@ -11,25 +11,57 @@ use Rattle.placement.proofs.search.place_all.Goals as goal
 pub loop-p-init : goal.loop-p-init
 loop-p-init c = (omega arith, refl, refl, refl, refl, placed_none _ _ _ _ _ _ _ _ _)
 
-pub place_station-most-requires-clause-s_in_bounds : goal.place_station-most-requires-clause-s_in_bounds
-place_station-most-requires-clause-s_in_bounds c = let h : get_or c.args.measured.now.counts.now (2 * c.loop-p.p + 1) 0 < c.args.measured.now.k = turn_below _ _ _ _ c.requires.turns (omega arith) in let g : c.loop-p.p < length (order_in c.args.r c.args.measured.now.counts.now) = rw (length_strided 2 1 0 c.args.r c.args.measured.now.counts.now) (omega arith) in let q : c.loop-p.p ≤ length (order_in c.args.r c.args.measured.now.counts.now) = omega arith in (omega (arith, h, c.requires.search_bound), omega (arith, h, c.requires.search_bound, c.loop-p.invariant.1), omega (arith, h, c.requires.search_bound, c.loop-p.invariant.2), omega (arith, c.requires.search_bound, c.loop-p.invariant.3), omega (arith, c.requires.search_bound, c.loop-p.invariant.4))
+pub place_station-most-requires-clause-blocks_room : goal.place_station-most-requires-clause-blocks_room
+place_station-most-requires-clause-blocks_room c =
+    let h : get_or c.args.measured.now.counts.now (2 * c.loop-p.p + 1) 0 < c.args.measured.now.k = turn_below _ _ _ _ c.requires.turns (omega arith) in
+    let g : c.loop-p.p < length (order_in c.args.occupied c.args.measured.now.counts.now) = rw (length_strided 2 1 0 c.args.occupied c.args.measured.now.counts.now) (omega arith) in
+    let q : c.loop-p.p ≤ length (order_in c.args.occupied c.args.measured.now.counts.now) = omega arith in
+    omega (arith, h)
 
-pub place_station-most-requires-clause-holds : goal.place_station-most-requires-clause-holds
-place_station-most-requires-clause-holds c = let h : get_or c.args.measured.now.counts.now (2 * c.loop-p.p + 1) 0 < c.args.measured.now.k = turn_below _ _ _ _ c.requires.turns (omega arith) in let g : c.loop-p.p < length (order_in c.args.r c.args.measured.now.counts.now) = rw (length_strided 2 1 0 c.args.r c.args.measured.now.counts.now) (omega arith) in let q : c.loop-p.p ≤ length (order_in c.args.r c.args.measured.now.counts.now) = omega arith in (
-  holds_of _ _ _ _ _ _ _ _ _ _ _ _ c.requires.turns c.loop-p.invariant.5 q (omega (arith, c.requires.search_bound, c.loop-p.invariant.2)),
-  fresh_of _ _ _ _ _ _ _ _ _ _ _ _ c.requires.turns c.loop-p.invariant.5 q g _ (sym (get_d_strided 2 1 0 c.args.r c.loop-p.p c.args.measured.now.counts.now 0 (omega arith))),
-)
+pub place_station-most-requires-clause-places_room : goal.place_station-most-requires-clause-places_room
+place_station-most-requires-clause-places_room c =
+    let h : get_or c.args.measured.now.counts.now (2 * c.loop-p.p + 1) 0 < c.args.measured.now.k = turn_below _ _ _ _ c.requires.turns (omega arith) in
+    let g : c.loop-p.p < length (order_in c.args.occupied c.args.measured.now.counts.now) = rw (length_strided 2 1 0 c.args.occupied c.args.measured.now.counts.now) (omega arith) in
+    let q : c.loop-p.p ≤ length (order_in c.args.occupied c.args.measured.now.counts.now) = omega arith in
+    omega (arith, h, c.requires.places_room, c.loop-p.invariant.1)
+
+pub place_station-most-requires-clause-boxes_room : goal.place_station-most-requires-clause-boxes_room
+place_station-most-requires-clause-boxes_room c =
+    let h : get_or c.args.measured.now.counts.now (2 * c.loop-p.p + 1) 0 < c.args.measured.now.k = turn_below _ _ _ _ c.requires.turns (omega arith) in
+    let g : c.loop-p.p < length (order_in c.args.occupied c.args.measured.now.counts.now) = rw (length_strided 2 1 0 c.args.occupied c.args.measured.now.counts.now) (omega arith) in
+    let q : c.loop-p.p ≤ length (order_in c.args.occupied c.args.measured.now.counts.now) = omega arith in
+    omega (arith, h, c.requires.boxes_room, c.loop-p.invariant.2)
+
+pub place_station-most-requires-clause-keys_room : goal.place_station-most-requires-clause-keys_room
+place_station-most-requires-clause-keys_room c =
+    omega (arith, c.requires.keys_room, c.loop-p.invariant.3)
+
+pub place_station-most-requires-clause-sorted_room : goal.place_station-most-requires-clause-sorted_room
+place_station-most-requires-clause-sorted_room c =
+    omega (arith, c.requires.sorted_room, c.loop-p.invariant.4)
+
+pub place_station-most-requires-clause-boxes_kept : goal.place_station-most-requires-clause-boxes_kept
+place_station-most-requires-clause-boxes_kept c =
+    let g : c.loop-p.p < length (order_in c.args.occupied c.args.measured.now.counts.now) = rw (length_strided 2 1 0 c.args.occupied c.args.measured.now.counts.now) (omega arith) in
+    let q : c.loop-p.p ≤ length (order_in c.args.occupied c.args.measured.now.counts.now) = omega arith in
+    holds_of _ _ _ _ _ _ _ _ _ _ _ _ c.requires.turns c.loop-p.invariant.5 q (omega (arith, c.requires.boxes_room, c.loop-p.invariant.2))
+
+pub place_station-most-requires-clause-not_passed : goal.place_station-most-requires-clause-not_passed
+place_station-most-requires-clause-not_passed c =
+    let g : c.loop-p.p < length (order_in c.args.occupied c.args.measured.now.counts.now) = rw (length_strided 2 1 0 c.args.occupied c.args.measured.now.counts.now) (omega arith) in
+    let q : c.loop-p.p ≤ length (order_in c.args.occupied c.args.measured.now.counts.now) = omega arith in
+    fresh_of _ _ _ _ _ _ _ _ _ _ _ _ c.requires.turns c.loop-p.invariant.5 q g _ (sym (get_d_strided 2 1 0 c.args.occupied c.loop-p.p c.args.measured.now.counts.now 0 (omega arith)))
 
 pub loop-p-preserved : goal.loop-p-preserved
 loop-p-preserved c =
-    let h : c.loop-p.p < length (order_in c.args.r c.args.measured.now.counts.now) = rw (length_strided 2 1 0 c.args.r c.args.measured.now.counts.now) (omega (arith, c.loop-p-test.true)) in (
+    let h : c.loop-p.p < length (order_in c.args.occupied c.args.measured.now.counts.now) = rw (length_strided 2 1 0 c.args.occupied c.args.measured.now.counts.now) (omega (arith, c.loop-p-test.true)) in (
       omega (arith, c.loop-p-test.true),
       omega (arith, c.place_station-most.auto, c.loop-p.invariant.1),
       omega (arith, c.place_station-most.auto, c.loop-p.invariant.2),
       omega (arith, c.place_station-most.auto, c.loop-p.invariant.3),
       omega (arith, c.place_station-most.auto, c.loop-p.invariant.4),
-      placed_more c.args.m c.args.measured.now.k c.args.measured.now.blocks.now _ _ _ c.requires.turns c.loop-p.p _ h (sym (get_d_strided 2 1 0 c.args.r c.loop-p.p c.args.measured.now.counts.now 0 (omega (arith, c.loop-p-test.true))))
-          _ _ _ _ _ _ _ _ _ _ (omega (arith, c.requires.search_bound, c.loop-p.invariant.1)) (omega (arith, c.requires.search_bound, c.loop-p.invariant.2)) c.place_station-most.ensures c.loop-p.invariant.5,
+      placed_more c.args.measures c.args.measured.now.k c.args.measured.now.blocks.now _ _ _ c.requires.turns c.loop-p.p _ h (sym (get_d_strided 2 1 0 c.args.occupied c.loop-p.p c.args.measured.now.counts.now 0 (omega (arith, c.loop-p-test.true))))
+          _ _ _ _ _ _ _ _ _ _ (omega (arith, c.requires.places_room, c.loop-p.invariant.1)) (omega (arith, c.requires.boxes_room, c.loop-p.invariant.2)) c.place_station-most.ensures c.loop-p.invariant.5,
     )
 
 pub returns : goal.returns

@@ -17,14 +17,14 @@ loop-s-preserved c =
       | then-is_occupied w ↦ rw w.frames-is ((
         omega arith,
         omega (arith, w.put_box.auto, c.loop-s.invariant.1),
-        ap (boxes_in (c.loop-s.s + 1)) w.put_box.ensures ∙ boxes_yes c.args.m c.args.measured.now.k c.args.measured.now.counts.now c.args.measured.now.blocks.now c.args.places.now c.loop-s.s c.loop-s.frames _ c.loop-s-test.true
-            (omega (arith, c.requires, c.loop-s.invariant.1)) (has_buses _ _ c.is_occupied.ensures w.if-is_occupied.true) w.station_box.ensures c.loop-s.invariant.2,
+        ap (boxes_in (c.loop-s.s + 1)) w.put_box.ensures ∙ boxes_yes c.args.measures c.args.measured.now.k c.args.measured.now.counts.now c.args.measured.now.blocks.now c.args.places.now c.loop-s.s c.loop-s.frames _ c.loop-s-test.true
+            (omega (arith, c.requires.frames_room, c.loop-s.invariant.1)) (has_buses _ _ c.is_occupied.ensures w.if-is_occupied.true) w.station_box.ensures c.loop-s.invariant.2,
       ))
       | else-is_occupied w ↦ rw w.frames-is ((
         omega arith,
         omega (arith, w.put_box-else-is_occupied.auto, c.loop-s.invariant.1),
-        ap (boxes_in (c.loop-s.s + 1)) w.put_box-else-is_occupied.ensures ∙ boxes_no c.args.m c.args.measured.now.k c.args.measured.now.counts.now c.args.measured.now.blocks.now c.args.places.now c.loop-s.s c.loop-s.frames c.loop-s-test.true
-            (omega (arith, c.requires, c.loop-s.invariant.1)) (has_none _ _ c.is_occupied.ensures w.if-is_occupied.false) c.loop-s.invariant.2,
+        ap (boxes_in (c.loop-s.s + 1)) w.put_box-else-is_occupied.ensures ∙ boxes_no c.args.measures c.args.measured.now.k c.args.measured.now.counts.now c.args.measured.now.blocks.now c.args.places.now c.loop-s.s c.loop-s.frames c.loop-s-test.true
+            (omega (arith, c.requires.frames_room, c.loop-s.invariant.1)) (has_none _ _ c.is_occupied.ensures w.if-is_occupied.false) c.loop-s.invariant.2,
       ))
     ]
 

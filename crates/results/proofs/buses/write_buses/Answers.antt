@@ -2,8 +2,8 @@
 use mathlib.Core.Path.{◌≡◌, refl, ap}
 use native.Mathlib.Omega.{arith}
 use lib.ListN.{length}
-use Rattle.order.specs.Table.{table}
-use Rattle.bars.specs.Bar.{position}
+use Rattle.numbers.specs.Table.{table}
+use Rattle.stations.specs.Bar.{position}
 use Rattle.runs.specs.Lists.{flat, point_numbers, bar_numbers}
 use Rattle.results.specs.Stages.Bars.{bars_in}
 use Rattle.results.proofs.Writes.{all_written}

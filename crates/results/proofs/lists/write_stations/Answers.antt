@@ -2,7 +2,7 @@
 use mathlib.Core.Path.{◌≡◌, ap}
 use native.Mathlib.Omega.{arith}
 use lib.Ieee.{nan}
-use Rattle.order.specs.Table.{strided}
+use Rattle.numbers.specs.Table.{strided}
 use Rattle.network.specs.Views.{boxes_in}
 use Rattle.runs.specs.Lists.{flat, box_numbers}
 use Rattle.results.proofs.Writes.{all_written}
@@ -16,7 +16,7 @@ pub loop-s-preserved : goal.loop-s-preserved
 loop-s-preserved c = framed_more _ _ _ _ _ _ _ _ _ (omega arith) (omega arith) c.box_at.ensures c.put_box.ensures c.loop-s.invariant
 
 pub returns-clause-boxes_after : goal.returns-clause-boxes_after
-returns-clause-boxes_after c = let e : c.loop-s.s ≡ c.args.k = omega arith in all_written _ _ _ _ _ (ap (λ n. flat box_numbers (boxes_in n c.args.frames.now)) e) c.loop-s.invariant.boxes
+returns-clause-boxes_after c = let e : c.loop-s.s ≡ c.args.station_count = omega arith in all_written _ _ _ _ _ (ap (λ n. flat box_numbers (boxes_in n c.args.frames.now)) e) c.loop-s.invariant.boxes
 
 pub returns-clause-scales_after : goal.returns-clause-scales_after
-returns-clause-scales_after c = let e : c.loop-s.s ≡ c.args.k = omega arith in all_written _ _ _ _ _ (ap (λ n. strided 3 2 nan n c.args.blocks.now) e) c.loop-s.invariant.scales
+returns-clause-scales_after c = let e : c.loop-s.s ≡ c.args.station_count = omega arith in all_written _ _ _ _ _ (ap (λ n. strided 3 2 nan n c.args.blocks.now) e) c.loop-s.invariant.scales

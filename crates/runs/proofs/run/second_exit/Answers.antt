@@ -1,7 +1,7 @@
 -- Answers for `runs::run::second_exit`.
 use mathlib.Core.Path.{ap, ◌∙◌}
 use native.Mathlib.Omega.{arith}
-use Rattle.geometry.specs.Plane.{point_at}
+use Rattle.plane.specs.Plane.{point_at}
 use Rattle.runs.proofs.run.second_exit.Goals as goal
 
 pub returns : goal.returns

@@ -2,5 +2,5 @@
 use Rattle.small.proofs.Parts.{held_by}
 use Rattle.small.proofs.draw.draw_small.Goals as goal
 
-pub returns : goal.returns
-returns c = held_by _ _ _ _ _ _ _ _ _ c.requires c.tx_schematic_layout.ensures
+pub returns-clause-is : goal.returns-clause-is
+returns-clause-is c = held_by _ _ _ _ _ _ _ _ _ (c.requires.few_stations, c.requires.few_crossings) c.tx_schematic_layout.ensures.is

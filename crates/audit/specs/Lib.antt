@@ -1,0 +1,10 @@
+pub mod Held
+pub mod Fit
+pub mod Scale
+pub mod Figure
+pub mod Relative
+pub mod Through
+pub mod Overlaps
+pub mod Drawn
+pub mod Answer
+pub mod Stages

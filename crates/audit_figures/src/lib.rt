@@ -1,4 +1,0 @@
-// The figures of an accepted audit.
-#![tactic(auto)]
-
-pub mod stages;

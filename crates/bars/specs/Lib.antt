@@ -1,2 +1,0 @@
-pub mod Bar
-pub mod Exit

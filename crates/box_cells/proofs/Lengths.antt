@@ -1,8 +1,0 @@
--- The needed length of the list that boxes are entered in: it grows with the stations. Assumes nothing.
-use Prim.Native.Nat.{ℕ, ◌≤◌}
-use native.Mathlib.Omega.{arith}
-use Rattle.box_cells.specs.Length.{index_length}
-
-pub index_least : (n : ℕ) → n ≤ index_length n
-unfolding index_length
-index_least n = omega arith

@@ -1,2 +1,0 @@
-pub mod Length
-pub mod Stages

@@ -1,8 +1,0 @@
--- Answers for `channel::ends::reach_on`.
-use lib.Ieee.{of_bits}
-use Rattle.channel.specs.Channel.{reach_on}
-use Rattle.channel.proofs.ends.reach_on.Goals as goal
-
-pub returns-else-a : goal.returns-else-a
-unfolding reach_on of_bits
-returns-else-a c = simp (← c.abs-a.ensures, c.if-a.false)

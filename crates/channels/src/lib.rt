@@ -1,0 +1,16 @@
+//! The mesh's channels between stations: the walk of a line across them, and the spacing of the
+//! lines that cross one.
+#![tactic(auto)]
+
+/// The stretch of a channel where lines may cross.
+pub mod channel;
+/// Crossings by their channel.
+pub mod grouping;
+/// Half-edges by the corner that they start at.
+pub mod half_edges;
+/// Laws of channels.
+pub mod laws;
+/// Crossings placed along a channel.
+pub mod spacing;
+/// The walk of a line across the mesh.
+pub mod walk;

@@ -1,9 +1,0 @@
--- What the loop of `corner::cheapest` keeps.
-use mathlib.Core.Path.{◌≡◌}
-use lib.ListN.{drop}
-use Rattle.std.specs.Prelude.{None}
-use Rattle.corner.specs.Corner.{cheapest}
-use Rattle.corner.proofs.cheapest.Given as goal
-
-abbrev pub invariant-loop-c : goal.invariant-loop-c
-invariant-loop-c l = cheapest l.p l.q None l.corners ≡ cheapest l.p l.q l.best (drop l.c-index l.corners)

@@ -1,3 +1,0 @@
-pub mod Route
-pub mod Gap
-pub mod Stages

@@ -1,3 +1,0 @@
-pub mod Detour
-pub mod Cases
-pub mod Stages

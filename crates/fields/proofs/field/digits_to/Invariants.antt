@@ -1,9 +1,0 @@
--- What the loops of `fields::field::digits_to` keep.
-use mathlib.Core.Path.{◌≡◌}
-use Prim.Native.Nat.{◌≤◌, ◌-◌}
-use lib.ListN.{drop}
-use Rattle.fields.specs.Field.{digits_to}
-use Rattle.fields.proofs.field.digits_to.Given as goal
-
-abbrev pub invariant-loop-i : goal.invariant-loop-i
-invariant-loop-i l = (l.v ≤ l.most) × (digits_to l.stop l.first (drop l.at l.text) ≡ digits_to l.stop l.v (drop l.i l.text))

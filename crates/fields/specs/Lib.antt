@@ -1,3 +1,0 @@
-pub mod Field
-pub mod Spell
-pub mod Stages

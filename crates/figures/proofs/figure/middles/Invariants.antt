@@ -1,8 +1,0 @@
--- What the loops of `figures::figure::middles` keep.
-use mathlib.Core.Path.{◌≡◌}
-use Rattle.network.specs.Views.{points_in, boxes_in}
-use Rattle.figures.specs.Figure.{middles}
-use Rattle.figures.proofs.figure.middles.Given as goal
-
-abbrev pub invariant-loop-s : goal.invariant-loop-s
-invariant-loop-s l = points_in l.s l.points ≡ middles (boxes_in l.s l.boxes)

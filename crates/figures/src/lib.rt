@@ -1,4 +1,0 @@
-// The audit's displacement and spacing.
-#![tactic(auto)]
-
-pub mod figure;

@@ -1,9 +1,0 @@
--- Answers for `first_hit::search::look_chains`.
-use Rattle.first_hit.proofs.Turns.{chains_turn, chains_end}
-use Rattle.first_hit.proofs.search.look_chains.Goals as goal
-
-pub loop-c-preserved : goal.loop-c-preserved
-loop-c-preserved c = chains_turn _ _ _ _ _ _ _ _ _ _ _ _ _ c.loop-c-test.true c.look_chain-n.ensures c.loop-c.invariant
-
-pub returns : goal.returns
-returns c = chains_end _ _ _ _ _ _ _ _ _ _ _ _ c.loop-c-test.false c.loop-c.invariant

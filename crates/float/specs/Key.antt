@@ -1,6 +1,0 @@
--- 01, Arithmetic: a bit pattern's place in the order of `total_cmp`, IEEE 754's totalOrder (specs/TotalOrder.antt). Definitions only.
-use Rattle.std.specs.Prelude.{ℕ, ◌+◌, ◌-◌, ◌^◌, cond, nat_le}
-
--- the negative patterns turned round, below the others
-unfoldable pub key_of : ℕ → ℕ
-key_of b = cond (nat_le (2 ^ 63) b) (2 ^ 64 - 1 - b) (b + 2 ^ 63)

@@ -1,4 +1,0 @@
-pub mod Plane
-pub mod Clip
-pub mod Entry
-pub mod Cases

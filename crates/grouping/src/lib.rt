@@ -1,4 +1,0 @@
-// Crossings grouped by channel, in lent lists.
-#![tactic(auto)]
-
-pub mod group;

@@ -1,8 +1,0 @@
--- What the loop of `half_edges::widen` keeps.
-use Prim.Native.Nat.{ℕ, ◌<◌}
-use mathlib.Core.Path.{◌≡◌}
-use lib.ListN.{get_or}
-use Rattle.half_edges.proofs.widen.Given as goal
-
-abbrev pub invariant-loop-i : goal.invariant-loop-i
-invariant-loop-i l = (k : ℕ) → k < l.i → get_or l.keys k 0 ≡ get_or l.corners k 0

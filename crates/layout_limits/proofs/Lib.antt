@@ -1,0 +1,2 @@
+-- Laws of the refusals by input.
+pub mod Inputs

@@ -1,2 +1,0 @@
-// What `drawlist` writes for a text: definitions only (specs).
-#![tactic(auto)]

@@ -1,4 +1,0 @@
-pub mod Line
-pub mod Input
-pub mod LinePlaces
-pub mod Output

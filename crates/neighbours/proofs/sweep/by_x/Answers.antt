@@ -1,6 +1,0 @@
--- Answers for `neighbours::sweep::by_x`.
-use Rattle.neighbours.proofs.Numbers.{numbered_sort}
-use Rattle.neighbours.proofs.sweep.by_x.Goals as goal
-
-pub returns-clause-swept : goal.returns-clause-swept
-returns-clause-swept c = numbered_sort _ _ _ _ _ c.keys_by_x-r.ensures.numbered c.sort_part.ensures.order_after

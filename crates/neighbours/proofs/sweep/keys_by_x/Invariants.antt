@@ -1,6 +1,0 @@
--- What the loops of `neighbours::sweep::keys_by_x` keep.
-use Rattle.neighbours.specs.Stages.Sweep.{Numbered}
-use Rattle.neighbours.proofs.sweep.keys_by_x.Given as goal
-
-abbrev pub invariant-loop-i : goal.invariant-loop-i
-invariant-loop-i l = Numbered l.points.xy.now l.i l.keys l.order

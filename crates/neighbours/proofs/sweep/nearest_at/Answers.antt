@@ -1,6 +1,0 @@
--- Answers for `neighbours::sweep::nearest_at`.
-use Rattle.neighbours.proofs.Sweeps.{least_nearest}
-use Rattle.neighbours.proofs.sweep.nearest_at.Goals as goal
-
-pub returns : goal.returns
-returns c = least_nearest _ _ _ c.args.sweep.now.swept _ c.requires _ c.nearest_left.ensures

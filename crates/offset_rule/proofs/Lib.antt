@@ -1,2 +1,0 @@
--- Laws of the table of offsets.
-pub mod Rule

@@ -1,6 +1,0 @@
--- Answers for `overlaps::count_overlaps`.
-use Rattle.overlaps.proofs.Sweeps.{lefts_pairs}
-use Rattle.overlaps.proofs.count_overlaps.Goals as goal
-
-pub returns : goal.returns
-returns c = lefts_pairs _ _ _ _ _ _ _ c.by_left-n.ensures.lefts c.count_pairs.ensures

@@ -1,2 +1,0 @@
-pub mod Overlaps
-pub mod Stages

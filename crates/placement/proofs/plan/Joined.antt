@@ -1,0 +1,58 @@
+-- What each stage ensures, joined.
+-- Assumes nothing.
+use Prim.Native.Nat.{ℕ}
+use mathlib.Core.Path.{◌≡◌, ap, ◌∙◌}
+use mathlib.Core.List.{List}
+use lib.IntN.{ℤ}
+use lib.ListN.{length}
+use lib.Ieee.{Float}
+use Rattle.numbers.specs.Table.{table, strided}
+use Rattle.plane.specs.declared.geometry.Point.{Point}
+use Rattle.network.specs.declared.options.Options.{Options}
+use Rattle.network.specs.declared.words.Kind.{Kind}
+use Rattle.network.specs.Words.{bus_counts, kinds}
+use Rattle.network.specs.Seed as Seed
+use Rattle.network.specs.Views.{counts_in, columns_in, from_rows_in, to_rows_in, points_in}
+use Rattle.stations.specs.Column as Column
+use Rattle.stations.specs.Row as Row
+use Rattle.stations.specs.Size as Size
+use Rattle.stations.specs.Unit as Unit
+use Rattle.stations.specs.Scale as Scale
+use Rattle.stations.specs.Stages.Views.{sizes_in, scales_in, row_counts_in}
+use Rattle.stations.proofs.sizes.Blocks.{sizes_view}
+use Rattle.placement.specs.Stages.Plan.{Interiors}
+
+module _ (o : Options) (sub kv : List ℕ) (from to : List ℤ) (service : List ℕ) (xy : List Float) (k : ℕ) where
+  ks : List Kind
+  ks = kinds sub from to service
+
+  ss : List Point
+  ss = Seed.seeds sub xy
+
+  pub interiors_joined : (unit : Float) (st₁ st₂ st buses ends : List ℕ) (places blocks : List Float)
+      → counts_in k st₁ ≡ bus_counts sub
+      → points_in k places ≡ Seed.seeds sub xy
+      → columns_in (length sub) buses ≡ Column.columns sub kv
+      → counts_in k st₂ ≡ counts_in k st₁
+      → from_rows_in (length from) ends ≡ Row.from_rows sub (points_in k places) (kinds sub from to service)
+      → to_rows_in (length from) ends ≡ Row.to_rows sub (points_in k places) (kinds sub from to service)
+      → strided 2 1 0 k st ≡ table (Row.rows_in sub (kinds sub from to service)) k
+      → counts_in k st ≡ counts_in k st₂
+      → unit ≡ Unit.unit_for o.fill (Unit.spacing (points_in k places) (counts_in k st)) (Unit.typical (Size.sizes_for o.gaps (counts_in k st) (row_counts_in k st)) (counts_in k st))
+      → sizes_in k blocks ≡ Size.sizes_for o.gaps (counts_in k st) (row_counts_in k st)
+      → scales_in k blocks ≡ Scale.scales o (points_in k places) (counts_in k st) (Unit.spacing (points_in k places) (counts_in k st))
+      → Interiors o sub kv from to service xy k unit st buses ends places blocks
+  unfolding ks ss
+  interiors_joined unit st₁ st₂ st buses ends places blocks c₁ p col c₂ fr tr rs c₃ u z sc =
+      let c : counts_in k st ≡ bus_counts sub = c₃ ∙ c₂ ∙ c₁ in
+      let v : Size.sizes_for o.gaps (counts_in k st) (row_counts_in k st) ≡ Size.sizes o.gaps sub ks (bus_counts sub) = sizes_view _ _ _ _ _ _ c rs in
+      record {
+        counts = c;
+        columns = col;
+        from_rows = fr ∙ ap (λ (z : List Point). Row.from_rows sub z ks) p;
+        to_rows = tr ∙ ap (λ (z : List Point). Row.to_rows sub z ks) p;
+        seeds = p;
+        sizes = z ∙ v;
+        scales = sc ∙ cc (p, c);
+        unit_is = u ∙ cc (p, c, v);
+      }

@@ -1,0 +1,9 @@
+pub mod Plane
+pub mod Clip
+pub mod Entry
+pub mod Cases
+pub mod Cross
+pub mod Overlap
+pub mod Near
+pub mod Laws
+pub mod Stages

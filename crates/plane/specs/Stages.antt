@@ -1,0 +1,4 @@
+pub mod Window
+pub mod Cells
+pub mod Kept
+pub mod Sweep

@@ -1,8 +1,0 @@
--- Answers for `ranking::clear_counters`.
-use mathlib.Core.Path.{◌≡◌}
-use native.Mathlib.Omega.{arith}
-use Rattle.ranking.proofs.Walking.{clear_start, clear_step}
-use Rattle.ranking.proofs.clear_counters.Goals as goal
-
-pub loop-s-preserved : goal.loop-s-preserved
-loop-s-preserved c = clear_step _ _ (omega arith) _ _ (omega arith) c.loop-s.invariant

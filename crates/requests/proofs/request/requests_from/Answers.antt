@@ -1,9 +1,0 @@
--- Answers for `requests::request::requests_from`.
-use Rattle.std.proofs.Common.{rules, tests, ℕ, ◌+◌}
-use Rattle.network.specs.Words.{kind_of}
-use Rattle.requests.specs.Stages.Requests.{nothing_at, request_of, lists}
-use Rattle.requests.proofs.Made.{all_made}
-use Rattle.requests.proofs.request.requests_from.Goals as goal
-
-pub returns-clause-filled_to : goal.returns-clause-filled_to
-returns-clause-filled_to c = λ i h. all_made _ (λ (j : ℕ). request_of (lists c.args.net.now.sub.now c.args.laid.now.measures c.args.laid.now.buses.now c.args.laid.now.ends.now c.args.laid.now.blocks.now c.args.laid.now.places.now c.args.frames.now) (c.args.start + j) (kind_of c.args.net.now.sub.now c.args.net.now.from.now c.args.net.now.to.now c.args.net.now.service.now (c.args.start + j))) _ _ 16 c.from_fn.ensures.items.each (λ j y q k. search (rules, tests)) i (nothing_at 0) h

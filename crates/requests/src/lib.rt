@@ -1,4 +1,0 @@
-// Line requests, as a lent list of records.
-#![tactic(auto)]
-
-pub mod request;

@@ -1,2 +1,0 @@
-pub mod Led
-pub mod Routed

@@ -1,0 +1,8 @@
+-- What the loop of `routing::rounds::space::round` keeps.
+use mathlib.Core.Path.{◌≡◌}
+use Rattle.routing.specs.Stages.RoundLists.{spaced_in}
+use Rattle.routing.specs.Stages.Lent.{fixed_lists}
+use Rattle.routing.proofs.rounds.space.round.Given as goal
+
+abbrev pub invariant-loop-c : goal.invariant-loop-c
+invariant-loop-c l = l.along ≡ spaced_in l.stretches.occupied (fixed_lists l.stretches.fixed) l.c l.initial.along

@@ -1,0 +1,9 @@
+-- What the loops of `routing::tracing::lines::store_all` keep.
+use mathlib.Core.Path.{◌≡◌}
+use lib.ListN.{length}
+use Rattle.routing.specs.Stages.Store.{stock}
+use Rattle.routing.proofs.tracing.Filling.{Filling}
+use Rattle.routing.proofs.tracing.lines.store_all.Given as goal
+
+abbrev pub invariant-loop-e : goal.invariant-loop-e
+invariant-loop-e l = (length l.trail ≡ length l.initial.trail) × (length l.ends ≡ length l.initial.ends) × (length l.numbers ≡ length l.initial.numbers) × (length l.places ≡ length l.initial.places) × Filling l.branch_count l.turned.mesh.corners.now l.turned.mesh.twins.now l.points l.initial.ends l.e (stock l.counts.channels l.counts.crossings l.ends l.numbers l.places)

@@ -1,0 +1,145 @@
+// The crossings of one walk, stored one after another (docs/RULES.md, 'Crossings').
+ghost use Rattle.std.specs.Prelude.{◌≡◌, ℕ, ◌+◌, ◌*◌, ◌≤◌, ◌<◌, length, get_or, set};
+ghost use Rattle.network.specs.Mesh.{low_at, high_at};
+ghost use Rattle.routing.specs.Route.{cross, cross_all};
+ghost use Rattle.routing.specs.Stages.Store.{place_on, stock, Grown};
+
+use crate::crossings::edge_channels::{channel_for, count_with};
+use channels::walk::trace::Line;
+use network::mesh::end_at;
+use numbers::order::at;
+use plane::crossing::{Param, line_param};
+use plane::geometry::point_at;
+
+/// The lower corner of a half-edge.
+#[tactic(auto, unfolding(network::specs::Mesh::low_at))]
+pub(crate) fn low_at(corners: &[u32], edge: u32) -> u32
+    ensures { result ≡ low_at corners.now edge }
+{
+    at(corners, edge as usize).min(end_at(corners, edge as usize))
+}
+
+/// The higher corner of a half-edge.
+#[tactic(auto, unfolding(network::specs::Mesh::high_at))]
+pub(crate) fn high_at(corners: &[u32], edge: u32) -> u32
+    ensures { result ≡ high_at corners.now edge }
+{
+    at(corners, edge as usize).max(end_at(corners, edge as usize))
+}
+
+// Where the line crosses a half-edge, from 0 at its lower corner to 1; 1/2 where they are parallel.
+#[tactic(auto, unfolding(crate::specs::Stages::Store::place_on, plane::specs::Cross::place_or))]
+fn place_on(line: &Line<'_>, edge: u32) -> f64
+    ensures { result
+        ≡ place_on line.now.turned.mesh.corners.now line.now.points.now line.now.start line.now.end
+        edge }
+{
+    let a = low_at(line.turned.mesh.corners, edge) as usize;
+    let b = high_at(line.turned.mesh.corners, edge) as usize;
+    match line_param(
+        point_at(line.points, line.start as usize),
+        point_at(line.points, line.end as usize),
+        point_at(line.points, a),
+        point_at(line.points, b),
+    ) {
+        Param::At(t) => t,
+        Param::Parallel => 0.5,
+    }
+}
+
+// Writes a crossing: its channel, its branch and its place.
+fn put_crossing(
+    number: usize,
+    channel: u32,
+    branch: u32,
+    place: f64,
+    numbers: &mut [u32],
+    places: &mut [f64],
+)
+    requires numbers_fit { 3 * number + 1 < length numbers.old }
+    requires places_fit { number < length places.old }
+    ensures numbers_after { numbers.new
+        ≡ set (set numbers.old (3 * number) channel) (3 * number + 1) branch }
+    ensures places_after { places.new ≡ set places.old number place }
+{
+    numbers[3 * number] = channel;
+    numbers[3 * number + 1] = branch;
+    places[number] = place;
+}
+
+// Stores the crossing of a branch's line with a half-edge, and answers how many channels there are
+// then, `channels` before.
+fn store_crossing(
+    line: &Line<'_>,
+    branch_count: u32,
+    branch: u32,
+    edge: u32,
+    number: usize,
+    channels: usize,
+    ends: &mut [u32],
+    numbers: &mut [u32],
+    places: &mut [f64],
+) -> usize
+    requires few_channels { channels < 0xffff_ffff }
+    requires edge_in_bounds { edge < length line.now.turned.mesh.corners.now }
+    requires ends_fit { 4 * (branch_count + length line.now.turned.mesh.corners.now) + 4
+        ≤ length ends.old }
+    requires numbers_fit { 3 * number + 1 < length numbers.old }
+    requires places_fit { number < length places.old }
+    ensures grown { (j : ℕ)
+        → Grown branch_count line.now.turned.mesh.corners.now line.now.points.now
+        (λ S s. cross S line.now.start line.now.end branch j edge s)
+        (stock channels number ends.old numbers.old places.old)
+        (stock result (number + 1) ends.new numbers.new places.new) }
+    ensures at_most_one_more { result ≤ channels + 1 }
+{
+    let t = place_on(line, edge);
+    let c = channel_for(&line.turned, branch_count, edge, channels, ends);
+    put_crossing(number, c as u32, branch, t, numbers, places);
+    count_with(channels, c)
+}
+
+/// Stores the crossings of a branch's line with the half-edges of a trail, from crossing number
+/// `first` on, and answers how many channels there are then, `channels` before.
+#[tactic(auto, using(crate::proofs::crossings::Growing::trailed))]
+pub(crate) fn store_trail(
+    line: &Line<'_>,
+    branch_count: u32,
+    branch: u32,
+    trail: &[u32],
+    first: usize,
+    channels: usize,
+    ends: &mut [u32],
+    numbers: &mut [u32],
+    places: &mut [f64],
+) -> usize
+    requires known_crossed { channels ≤ first }
+    requires few_crossings { first + length trail.now < 0xffff_ffff }
+    requires ends_fit { 4 * (branch_count + length line.now.turned.mesh.corners.now) + 4
+        ≤ length ends.old }
+    requires numbers_fit { 3 * (first + length trail.now) ≤ length numbers.old }
+    requires places_fit { first + length trail.now ≤ length places.old }
+    requires edges_in_bounds { (i : ℕ) → i < length trail.now
+        → get_or trail.now i 0 < length line.now.turned.mesh.corners.now }
+    ensures grown { Grown branch_count line.now.turned.mesh.corners.now line.now.points.now
+        (λ S s. cross_all S line.now.start line.now.end branch 0 trail.now s)
+        (stock channels first ends.old numbers.old places.old)
+        (stock result (first + length trail.now) ends.new numbers.new places.new) }
+    ensures known_crossed { result ≤ first + length trail.now }
+{
+    let mut known = channels;
+    for (i, &h) in trail.iter().enumerate() {
+        known = store_crossing(
+            line,
+            branch_count,
+            branch,
+            h,
+            first + i,
+            known,
+            ends,
+            numbers,
+            places,
+        );
+    }
+    known
+}

@@ -1,8 +1,0 @@
--- Answers for `seeds::clear_points`.
-use native.Mathlib.Omega.{arith}
-use lib.ListN.{length-take}
-use Rattle.seeds.proofs.Seeding.{zeroed}
-use Rattle.seeds.proofs.clear_points.Goals as goal
-
-pub returns : goal.returns
-returns c = zeroed _ _ _ _ (c.fill.ensures.after (λ y h. cc)) (simp length-take (omega (arith, c.requires)))

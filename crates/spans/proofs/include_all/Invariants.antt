@@ -1,6 +1,0 @@
--- What the loops of `spans::include_all` keep.
-use Rattle.spans.proofs.Rows.{Spanned}
-use Rattle.spans.proofs.include_all.Given as goal
-
-abbrev pub invariant-loop-e : goal.invariant-loop-e
-invariant-loop-e l = Spanned l.net.lists.sub.now l.net.lists.from.now l.net.lists.to.now l.net.lists.service.now l.ends l.e l.initial.buses l.buses

@@ -1,0 +1,9 @@
+pub mod Column
+pub mod Row
+pub mod Size
+pub mod Unit
+pub mod Doubles
+pub mod Scale
+pub mod Bar
+pub mod Exit
+pub mod Stages

@@ -1,8 +1,0 @@
--- Answers for `stored::number`.
-use Rattle.std.proofs.Common.{◌≡◌, rules, ◌∙◌}
-use Rattle.std.specs.List.{fold}
-use Rattle.stored.proofs.Numbers.{with_digit, folded}
-use Rattle.stored.proofs.number.Goals as goal
-
-pub returns : goal.returns
-returns c = let it : c.fold.result ≡ fold with_digit 0 c.args.digits.now = search rules in it ∙ folded c.args.digits.now

@@ -1,7 +1,0 @@
--- Answers for `stored::padded`.
-use Rattle.std.proofs.Common.{◌∙◌}
-use Rattle.stored.proofs.Numbers.{padded_is}
-use Rattle.stored.proofs.padded.Goals as goal
-
-pub returns : goal.returns
-returns c = c.number.ensures ∙ padded_is _ _ _ c.min-n.ensures c.copy_from_slice.ensures.after

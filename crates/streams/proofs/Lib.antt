@@ -1,0 +1,2 @@
+-- What fills the front of a buffer.
+mod Fronts

@@ -1,4 +1,0 @@
-// The audit's relative lengths.
-#![tactic(auto)]
-
-pub mod relative;

@@ -1,7 +1,0 @@
--- Answers for `survey::lines::lead_requests`.
-use native.Mathlib.Omega.{arith}
-use Rattle.survey.proofs.Leading.{along_all}
-use Rattle.survey.proofs.lines.lead_requests.Goals as goal
-
-pub returns : goal.returns
-returns c = along_all _ _ _ _ _ _ _ _ _ _ _ _ _ _ (omega arith) c.loop-i.invariant

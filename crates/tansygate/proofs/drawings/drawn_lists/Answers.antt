@@ -1,0 +1,10 @@
+-- Answers for `tansygate::drawings::drawn_lists`.
+use Rattle.std.proofs.Common.{rules, refl}
+use Rattle.tansygate.proofs.Drew.{laid_by}
+use Rattle.tansygate.proofs.drawings.drawn_lists.Goals as goal
+
+pub returns-clause-answer : goal.returns-clause-answer
+returns-clause-answer c = (laid_by _ _ _ _ _ _ _ _ _ _ c.tx_schematic_layout.ensures.is refl).0
+
+pub returns-clause-lists : goal.returns-clause-lists
+returns-clause-lists c = (laid_by _ _ _ _ _ _ _ _ _ _ c.tx_schematic_layout.ensures.is (search rules)).1

@@ -1,0 +1,4 @@
+pub mod Lists
+pub mod Work
+pub mod Drawn
+pub mod Audited

@@ -1,0 +1,9 @@
+pub mod Field
+pub mod Spell
+pub mod Line
+pub mod Input
+pub mod LinePlaces
+pub mod Output
+pub mod Words
+pub mod Laws
+pub mod Stages

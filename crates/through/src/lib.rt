@@ -1,4 +1,0 @@
-// The audit's lines through boxes.
-#![tactic(auto)]
-
-pub mod through;

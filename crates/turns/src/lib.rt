@@ -1,4 +1,0 @@
-// The order in which stations are placed.
-#![tactic(auto)]
-
-pub mod turns;

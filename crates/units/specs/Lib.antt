@@ -1,2 +1,0 @@
-pub mod Unit
-pub mod Doubles

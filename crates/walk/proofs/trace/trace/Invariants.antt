@@ -1,9 +1,0 @@
--- What the loops of `walk::trace::trace` keep.
-use Rattle.walk.proofs.Steps.{Going}
-use Prim.Native.Nat.{◌-◌, ◌≤◌}
-use lib.ListN.{length}
-use Rattle.geometry.specs.Plane.{point_at}
-use Rattle.walk.proofs.trace.trace.Given as goal
-
-abbrev pub invariant-loop-n : goal.invariant-loop-n
-invariant-loop-n l = Going l.line.turned.mesh.corners.now l.line.turned.mesh.twins.now (point_at l.line.points.now) l.line.start l.line.end l.initial.trail l.trail l.n l.x

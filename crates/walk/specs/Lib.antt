@@ -1,2 +1,0 @@
-pub mod Trace
-pub mod Cases
