@@ -44,7 +44,8 @@ enum {
     TANSYGATE_CROSSINGS = 10,         /* more crossings, cleared walks counted, than the crossing list holds */
     TANSYGATE_PIECES = 11,            /* more pieces than the piece lists hold */
     TANSYGATE_NO_FIT = 13,            /* the drawing handed in doesn't belong to the network */
-    TANSYGATE_VOLTAGE = 15            /* a voltage that is 0, negative, infinite or NaN */
+    TANSYGATE_VOLTAGE = 15,           /* a voltage that is 0, negative, infinite or NaN */
+    TANSYGATE_NO_FILL = 18            /* of the 64 fills none is drawn with a free place for each box */
 };
 
 /* A twin that isn't there. */
@@ -86,6 +87,56 @@ typedef struct {
 
 /* Draws a network into the lent lists. */
 tansygate_plotted tansygate_plot(
+    /* results */
+    double *positions, size_t positions_len,                /* 2n: x and y of each bar's middle */
+    double *bars, size_t bars_len,                          /* 4n: x0, y0, x1, y1 of each bus's bar */
+    double *boxes, size_t boxes_len,                        /* 4k: left, top, right, bottom of each station's box */
+    double *scales, size_t scales_len,                      /* k: each station's scale */
+    uint8_t *roles, size_t roles_len,                       /* m: each branch's role */
+    double *pieces, size_t pieces_len,                      /* any; 4 a piece: x0, y0, x1, y1 */
+    uint32_t *branches, size_t branches_len,                /* any; 1 a piece: its branch */
+    /* work lists */
+    uint32_t *stations, size_t stations_len,                /* 2n */
+    uint32_t *buses, size_t buses_len,                      /* 3n */
+    uint32_t *ends, size_t ends_len,                        /* 4m + 4L + 4 */
+    uint32_t *sorted, size_t sorted_len,                    /* n + 2m + L and at least 5n; also 1 a crossing */
+    uint32_t *spare, size_t spare_len,                      /* n + 2m + L; also 1 a crossing */
+    uint64_t *keys, size_t keys_len,                        /* n + 2m + L; also 1 a crossing */
+    double *places, size_t places_len,                      /* 2n + 4m */
+    double *blocks, size_t blocks_len,                      /* 3n */
+    double *frames, size_t frames_len,                      /* 4n */
+    double *path, size_t path_len,                          /* 2n + 3L + 16 */
+    /* The crossing list: these three and sorted, spare and keys. It holds as many crossings as each of the six
+       has room for; with 0 iterations or fewer than three occupied stations there are none. */
+    uint32_t *crossing_numbers, size_t crossing_numbers_len, /* any; 3 a crossing */
+    double *crossing_places, size_t crossing_places_len,    /* any; 1 a crossing */
+    double *crossing_ways, size_t crossing_ways_len,        /* any; 2 a crossing */
+    tansygate_settings options,
+    /* the network */
+    const uint32_t *sub, size_t sub_len,                    /* n: each bus's station */
+    const uint64_t *kv, size_t kv_len,                      /* n: each bus's voltage, as the bits of a double */
+    const int64_t *from, size_t from_len,                   /* m: each branch's first bus; one below 0 or from n up is unknown */
+    const int64_t *to, size_t to_len,                       /* m: its second bus */
+    const uint8_t *service, size_t service_len,             /* 0 open, else live; absent: live */
+    const double *xy, size_t xy_len,                        /* 2 a bus: x and y, y down; absent or not finite: (0, 0) */
+    /* a mesh over the occupied stations in the order of their numbers: three vertices a triangle, and the twin of each
+       half-edge or TANSYGATE_NO_TWIN; both of one length, a multiple of 3, at most 24,576 */
+    const uint32_t *corners, size_t corners_len,
+    const uint32_t *twins, size_t twins_len);
+
+/* Zeros where number isn't 0. */
+typedef struct {
+    uint32_t number;                  /* an answer */
+    uint32_t sixty_fourths;           /* the fill, in sixty-fourths: 1 to 64 */
+    size_t pieces;                    /* so many pieces stand in pieces and branches */
+    double unit;                      /* drawing units a block */
+    double left, top, right, bottom;  /* bounds of the drawing */
+} tansygate_filled;
+
+/* Draws a network with straight lines at the largest fill of 1/64 to 64/64 at which nothing refuses the drawing and
+   every box finds a free place (docs/RULES.md, 'Largest fill'); TANSYGATE_NO_FILL where there is no such fill. The lists
+   and what they hold are those of tansygate_plot; fill and route_iterations of the options aren't looked at. */
+tansygate_filled tansygate_largest_fill(
     /* results */
     double *positions, size_t positions_len,                /* 2n: x and y of each bar's middle */
     double *bars, size_t bars_len,                          /* 4n: x0, y0, x1, y1 of each bus's bar */

@@ -6,7 +6,7 @@ use crate::library::{self, options_of};
 use crate::mesh;
 use crate::network::{Mesh, Network, Options};
 use crate::networks::{network, Kind};
-use crate::tx_schematic::{tx_layout_quality, tx_schematic_layout, TxLayout};
+use crate::tx_schematic::{tx_layout_quality, tx_schematic_layout, TxLayout, TxLayoutInput};
 
 /// The lists that both calls of ours are lent.
 struct Lists {
@@ -14,6 +14,22 @@ struct Lists {
     wholes: Vec<Vec<u32>>,
     keys: Vec<u64>,
     roles: Vec<u8>,
+}
+
+/// A call of ours with these lists.
+macro_rules! called {
+    ($lists:ident, $function:path, $options:ident, $net:ident, $mesh:ident) => {{
+        let [positions, bars, boxes, scales, pieces, places, blocks, frames, path, crossing_places, ways] = &mut $lists.floats[..]
+        else {
+            unreachable!()
+        };
+        let [branches, stations, buses, ends, sorted, spare, numbers] = &mut $lists.wholes[..] else { unreachable!() };
+        $function(
+            positions, bars, boxes, scales, &mut $lists.roles, pieces, branches, stations, buses, ends, sorted, spare,
+            &mut $lists.keys, places, blocks, frames, path, numbers, crossing_places, ways, $options, &$net.sub, &$net.kv,
+            &$net.from, &$net.to, &$net.live, &$net.xy, &$mesh.corners, &$mesh.twins,
+        )
+    }};
 }
 
 impl Lists {
@@ -32,17 +48,11 @@ impl Lists {
     }
 
     fn layout(&mut self, options: library::Options, net: &Network, mesh: &Mesh) -> library::Plotted {
-        let [positions, bars, boxes, scales, pieces, places, blocks, frames, path, crossing_places, ways] =
-            &mut self.floats[..]
-        else {
-            unreachable!()
-        };
-        let [branches, stations, buses, ends, sorted, spare, numbers] = &mut self.wholes[..] else { unreachable!() };
-        library::layout(
-            positions, bars, boxes, scales, &mut self.roles, pieces, branches, stations, buses, ends, sorted, spare,
-            &mut self.keys, places, blocks, frames, path, numbers, crossing_places, ways, options, &net.sub, &net.kv,
-            &net.from, &net.to, &net.live, &net.xy, &mesh.corners, &mesh.twins,
-        )
+        called!(self, library::layout, options, net, mesh)
+    }
+
+    fn largest_fill(&mut self, options: library::Options, net: &Network, mesh: &Mesh) -> library::Filled {
+        called!(self, library::largest_fill, options, net, mesh)
     }
 }
 
@@ -122,6 +132,31 @@ pub fn measure(kind: Kind, stations: usize, branches: usize, iterations: i64, ti
     let mut judge = audit(&net, &drawing, net.stations());
     let audit = crate::by_turns(time, &mut || keep(judge()), &mut || keep(tx_layout_quality(black_box(&input), &drawing)));
     Ok([layout.0, layout.1, audit.0, audit.1])
+}
+
+/// The greatest k of 1 to 64 for which each station finds a free place in the original's layout at fill k/64; 0 if there is none.
+fn original_fill(input: &TxLayoutInput, options: &Options) -> u32 {
+    let at = |k: u32| Options { fill: f64::from(k) / 64.0, ..options.clone() }.original();
+    let free = |k: &u32| crate::all_free(|| tx_schematic_layout(input, &at(*k)));
+    (1..=64).filter(free).max().unwrap_or(0)
+}
+
+/// Our largest fill and the original's 64 layouts by turns: the seconds of both; what they answer where that differs.
+pub fn measure_fill(kind: Kind, stations: usize, branches: usize, time: f64) -> Result<[f64; 2], String> {
+    let (Case { net, options, drawing, .. }, _) = prepared(kind, stations, branches, 0);
+    let (input, mesh) = (net.original(), Mesh::default());
+    // Room for the pieces of all lines: none is ruled out for its pieces.
+    let mut lists = Lists::new(&net, &mesh, drawing.segment_edge.len() + 3 * branches, 0);
+    let (ours, original) = (lists.largest_fill(options_of(&options), &net, &mesh), original_fill(&input, &options));
+    if ours.sixty_fourths != original {
+        return Err(format!("answer {}, fill {}, the original's {original}", ours.number, ours.sixty_fourths));
+    }
+    let times = crate::by_turns(
+        time,
+        &mut || keep(lists.largest_fill(options_of(&options), black_box(&net), &mesh)),
+        &mut || keep(original_fill(black_box(&input), &options)),
+    );
+    Ok([times.0, times.1])
 }
 
 /// Our layout, or our audit of the original's drawing, so many times.

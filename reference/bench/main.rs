@@ -1,5 +1,6 @@
 //! Measures exported functions beside the original's and plain Rust ones: one process, the same inputs, by turns, in processor time.
-//! The original is unchanged, with the platform's `hypot`; a mesh is handed in to both.
+//! The original has the platform's `hypot`, and one line that notes whether a station found a free place; a mesh is handed in to
+//! both. The largest fill is measured beside the original's layout at all 64 fills.
 #[path = "../../target/reference/original.rs"]
 mod tx_schematic;
 
@@ -24,6 +25,7 @@ mod stress {
     }
 }
 
+use std::cell::Cell;
 use std::hint::black_box;
 use std::process::Command;
 use std::time::Instant;
@@ -43,6 +45,20 @@ fn plain(points: &[f64], out: &mut [f64]) {
         }
         out[i] = best.sqrt();
     }
+}
+
+thread_local! { static FREE: Cell<bool> = const { Cell::new(true) } }
+
+/// What the original's line notes.
+pub fn placed(found: bool) {
+    FREE.set(FREE.get() && found);
+}
+
+/// Whether every station found a free place in a run of the original.
+pub fn all_free<T>(run: impl FnOnce() -> T) -> bool {
+    FREE.set(true);
+    keep(run());
+    FREE.get()
 }
 
 /// Takes a result, so that it has to be computed.
@@ -145,6 +161,21 @@ fn rows(kind: &str, stations: usize, branches: usize, iterations: i64) {
     }
 }
 
+/// The kinds on which the largest fill is measured.
+const FILLED: [&str; 3] = ["near", "far", "lattice"];
+
+fn fill_row(kind: &str, stations: usize, branches: usize) {
+    let what = format!("largest fill, {kind}, {stations} stations, {branches} branches");
+    let program = std::env::current_exe().expect("this program");
+    let out = Command::new(&program).args(["run-fill", kind, &stations.to_string()]).output().expect("a process");
+    let text = String::from_utf8(out.stdout).expect("text");
+    let numbers: Vec<f64> = text.split_whitespace().map_while(|w| w.parse().ok()).collect();
+    match numbers[..] {
+        [a, b] => shown(&what, (a, b)),
+        _ => println!("| {what} | not measured: {} | | |", text.trim()),
+    }
+}
+
 fn load() -> String {
     let text = std::fs::read_to_string("/proc/loadavg").unwrap_or_default();
     text.split(' ').next().unwrap_or("?").to_string()
@@ -162,6 +193,9 @@ fn table(words: &[&str]) {
                     rows(kind, stations, branches, iterations);
                 }
             }
+            if FILLED.contains(&kind) && asked(0, kind) && asked(1, &stations.to_string()) && asked(2, "fill") {
+                fill_row(kind, stations, branches);
+            }
         }
     }
     if words.is_empty() || words[0] == "small" {
@@ -175,10 +209,10 @@ fn asks(words: &[&str]) -> bool {
     let one_of = |i: usize, known: &[String]| words.get(i).is_none_or(|w| *w == "all" || known.iter().any(|k| k == w));
     let kinds: Vec<String> = networks::KINDS.iter().map(|k| k.0.to_string()).chain(["small".to_string()]).collect();
     let sizes = SIZES.map(|size| size.0.to_string());
-    one_of(0, &kinds) && one_of(1, &sizes) && one_of(2, &[0, 10].map(|i: usize| i.to_string()))
+    one_of(0, &kinds) && one_of(1, &sizes) && one_of(2, &["0", "10", "fill"].map(str::to_string))
 }
 
-const USAGE: &str = "usage: bench [KIND [STATIONS [ITERATIONS]]]                     KIND: near, far, line, lattice, one, two, small, all
+const USAGE: &str = "usage: bench [KIND [STATIONS [ITERATIONS]]]                     KIND: near, far, line, lattice, one, two, small, all; ITERATIONS: 0, 10, fill
        bench profile CALL KIND STATIONS ITERATIONS ROUNDS       only our call, so many times; CALL: layout, audit";
 
 fn main() {
@@ -192,6 +226,13 @@ fn main() {
             let n = number(stations);
             match calls::measure(kind(k), n, branches(n), number(iterations) as i64, runs(n).1) {
                 Ok(four) => println!("{}", four.map(|x| x.to_string()).join(" ")),
+                Err(text) => println!("{text}"),
+            }
+        }
+        ["run-fill", k, stations] => {
+            let n = number(stations);
+            match calls::measure_fill(kind(k), n, branches(n), runs(n).1) {
+                Ok([ours, original]) => println!("{ours} {original}"),
                 Err(text) => println!("{text}"),
             }
         }

@@ -9,6 +9,8 @@ mod compare;
 mod detours;
 mod drawlist;
 mod extremes;
+mod fill;
+mod fills;
 mod gaps;
 mod generate;
 mod hypot;
@@ -43,8 +45,10 @@ const USAGE: &str = "usage: oracle SUBCOMMAND
   vectors SEED COUNT                single calls of the original's functions, COUNT lines of each name
   layout [JUDGE]                    layout calls on standard input, answers on standard output (oracle/request.rs)
   audit [JUDGE]                     audit calls likewise (JUDGE: original, or second or nearest, reference/second)
+  fill                              calls of the largest fill likewise, by the original
   calls SEED COUNT BUSES [KIND]     layout calls for networks of up to BUSES buses (KIND: plain, straight, extreme, detours)
   audits SEED COUNT BUSES [KIND]    audit calls likewise
+  fills SEED COUNT BUSES [KIND]     calls of the largest fill likewise (oracle/fills.rs)
   hypot [second]                    a line of two patterns in, the exact hypot's pattern out; that of reference/second
   selfcheck                         the worked cases of docs/RULES.md";
 
@@ -124,6 +128,11 @@ fn main() {
         ["audits", seed, count, buses, ref kind @ ..] => {
             let (seed, buses, kind) = (number(seed), number(buses) as usize, kind_of(kind));
             calls(number(count), |i| calls::audit_call(seed, i, buses, kind).text())
+        }
+        ["fill"] => answers(|r| r.fill()),
+        ["fills", seed, count, buses, ref kind @ ..] => {
+            let (seed, buses, kind) = (number(seed), number(buses) as usize, kind_of(kind));
+            calls(number(count), |i| fills::fill_call(seed, i, buses, kind).text())
         }
         ["hypot"] => hypots(hypot::hypot),
         ["hypot", "second"] => hypots(second::hypot),

@@ -11,10 +11,12 @@ use std::collections::HashMap;
 
 use crate::audit::{Drawing, Room};
 use crate::calls::{AuditCall, Call};
+use crate::fill;
 use crate::gaps::{self, Gaps};
 use crate::judge::{audit, layout};
 use crate::layout::Lent;
 use crate::network::{Mesh, Network, Options};
+use crate::tx_schematic::TxLayout;
 use crate::words::{bits, float, hex, line, whole};
 
 pub const CLOSE: &str = "====";
@@ -111,23 +113,23 @@ impl<'a> Request<'a> {
         }
     }
 
+    fn mesh(&self) -> Mesh {
+        Mesh { corners: self.narrow("corners"), twins: self.narrow("twins") }
+    }
+
     pub fn layout(&self) -> String {
-        let mesh = Mesh { corners: self.narrow("corners"), twins: self.narrow("twins") };
-        let drawing = match layout(&self.network(), &self.options(), &mesh, &self.lent()) {
-            Err(number) => return format!("answer {number}\n"),
-            Ok(drawing) => drawing,
-        };
-        "answer 0\n".to_string()
-            + &floats("unit", &[drawing.unit])
-            + &floats("bounds", &drawing.bounds)
-            + &wholes("count", [drawing.segment_edge.len()])
-            + &floats("positions", &drawing.positions)
-            + &floats("bars", &drawing.busbars)
-            + &floats("boxes", &drawing.boxes)
-            + &floats("scales", &drawing.scale)
-            + &wholes("roles", drawing.role)
-            + &floats("pieces", &drawing.segments)
-            + &wholes("branches", drawing.segment_edge)
+        match layout(&self.network(), &self.options(), &self.mesh(), &self.lent()) {
+            Err(number) => format!("answer {number}\n"),
+            Ok(drawing) => "answer 0\n".to_string() + &drawn(drawing),
+        }
+    }
+
+    /// The largest fill, by the original.
+    pub fn fill(&self) -> String {
+        match fill::largest(&self.network(), &self.options(), &self.mesh(), &self.lent()) {
+            Err(number) => format!("answer {number}\n"),
+            Ok((k, drawing)) => format!("answer 0\nfill {k}\n") + &drawn(drawing),
+        }
     }
 
     pub fn audit(&self) -> String {
@@ -148,6 +150,19 @@ impl<'a> Request<'a> {
             }
         }
     }
+}
+
+fn drawn(drawing: TxLayout) -> String {
+    floats("unit", &[drawing.unit])
+        + &floats("bounds", &drawing.bounds)
+        + &wholes("count", [drawing.segment_edge.len()])
+        + &floats("positions", &drawing.positions)
+        + &floats("bars", &drawing.busbars)
+        + &floats("boxes", &drawing.boxes)
+        + &floats("scales", &drawing.scale)
+        + &wholes("roles", drawing.role)
+        + &floats("pieces", &drawing.segments)
+        + &wholes("branches", drawing.segment_edge)
 }
 
 fn network(net: &Network) -> String {

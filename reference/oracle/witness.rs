@@ -1,5 +1,5 @@
-//! What the wrapper has to know of a run and its result does not tell: how many crossings and detour points, and whether all is
-//! finite.
+//! What the wrapper has to know of a run and its result does not tell: how many crossings and detour points, whether all is
+//! finite, and whether each station found a free place.
 use std::cell::Cell;
 
 #[derive(Clone, Copy)]
@@ -7,9 +7,10 @@ pub struct Seen {
     pub crossings: usize,
     pub detours: usize,
     pub finite: bool,
+    pub all_free: bool,
 }
 
-const NOTHING: Seen = Seen { crossings: 0, detours: 0, finite: true };
+const NOTHING: Seen = Seen { crossings: 0, detours: 0, finite: true, all_free: true };
 
 thread_local! {
     static SEEN: Cell<Seen> = const { Cell::new(NOTHING) };
@@ -43,9 +44,15 @@ pub fn detour() {
     SEEN.set(Seen { detours: s.detours + 1, ..s });
 }
 
+/// Whether the search for a station's place found a free one.
+pub fn placed(found: bool) {
+    let s = SEEN.get();
+    SEEN.set(Seen { all_free: s.all_free && found, ..s });
+}
+
 /// The counts of a run of the second implementation, which tells them.
 pub fn counted(crossings: usize, detours: usize) {
-    SEEN.set(Seen { crossings, detours, finite: true });
+    SEEN.set(Seen { crossings, detours, finite: true, all_free: true });
 }
 
 /// The points of one branch's run.

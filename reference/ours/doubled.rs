@@ -11,6 +11,8 @@ mod detours;
 mod extremes;
 #[path = "../oracle/calls.rs"]
 mod calls;
+#[path = "../oracle/fill.rs"]
+mod fill;
 #[path = "../oracle/gaps.rs"]
 mod gaps;
 #[path = "../oracle/hypot.rs"]

@@ -45,6 +45,36 @@ fn crossing_lengths(crossings: usize, r: &mut Random) -> [usize; 3] {
 
 /// What is wrong with our answer and lists, against the oracle's answer.
 pub fn wrong(call: &Call, want: &Result<TxLayout, u32>, salt: u64) -> Vec<String> {
+    wrong_of(call, want, salt, None)
+}
+
+/// The same of the largest fill, with the fill wanted, 0 where the call is refused.
+pub fn wrong_fill(call: &Call, want: &Result<TxLayout, u32>, fill: u32, salt: u64) -> Vec<String> {
+    wrong_of(call, want, salt, Some(fill))
+}
+
+/// What either call answers: its number, the fill, the pieces, the unit and the bounds.
+type Got = (u32, u32, usize, f64, [f64; 4]);
+
+/// The lent lists, the options and the network, in the order of the calls' parameters.
+macro_rules! lent {
+    ($function:path, $net:ident, $mesh:ident, $options:ident; $($list:ident),*) => {
+        $function(
+            $(&mut $list.0,)*
+            library::options_of($options),
+            &$net.sub,
+            &$net.kv,
+            &$net.from,
+            &$net.to,
+            &$net.live,
+            &$net.xy,
+            &$mesh.corners,
+            &$mesh.twins,
+        )
+    };
+}
+
+fn wrong_of(call: &Call, want: &Result<TxLayout, u32>, salt: u64, fill: Option<u32>) -> Vec<String> {
     let mut r = Random::new(salt, 0x0DD);
     let (net, mesh, lent, o) = (&call.net, &call.mesh, &call.lent, &call.options);
     let w = work_lengths(call, &mut r);
@@ -64,41 +94,27 @@ pub fn wrong(call: &Call, want: &Result<TxLayout, u32>, salt: u64) -> Vec<String
     let (mut frames, mut path) = (Lent::<f64>::of(w[8]), Lent::<f64>::of(w[9]));
     let mut numbers = Lent::<u32>::of(c[0]);
     let (mut crossing_places, mut ways) = (Lent::<f64>::of(c[1]), Lent::<f64>::of(c[2]));
-    let got = library::layout(
-        &mut positions.0,
-        &mut bars.0,
-        &mut boxes.0,
-        &mut scales.0,
-        &mut roles.0,
-        &mut pieces.0,
-        &mut branches.0,
-        &mut stations.0,
-        &mut buses.0,
-        &mut ends.0,
-        &mut sorted.0,
-        &mut spare.0,
-        &mut keys.0,
-        &mut places.0,
-        &mut blocks.0,
-        &mut frames.0,
-        &mut path.0,
-        &mut numbers.0,
-        &mut crossing_places.0,
-        &mut ways.0,
-        library::options_of(o),
-        &net.sub,
-        &net.kv,
-        &net.from,
-        &net.to,
-        &net.live,
-        &net.xy,
-        &mesh.corners,
-        &mesh.twins,
-    );
+    macro_rules! called {
+        ($function:path) => {
+            lent!($function, net, mesh, o; positions, bars, boxes, scales, roles, pieces, branches, stations, buses, ends, sorted,
+                spare, keys, places, blocks, frames, path, numbers, crossing_places, ways)
+        };
+    }
+    let got: Got = if fill.is_some() {
+        let f = called!(library::largest_fill);
+        (f.number, f.sixty_fourths, f.pieces, f.unit, f.bounds)
+    } else {
+        let p = called!(library::layout);
+        (p.number, 0, p.pieces, p.unit, p.bounds)
+    };
+    let (got_number, got_fill, got_pieces, got_unit, got_bounds) = got;
     let mut wrong = Vec::new();
     let number = want.as_ref().err().copied().unwrap_or(0);
-    if got.number != number {
-        return vec![format!("answer {}, oracle {number}", got.number)];
+    if got_number != number {
+        return vec![format!("answer {got_number}, oracle {number}")];
+    }
+    if got_fill != fill.unwrap_or(0) {
+        wrong.push(format!("fill {got_fill}, oracle {fill:?}"));
     }
     let none = TxLayout {
         version: 0,
@@ -114,14 +130,14 @@ pub fn wrong(call: &Call, want: &Result<TxLayout, u32>, salt: u64) -> Vec<String
     };
     let d = want.as_ref().unwrap_or(&none);
     let same = |a: f64, b: f64| a == b || a.is_nan() && b.is_nan();
-    if !same(got.unit, d.unit) {
-        wrong.push(format!("unit {:?}, oracle {:?}", got.unit, d.unit));
+    if !same(got_unit, d.unit) {
+        wrong.push(format!("unit {:?}, oracle {:?}", got_unit, d.unit));
     }
-    if !(0..4).all(|i| same(got.bounds[i], d.bounds[i])) {
-        wrong.push(format!("bounds {:?}, oracle {:?}", got.bounds, d.bounds));
+    if !(0..4).all(|i| same(got_bounds[i], d.bounds[i])) {
+        wrong.push(format!("bounds {:?}, oracle {:?}", got_bounds, d.bounds));
     }
-    if got.pieces != d.segment_edge.len() {
-        wrong.push(format!("pieces {}, oracle {}", got.pieces, d.segment_edge.len()));
+    if got_pieces != d.segment_edge.len() {
+        wrong.push(format!("pieces {}, oracle {}", got_pieces, d.segment_edge.len()));
     }
     positions.holds("positions", &d.positions, &mut wrong);
     bars.holds("bars", &d.busbars, &mut wrong);

@@ -12,6 +12,10 @@ mod calls;
 mod detours;
 #[path = "../oracle/extremes.rs"]
 mod extremes;
+#[path = "../oracle/fill.rs"]
+mod fill;
+#[path = "../oracle/fills.rs"]
+mod fills;
 #[path = "../oracle/gaps.rs"]
 mod gaps;
 #[path = "../oracle/hypot.rs"]
@@ -69,6 +73,7 @@ const PATIENCE: Duration = Duration::from_secs(60);
 
 const USAGE: &str = "usage: compare layout SEED COUNT BUSES [KIND [JUDGE]]
        compare audit SEED COUNT BUSES [KIND [JUDGE]]
+       compare fill SEED COUNT BUSES [KIND]         the largest fill, by the original
   KIND   plain; straight: every call with 0 iterations; extreme: coordinates, options, meshes and drawings of extreme scale;
          gaps: other gaps than the original's four numbers, a third of the calls extreme ones; detours: lines with boxes in their way;
          wide-detours: the same with other gaps (gaps and wide-detours judged by the original: compiled with --cfg gaps)
@@ -80,6 +85,8 @@ trait Compared: Clone + Send + 'static {
     type Want: Send + 'static;
     /// Whether a detour makes the original no judge of the call, by the rule of the box entered first.
     const LEAVES_DETOURS: bool;
+    /// What `routed` counts.
+    const MARK: &str = "lines led through a mesh or round boxes";
     fn case(seed: u64, case: u64, most: usize, kind: Kind) -> Self;
     fn want(&self, salt: u64) -> Self::Want;
     fn number(want: &Self::Want) -> u32;
@@ -218,6 +225,80 @@ impl Compared for AuditCall {
     }
 }
 
+/// A call of the largest fill.
+#[derive(Clone)]
+struct FillCall(Call);
+
+impl Compared for FillCall {
+    type Want = Result<(u32, tx_schematic::TxLayout), u32>;
+    const LEAVES_DETOURS: bool = false;
+    const MARK: &str = "a fill below 64/64";
+    fn case(seed: u64, case: u64, most: usize, kind: Kind) -> Self {
+        Self(fills::fill_call(seed, case, most, kind))
+    }
+    fn want(&self, _: u64) -> Self::Want {
+        fill::largest(&self.0.net, &self.0.options, &self.0.mesh, &self.0.lent)
+    }
+    fn number(want: &Self::Want) -> u32 {
+        want.as_ref().err().copied().unwrap_or(0)
+    }
+    fn unsurveyed(&self) -> bool {
+        self.0.net.unsurveyed()
+    }
+    fn moved(&self, _: u64) -> (bool, bool) {
+        (false, false)
+    }
+    /// Lines are straight: what is counted is a fill below 64/64.
+    fn routed(&self, want: &Self::Want) -> bool {
+        want.as_ref().is_ok_and(|l| l.0 < 64)
+    }
+    #[cfg_attr(alone, allow(unused_variables))]
+    fn wrong(&self, want: &Self::Want, salt: u64) -> Vec<String> {
+        #[cfg(not(alone))]
+        {
+            let (fill, drawing) = match want {
+                Ok((k, drawing)) => (*k, Ok(drawing.clone())),
+                Err(number) => (0, Err(*number)),
+            };
+            return layouts::wrong_fill(&self.0, &drawing, fill, salt);
+        }
+        #[cfg(alone)]
+        return Vec::new();
+    }
+    fn size(&self) -> usize {
+        self.0.net.sub.len() + self.0.net.from.len()
+    }
+    fn shown(&self) -> String {
+        self.0.text()
+    }
+    fn without_branch(&self, e: usize) -> Option<Self> {
+        Some(Self(self.0.without_branch(e)?))
+    }
+    fn without_bus(&self) -> Option<Self> {
+        Some(Self(self.0.without_bus()?))
+    }
+}
+
+/// How often the 64 fills are of each sort: one ruled out above one that serves, by no free place, by 8 or by 11; one that serves
+/// between two that don't; how often none is.
+fn sorts(seed: u64, count: u64, most: usize, kind: Kind) {
+    let mut told = [0; 5];
+    for i in 0..count {
+        let call = fills::fill_call(seed, i, most, kind);
+        let each = fill::each(&call.net, &call.options, &call.mesh, &call.lent);
+        let Some(best) = each.iter().rposition(|e| *e == Ok(true)) else { continue };
+        let above = &each[best + 1..];
+        told[0] += 1;
+        told[1] += usize::from(above.contains(&Ok(false)));
+        told[2] += usize::from(above.contains(&Err(8)));
+        told[3] += usize::from(above.contains(&Err(11)));
+        told[4] += usize::from(each[..best].iter().skip_while(|e| **e != Ok(true)).any(|e| *e != Ok(true)));
+    }
+    let [drawn, unfree, sized, pieces, gaps] = told;
+    println!("  drawn {drawn}; above the largest fill one without a free place: {unfree}, one with 8: {sized}, with 11: {pieces}");
+    println!("  a fill that doesn't serve between two that do: {gaps}");
+}
+
 enum Outcome<T> {
     Done(T),
     Panicked,
@@ -316,7 +397,7 @@ fn compare<C: Compared>(seed: u64, count: u64, most: usize, kind: Kind) -> bool 
     for (number, times) in answers {
         println!("  answer {number}: {times}");
     }
-    println!("  answer 0 with lines led through a mesh or round boxes: {routed}");
+    println!("  answer 0 with {}: {routed}", C::MARK);
     println!("  with buses that have no map point: {unsurveyed}");
     if judge::chosen() != Judge::Original {
         println!("  with a line led round a box, or through one in the audit: {detoured}; by the box entered first another answer: {moved}; left out for it: {left_out}");
@@ -345,6 +426,11 @@ fn main() {
         }
         (["audit", seed, count, buses, ..], Some(kind)) => {
             compare::<AuditCall>(number(seed), number(count), number(buses) as usize, kind)
+        }
+        (["fill", seed, count, buses, ..], Some(kind)) => {
+            let same = compare::<FillCall>(number(seed), number(count), number(buses) as usize, kind);
+            sorts(number(seed), number(count), number(buses) as usize, kind);
+            same
         }
         _ => {
             eprintln!("{USAGE}");

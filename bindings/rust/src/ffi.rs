@@ -28,6 +28,16 @@ pub struct Plotted {
 
 #[repr(C)]
 #[derive(Clone, Copy)]
+pub struct Filled {
+    pub number: u32,
+    pub sixty_fourths: u32,
+    pub pieces: usize,
+    pub unit: f64,
+    pub bounds: [f64; 4],
+}
+
+#[repr(C)]
+#[derive(Clone, Copy)]
 pub struct Audited {
     pub number: u32,
     pub stations: usize,
@@ -59,6 +69,15 @@ call!(layout = tansygate_plot(
     options: Options;
     sub: u32, kv: u64, from: i64, to: i64, service: u8, xy: f64, corners: u32, twins: u32
 ) -> Plotted);
+
+call!(largest_fill = tansygate_largest_fill(
+    positions: f64, bars: f64, boxes: f64, scales: f64, roles: u8, pieces: f64, branches: u32,
+    stations: u32, buses: u32, ends: u32, sorted: u32, spare: u32, keys: u64,
+    places: f64, blocks: f64, frames: f64, path: f64,
+    crossing_numbers: u32, crossing_places: f64, crossing_ways: f64;
+    options: Options;
+    sub: u32, kv: u64, from: i64, to: i64, service: u8, xy: f64, corners: u32, twins: u32
+) -> Filled);
 
 call!(audit = tansygate_audit(
     displacement: f64, spacing: f64, relative: f64,

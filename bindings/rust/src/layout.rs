@@ -1,4 +1,4 @@
-//! The drawing call.
+//! The drawing calls.
 use crate::ffi;
 use crate::network::{Mesh, TxLayoutInput, TxLayoutOptions};
 use crate::refusal::Refusal;
@@ -40,7 +40,7 @@ pub struct TxLayout {
 }
 
 impl TxLayout {
-    /// The middles of the occupied substations' boxes, by rank: the points of a mesh. Boxes don't depend on routing,
+    /// The middles of the occupied substations' boxes, by their numbers: the points of a mesh. Boxes don't depend on routing,
     /// so a first drawing with 0 rounds and no mesh gives them.
     ///
     /// ```
@@ -97,6 +97,46 @@ impl Room {
     }
 }
 
+/// A call of the library with the result lists of a drawing, and work lists in the lengths that docs/WORK.md asks for.
+macro_rules! lent {
+    ($call:path, $drawing:ident, $input:ident, $options:ident, $mesh:ident, $room:ident) => {{
+        let (n, m) = ($input.bus_substation.len(), $input.from.len());
+        let l = $mesh.triangles.len().min(LONGEST);
+        let sorting = (n + 2 * m + l).max($room.crossings);
+        $call(
+            &mut $drawing.positions,
+            &mut $drawing.busbars,
+            &mut $drawing.boxes,
+            &mut $drawing.scale,
+            &mut $drawing.role,
+            &mut $drawing.segments,
+            &mut $drawing.segment_edge,
+            &mut vec![0; 2 * n],
+            &mut vec![0; 3 * n],
+            &mut vec![0; 4 * m + 4 * l + 4],
+            &mut vec![0; sorting.max(ffi::index_length(n))],
+            &mut vec![0; sorting],
+            &mut vec![0; sorting],
+            &mut vec![0.0; 2 * n + 4 * m],
+            &mut vec![0.0; 3 * n],
+            &mut vec![0.0; 4 * n],
+            &mut vec![0.0; 2 * n + 3 * l + 16],
+            &mut vec![0; 3 * $room.crossings],
+            &mut vec![0.0; $room.crossings],
+            &mut vec![0.0; 2 * $room.crossings],
+            $options.plain(),
+            &$input.bus_substation,
+            &$input.kv_bits(),
+            &$input.from,
+            &$input.to,
+            &$input.in_service,
+            &$input.xy,
+            $mesh.triangles,
+            $mesh.halfedges,
+        )
+    }};
+}
+
 /// Draws a network.
 ///
 /// All lists are made here, in the lengths that docs/WORK.md asks for. How many crossings and segments a drawing has
@@ -150,12 +190,71 @@ pub fn tx_schematic_layout(
     }
 }
 
+/// A network's largest fill, and the drawing at it.
+#[derive(Clone, Debug, PartialEq)]
+pub struct TxLargestFill {
+    /// The fill in sixty-fourths: 1 to 64.
+    pub sixty_fourths: u32,
+    /// The drawing at this fill, with straight lines.
+    pub layout: TxLayout,
+}
+
+impl TxLargestFill {
+    /// The fill as [`TxLayoutOptions::fill`] takes it.
+    pub fn fill(&self) -> f64 {
+        f64::from(self.sixty_fourths) / 64.0
+    }
+}
+
+/// Draws a network with straight lines at the largest fill of 1/64 to 64/64 at which the drawing isn't refused and
+/// every box finds a free place.
+///
+/// `fill` and `route_iterations` of the options aren't looked at. Lines are routed by a call of [`tx_schematic_layout`]
+/// afterwards, with [`fill`](TxLargestFill::fill): boxes don't depend on routing, so they stay where they are.
+///
+/// ```
+/// use tansygate::{tx_schematic_largest_fill, TxLayoutInput, TxLayoutOptions};
+///
+/// // Two substations, one above the other, and no search for a free place: at fill 51/64 a box of four blocks and the
+/// // block kept free beside it fit between their middles, at 52/64 they don't.
+/// let input = TxLayoutInput {
+///     bus_substation: vec![0, 1],
+///     kv: vec![110.0, 110.0],
+///     xy: vec![0.0, 0.0, 0.0, 4.0],
+///     ..TxLayoutInput::default()
+/// };
+/// let options = TxLayoutOptions { search: 0, ..TxLayoutOptions::default() };
+/// let largest = tx_schematic_largest_fill(&input, &options)?;
+/// assert_eq!(largest.sixty_fourths, 51);
+/// # Ok::<(), tansygate::Refusal>(())
+/// ```
+///
+/// # Errors
+/// Refusals 1 to 4, 15, 5 and 6, the first that applies, in this order; 18 where no fill serves.
+pub fn tx_schematic_largest_fill(input: &TxLayoutInput, options: &TxLayoutOptions) -> Result<TxLargestFill, Refusal> {
+    input.validate()?;
+    // More pieces than any of the drawings has, so that none is ruled out for its pieces.
+    let room = Room::most(input.from.len(), 0);
+    let mesh = Mesh::default();
+    let mut drawing = blank(input, room);
+    let f = lent!(ffi::largest_fill, drawing, input, options, mesh, room);
+    Refusal::check(f.number)?;
+    let layout = finished(drawing, f.pieces, f.unit, f.bounds);
+    Ok(TxLargestFill { sixty_fourths: f.sixty_fourths, layout })
+}
+
 /// One call with lists that hold so many crossings and segments. The network is within the limits.
 fn draw(input: &TxLayoutInput, options: &TxLayoutOptions, mesh: Mesh<'_>, room: Room) -> Result<TxLayout, Refusal> {
+    let mut drawing = blank(input, room);
+    let p = lent!(ffi::layout, drawing, input, options, mesh, room);
+    Refusal::check(p.number)?;
+    Ok(finished(drawing, p.pieces, p.unit, p.bounds))
+}
+
+/// The result lists of a network, with room for so many segments.
+fn blank(input: &TxLayoutInput, room: Room) -> TxLayout {
     let (n, m, k) = (input.bus_substation.len(), input.from.len(), input.substations());
-    let l = mesh.triangles.len().min(LONGEST);
-    let sorting = (n + 2 * m + l).max(room.crossings);
-    let mut drawing = TxLayout {
+    TxLayout {
         version: TX_LAYOUT_VERSION,
         positions: vec![0.0; 2 * n],
         busbars: vec![0.0; 4 * n],
@@ -166,44 +265,16 @@ fn draw(input: &TxLayoutInput, options: &TxLayoutOptions, mesh: Mesh<'_>, room: 
         unit: 0.0,
         scale: vec![0.0; k],
         bounds: [0.0; 4],
-    };
-    let p = ffi::layout(
-        &mut drawing.positions,
-        &mut drawing.busbars,
-        &mut drawing.boxes,
-        &mut drawing.scale,
-        &mut drawing.role,
-        &mut drawing.segments,
-        &mut drawing.segment_edge,
-        &mut vec![0; 2 * n],
-        &mut vec![0; 3 * n],
-        &mut vec![0; 4 * m + 4 * l + 4],
-        &mut vec![0; sorting.max(ffi::index_length(n))],
-        &mut vec![0; sorting],
-        &mut vec![0; sorting],
-        &mut vec![0.0; 2 * n + 4 * m],
-        &mut vec![0.0; 3 * n],
-        &mut vec![0.0; 4 * n],
-        &mut vec![0.0; 2 * n + 3 * l + 16],
-        &mut vec![0; 3 * room.crossings],
-        &mut vec![0.0; room.crossings],
-        &mut vec![0.0; 2 * room.crossings],
-        options.plain(),
-        &input.bus_substation,
-        &input.kv_bits(),
-        &input.from,
-        &input.to,
-        &input.in_service,
-        &input.xy,
-        mesh.triangles,
-        mesh.halfedges,
-    );
-    Refusal::check(p.number)?;
-    drawing.segments.truncate(4 * p.pieces);
-    drawing.segment_edge.truncate(p.pieces);
+    }
+}
+
+/// The drawing with as many segments as it has, and its other numbers.
+fn finished(mut drawing: TxLayout, pieces: usize, unit: f64, bounds: [f64; 4]) -> TxLayout {
+    drawing.segments.truncate(4 * pieces);
+    drawing.segment_edge.truncate(pieces);
     drawing.segments.shrink_to_fit();
     drawing.segment_edge.shrink_to_fit();
-    Ok(TxLayout { unit: p.unit, bounds: p.bounds, ..drawing })
+    TxLayout { unit, bounds, ..drawing }
 }
 
 #[cfg(test)]

@@ -8,6 +8,7 @@
 //! - The mesh for routing is handed in ([`Mesh`]): a triangulation of [`TxLayout::mesh_points`], such as `delaunator`'s.
 //! - [`TxLayoutOptions`] has no `seeding`, [`TxLayoutQuality`] no `bends` and `sharp_bends`.
 //! - A caller in Rattle uses the crate `tansygate` instead.
+//! - [`tx_schematic_largest_fill`], the drawing with the largest boxes that all find free places, is no call of the original.
 //! - docs/DIFFERENCES.md of the repository lists where numbers differ, each with the smallest input that shows it.
 //!
 //! A routed drawing: draw straight, triangulate the middles, draw again.
@@ -51,6 +52,9 @@ mod network;
 mod refusal;
 
 pub use audit::{tx_layout_quality, TxLayoutQuality};
-pub use layout::{tx_schematic_layout, TxLayout, TX_LAYOUT_VERSION, TX_ROLE_INTERNAL, TX_ROLE_LINE, TX_ROLE_OPEN};
+pub use layout::{
+    tx_schematic_largest_fill, tx_schematic_layout, TxLargestFill, TxLayout, TX_LAYOUT_VERSION, TX_ROLE_INTERNAL,
+    TX_ROLE_LINE, TX_ROLE_OPEN,
+};
 pub use network::{Mesh, MeshBuf, TxLayoutInput, TxLayoutOptions, EMPTY};
 pub use refusal::Refusal;

@@ -73,7 +73,7 @@ impl TxLayoutInput {
         }
     }
 
-    /// The occupied substations, rising. A mesh names them by their rank in this list.
+    /// The occupied substations, rising. A mesh's vertices are their numbers in this list.
     pub fn occupied(&self) -> Vec<u32> {
         let mut list = self.bus_substation.clone();
         list.sort_unstable();
@@ -169,11 +169,11 @@ impl TxLayoutOptions {
 /// No half-edge: the twin of one at the mesh's rim. (In `delaunator` it is `usize::MAX`.)
 pub const EMPTY: u32 = u32::MAX;
 
-/// A mesh of triangles over the occupied substations, named by their rank, with `delaunator`'s names. Lines are
+/// A mesh of triangles over the occupied substations, its vertices, with `delaunator`'s names. Lines are
 /// routed through it.
 ///
-/// Both lists are equally long: three numbers a triangle, at most 24,576. A triangle's three corners differ. A half-edge
-/// runs from its corner to the triangle's next; its twin runs between the same two the other way round, and has it
+/// Both lists are equally long: three numbers a triangle, at most 24,576. A triangle's three vertices differ. A half-edge
+/// runs from its vertex to the triangle's next; its twin runs between the same two the other way round, and has it
 /// as its twin. Any mesh for which this holds is used; another is refused ([`Refusal::Mesh`](crate::Refusal::Mesh)).
 /// With fewer than three occupied substations, or 0 rounds, the mesh isn't looked at. The empty mesh is allowed:
 /// lines are then led round boxes and no more.
@@ -187,7 +187,7 @@ pub const EMPTY: u32 = u32::MAX;
 /// ```
 #[derive(Clone, Copy, Debug, Default, PartialEq, Eq)]
 pub struct Mesh<'a> {
-    /// Three corners for each triangle.
+    /// Three vertices for each triangle.
     pub triangles: &'a [u32],
     /// The twin of each half-edge, or [`EMPTY`].
     pub halfedges: &'a [u32],
@@ -204,7 +204,7 @@ pub struct Mesh<'a> {
 /// ```
 #[derive(Clone, Debug, Default, PartialEq, Eq)]
 pub struct MeshBuf {
-    /// Three corners for each triangle.
+    /// Three vertices for each triangle.
     pub triangles: Vec<u32>,
     /// The twin of each half-edge, or [`EMPTY`].
     pub halfedges: Vec<u32>,

@@ -4,7 +4,8 @@ use std::fmt;
 /// A refusal: the first that applies, by docs/RULES.md of the repository, 'Order of refusals'; 15 comes directly after 4.
 ///
 /// [`tx_schematic_layout`](crate::tx_schematic_layout) gives 1 to 4, 15, 5, 6, 8 and 9,
-/// [`tx_layout_quality`](crate::tx_layout_quality) 1 to 4, 15, 6, 13 and 8. Numbers 7, 10 and 11 are about lists that
+/// [`tx_layout_quality`](crate::tx_layout_quality) 1 to 4, 15, 6, 13 and 8,
+/// [`tx_schematic_largest_fill`](crate::tx_schematic_largest_fill) 1 to 4, 15, 5, 6 and 18. Numbers 7, 10 and 11 are about lists that
 /// a caller lends; here the calls lend them, long enough.
 ///
 /// ```
@@ -43,11 +44,13 @@ pub enum Refusal {
     NoFit = 13,
     /// A voltage that is 0, negative, infinite or NaN.
     Voltage = 15,
+    /// Of the fills from 1/64 to 64/64 none is drawn with a free place for every box.
+    NoFill = 18,
 }
 
 impl Refusal {
     /// All refusals, by number.
-    pub const ALL: [Refusal; 13] = [
+    pub const ALL: [Refusal; 14] = [
         Refusal::TooMany,
         Refusal::KvLength,
         Refusal::ToLength,
@@ -61,9 +64,10 @@ impl Refusal {
         Refusal::Pieces,
         Refusal::NoFit,
         Refusal::Voltage,
+        Refusal::NoFill,
     ];
 
-    /// Its number, 1 to 11, 13 or 15.
+    /// Its number, 1 to 11, 13, 15 or 18.
     pub fn number(self) -> u32 {
         self as u32
     }
@@ -84,6 +88,7 @@ impl Refusal {
             Refusal::Pieces => "segments outnumber the lent lists",
             Refusal::NoFit => "the audited drawing doesn't fit its network",
             Refusal::Voltage => "a kv isn't finite and above zero",
+            Refusal::NoFill => "no fill from 1/64 to 64/64 is drawn with a free place for every box",
         }
     }
 
@@ -93,7 +98,7 @@ impl Refusal {
             return Ok(());
         }
         let named = Refusal::ALL.into_iter().find(|r| r.number() == number);
-        Err(named.expect("the library answers 0 to 11, 13 or 15"))
+        Err(named.expect("the library answers 0 to 11, 13, 15 or 18"))
     }
 }
 

@@ -191,8 +191,55 @@ fn a_drawing_that_does_not_fit() {
 }
 
 #[test]
+fn largest_fills() {
+    let fill = |input: &TxLayoutInput, options: &TxLayoutOptions| {
+        tx_schematic_largest_fill(input, options).map_or_else(Refusal::number, |l| 100 + l.sixty_fourths)
+    };
+    let two = |xy: [f64; 4]| TxLayoutInput { xy: xy.to_vec(), ..plain(2) };
+    let still = TxLayoutOptions { search: 0, ..straight() };
+    // Both boxes stand on one point, and nothing is searched.
+    assert_eq!(fill(&two([0.0; 4]), &still), 18);
+    assert_eq!(fill(&two([0.0; 4]), &straight()), 164);
+    assert_eq!(fill(&two([0.0, 0.0, 0.0, 4.0]), &still), 151);
+    // The given fill and iterations aren't looked at, the other options are.
+    let unread = TxLayoutOptions { fill: f64::NAN, route_iterations: 101, ..TxLayoutOptions::default() };
+    assert_eq!(fill(&plain(2), &unread), 164);
+    assert_eq!(fill(&plain(2), &TxLayoutOptions { search: 21, ..straight() }), 5);
+    assert_eq!(fill(&two([0.0, 0.0, 0.0, 2e12]), &still), 6);
+    assert_eq!(fill(&plain(4097), &still), 1);
+    assert_eq!(fill(&TxLayoutInput { kv: vec![110.0, 0.0], ..plain(2) }, &still), 15);
+    // A refusal of 8 at a fill rules that fill out alone: so far from the origin no box is large enough.
+    assert_eq!(fill(&two([1e12, 1e12, 1e12, 1e12 - 1e-3]), &straight()), 18);
+    assert_eq!(fill(&TxLayoutInput::default(), &still), 164);
+}
+
+/// Each of them finds a free place at 1/64 to 51/64 and at 61/64 to 64/64, not between.
+#[test]
+fn twelve_stations() {
+    let points = [2, 3, 4, 4, 4, 4, 4, 0, 3, 2, 1, 1, 3, 2, 0, 0, 0, 1, 0, 3, 4, 0, 2, 1];
+    let input = TxLayoutInput { xy: points.map(f64::from).to_vec(), ..plain(12) };
+    let options = TxLayoutOptions { search: 1, tier_radius: 0.0, ..straight() };
+    let largest = tx_schematic_largest_fill(&input, &options).expect("drawn");
+    assert_eq!((largest.sixty_fourths, largest.fill()), (64, 1.0));
+    let same = TxLayoutOptions { fill: largest.fill(), ..options.clone() };
+    assert_eq!(tx_schematic_layout(&input, &same, Mesh::default()), Ok(largest.layout));
+    // Whether a box with the block that is kept free beside it overlaps another.
+    let crowded = |k: u32| {
+        let at = TxLayoutOptions { fill: f64::from(k) / 64.0, ..options.clone() };
+        let drawing = tx_schematic_layout(&input, &at, Mesh::default()).expect("drawn");
+        let boxes: Vec<&[f64]> = drawing.boxes.chunks_exact(4).collect();
+        let near = |a: usize, b: usize| {
+            let (a, b, u) = (boxes[a], boxes[b], 0.999 * drawing.unit);
+            a[0] - u < b[2] && b[0] < a[2] + u && a[1] - u < b[3] && b[1] < a[3] + u
+        };
+        (0..12).any(|a| (0..a).any(|b| near(a, b)))
+    };
+    assert!((1..=64).all(|k| crowded(k) == (52..=60).contains(&k)));
+}
+
+#[test]
 fn numbers_and_words() {
-    for (refusal, number) in Refusal::ALL.into_iter().zip((1..=11).chain([13, 15])) {
+    for (refusal, number) in Refusal::ALL.into_iter().zip((1..=11).chain([13, 15, 18])) {
         assert_eq!(refusal.number(), number);
         assert_eq!(refusal.to_string(), format!("refused {number}: {}", refusal.words()));
     }

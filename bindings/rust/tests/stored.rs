@@ -74,8 +74,9 @@ fn network(w: &mut Words, buses: usize, branches: usize, lengths: [usize; 6]) ->
     (input, sized(marks, lengths[4]))
 }
 
-/// The answer's number; refusals about lent lists (7, 10, 11) can't come here, and these calls are left out.
-fn drawn(w: &mut Words) -> Option<u32> {
+/// The answer's number; refusals about lent lists (7, 10, 11) can't come here, and these calls are left out, as are
+/// largest fills with piece lists that are too short for some fill.
+fn drawn(w: &mut Words, largest: bool) -> Option<u32> {
     let options = TxLayoutOptions {
         fill: w.float(),
         tier_radius: w.float(),
@@ -86,11 +87,12 @@ fn drawn(w: &mut Words) -> Option<u32> {
         ..TxLayoutOptions::default()
     };
     let [sub, kv, from, to, live, xy, corners, twins] = w.sizes();
-    let _lent: [usize; 9] = w.sizes();
+    let lent: [usize; 9] = w.sizes();
     let number = w.whole() as u32;
     let [n, m, h, k, p] = w.sizes();
     let unit = w.float();
     let bounds = [w.float(), w.float(), w.float(), w.float()];
+    let sixty_fourths = if largest { w.whole() as u32 } else { 0 };
     let (mut input, live) = network(w, n, m, [sub, kv, from, to, live, xy]);
     input.in_service = live;
     let (mut triangles, mut halfedges) = (Vec::new(), Vec::new());
@@ -99,10 +101,18 @@ fn drawn(w: &mut Words) -> Option<u32> {
         halfedges.push(w.whole() as u32);
     }
     let mesh = MeshBuf { triangles: sized(triangles, corners), halfedges: sized(halfedges, twins) };
-    if [7, 10, 11].contains(&number) {
+    if [7, 10, 11].contains(&number) || largest && lent[5].min(4 * lent[6]) < 12 * m {
         return None;
     }
-    let answer = tx_schematic_layout(&input, &options, mesh.lend());
+    let answer = if largest {
+        let answer = tx_schematic_largest_fill(&input, &options);
+        answer.map(|l| {
+            assert_eq!(l.sixty_fourths, sixty_fourths);
+            l.layout
+        })
+    } else {
+        tx_schematic_layout(&input, &options, mesh.lend())
+    };
     if number != 0 {
         assert_eq!(answer.map_err(Refusal::number), Err(number));
         return Some(number);
@@ -154,13 +164,14 @@ fn audited(w: &mut Words) -> Option<u32> {
 #[test]
 fn the_original_answers_the_same() {
     let text = include_str!("../../../crates/replay/stdin");
-    let (mut drawings, mut audits) = ([0; 16], [0; 16]);
+    let (mut drawings, mut fills, mut audits) = ([0; 19], [0; 19], [0; 19]);
     for (i, line) in text.lines().enumerate() {
         println!("line {}", i + 1);
         let word = |w: &str| u64::from_str_radix(w, 16).expect("hexadecimal digits");
         let mut words = Words(line[2..].split(' ').map(word).collect::<Vec<_>>().into_iter());
         let (counts, number) = match &line[..1] {
-            "L" => (&mut drawings, drawn(&mut words)),
+            "L" => (&mut drawings, drawn(&mut words, false)),
+            "F" => (&mut fills, drawn(&mut words, true)),
             _ => (&mut audits, audited(&mut words)),
         };
         if let Some(number) = number {
@@ -168,7 +179,8 @@ fn the_original_answers_the_same() {
             assert!(words.0.next().is_none(), "words left over");
         }
     }
-    assert!(drawings[0] >= 300 && audits[0] >= 300);
+    assert!(drawings[0] >= 300 && fills[0] >= 5 && audits[0] >= 300);
+    assert!(fills[5] > 0, "{fills:?}");
     assert!([1, 2, 3, 4, 5, 6, 8, 9, 15].iter().all(|&i| drawings[i] > 0), "{drawings:?}");
     assert!([1, 2, 3, 4, 6, 8, 13, 15].iter().all(|&i| audits[i] > 0), "{audits:?}");
 }

@@ -18,7 +18,7 @@ use Rattle.audit.specs.Scale.{ill_drawn}
 use Rattle.audit.specs.Figure.{displacements, spacings}
 use Rattle.audit.specs.Overlaps.{overlaps}
 use Rattle.audit.specs.Relative.{relatives}
-use Rattle.audit.specs.declared.findings.room.Room.{Room}
+use Rattle.audit.specs.declared.findings.lengths.AuditLengths.{AuditLengths}
 use Rattle.audit.specs.declared.findings.answer.Figures.{Figures}
 use Rattle.audit.specs.Through.{through}
 use Rattle.audit.specs.Drawn.{Drawn, Lists, Work, room_of}
@@ -26,14 +26,14 @@ use Rattle.audit.specs.Drawn.{Drawn, Lists, Work, room_of}
 -- ---- refusals
 
 -- 7: a list is too short for n buses, k stations and p piece branch numbers (docs/WORK.md)
-unfoldable pub too_short : ℕ → ℕ → ℕ → Room → Bool
+unfoldable pub too_short : ℕ → ℕ → ℕ → AuditLengths → Bool
 too_short n k p R =
     ltb R.displacement k || (ltb R.spacing k || (ltb R.relative p
     || (ltb R.stations (2 * n) || (ltb R.spare n || (ltb R.keys n
     || (ltb R.points (2 * n) || (ltb R.path (2 * n) || ltb R.index (index_length n))))))))
 
 -- 1 to 4, 15, 6 and 7, none where none applies
-unfoldable pub early : Drawn → Room → Option Refusal
+unfoldable pub early : Drawn → AuditLengths → Option Refusal
 early D R =
     option_or (shape_refusal D.station D.kv D.from D.to)
     (refuse (too_far (length D.station) D.xy) (Some Refusals.TooFar)
@@ -59,7 +59,7 @@ late D =
 
 -- The refusals in their order (docs/RULES.md, 'Order of refusals'): 1 to 4, 15, 6, 7, 13, then 8. The first whose
 -- condition holds gives the number, 0 where none does.
-unfoldable pub audit_number : Drawn → Room → ℕ
+unfoldable pub audit_number : Drawn → AuditLengths → ℕ
 audit_number D R =
     let n = length D.station in
     refuse (too_many D.station D.from) 1

@@ -1,6 +1,6 @@
 -- The lists that an audit is lent: the network and its drawing, the result lists and the work lists. Definitions only.
 use Rattle.std.specs.Prelude.{ℕ, List, ℤ, length, Float}
-use Rattle.audit.specs.declared.findings.room.Room.{Room}
+use Rattle.audit.specs.declared.findings.lengths.AuditLengths.{AuditLengths}
 
 -- `kv` holds the bit patterns of the voltages.
 pub record Drawn : Type 0 where
@@ -44,7 +44,7 @@ pub record Work : Type 0 where
   pub path : List Float
 
 -- the lengths of the lent lists
-abbrev pub room_of : Lists → Work → Room
+abbrev pub room_of : Lists → Work → AuditLengths
 room_of L W =
     record {
       displacement = length L.displacement;

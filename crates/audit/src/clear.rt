@@ -7,7 +7,7 @@ use crate::lists::Work;
 
 // Writes zeros into all work lists.
 #[tactic(auto, unfolding(crate::specs::Answer::cleared))]
-pub(crate) fn clear_work(work: &mut Work<'_>)
+pub(crate) fn zero_work(work: &mut Work<'_>)
     ensures same { SameWork work.new work.old }
     ensures is { held_work work.new ≡ cleared (held_work work.old) }
 {

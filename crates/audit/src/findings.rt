@@ -1,4 +1,4 @@
 // What an audit is lent and what it answers.
 /// What an audit answers.
 pub mod answer;
-pub(crate) mod room;
+pub(crate) mod lengths;

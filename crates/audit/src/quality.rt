@@ -2,9 +2,9 @@
 ghost use Rattle.audit.specs.Answer.{call, Answered};
 ghost use Rattle.audit.specs.Held.{held_drawing, held_lists, held_work, SameLists, SameWork};
 
-use crate::clear::clear_work;
+use crate::clear::zero_work;
 use crate::findings::answer::Figures;
-use crate::findings::room::Room;
+use crate::findings::lengths::AuditLengths;
 use crate::fit::drawn::{Drawn, FewBuses};
 use crate::inside::audited;
 use crate::limits::check_input;
@@ -26,7 +26,7 @@ pub fn tx_layout_quality(
     ensures is { Answered (held_drawing drawing.now) (held_lists lists.old) (held_work work.old)
         (call result (held_lists lists.new) (held_work work.new)) }
 {
-    let room = Room {
+    let room = AuditLengths {
         displacement: lists.displacement.len(),
         spacing: lists.spacing.len(),
         relative: lists.relative.len(),
@@ -40,6 +40,6 @@ pub fn tx_layout_quality(
     check_input(drawing, room)?;
     let drawing = FewBuses { lists: *drawing };
     let a = audited(&drawing, lists, work);
-    clear_work(work);
+    zero_work(work);
     a
 }

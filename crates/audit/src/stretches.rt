@@ -20,9 +20,9 @@ pub(crate) struct Stretch {
     pub drawn: f64,
 }
 
-/// Where a piece starts.
+// Where a piece starts.
 #[tactic(auto, unfolding(crate::specs::Relative::piece_start))]
-pub fn piece_start(pieces: &[f64], piece: usize) -> Point
+pub(crate) fn piece_start(pieces: &[f64], piece: usize) -> Point
     requires { 4 * piece + 3 < length pieces.now }
     ensures { result ≡ piece_start pieces.now piece }
 {
@@ -32,9 +32,9 @@ pub fn piece_start(pieces: &[f64], piece: usize) -> Point
     }
 }
 
-/// Where a piece ends.
+// Where a piece ends.
 #[tactic(auto, unfolding(crate::specs::Relative::piece_end))]
-pub fn piece_end(pieces: &[f64], piece: usize) -> Point
+pub(crate) fn piece_end(pieces: &[f64], piece: usize) -> Point
     requires { 4 * piece + 3 < length pieces.now }
     ensures { result ≡ piece_end pieces.now piece }
 {

@@ -1,4 +1,4 @@
--- The corner by which a piece goes round a box: half a gap off it, the cheapest that clears it
+-- The corner by which a piece goes round a box: half a clearance off it, the cheapest that avoids it
 -- (docs/RULES.md, 'Corner of a detour'). Definitions only.
 use Rattle.std.specs.Prelude.{ℕ, Bool, not, cond, ◌&&◌, List, [], ◌∷◌, ltb, Float, Option, Some, None, unwrap_or}
 use Rattle.numbers.specs.Hypot.{hypot_of}
@@ -26,12 +26,12 @@ unfoldable pub cost_key : Point → Point → Point → ℕ
 cost_key p q c = order_key (cost p q c)
 
 -- the two new pieces over c clear the box, shrunk by 1e-9
-unfoldable pub clears : Point → Point → Box → Point → Bool
-clears p q b c = not (hits p c (shrunk b)) && not (hits c q (shrunk b))
+unfoldable pub avoids : Point → Point → Box → Point → Bool
+avoids p q b c = not (hits p c (shrunk b)) && not (hits c q (shrunk b))
 
-unfoldable pub clearing : Point → Point → Box → List Point → List Point
-clearing p q b [] = []
-clearing p q b (c ∷ cs) = let rest = clearing p q b cs in cond (clears p q b c) (c ∷ rest) rest
+unfoldable pub avoiding : Point → Point → Box → List Point → List Point
+avoiding p q b [] = []
+avoiding p q b (c ∷ cs) = let rest = avoiding p q b cs in cond (avoids p q b c) (c ∷ rest) rest
 
 -- c in place of the cheapest so far where it costs strictly less
 unfoldable pub cheaper : Point → Point → Option Point → Point → Option Point
@@ -45,6 +45,6 @@ cheapest p q best (c ∷ cs) = cheapest p q (cheaper p q best c) cs
 
 -- the point by which the piece p q goes round box b: the cheapest of the corners that clear it, else of all four
 unfoldable pub corner : Point → Point → Box → Float → Point
-corner p q b gap =
-    let cs = corners_of b (gap ⊗ f½) in
-    unwrap_or (cheapest p q None (clearing p q b cs)) (unwrap_or (cheapest p q None cs) p)
+corner p q b clearance =
+    let cs = corners_of b (clearance ⊗ f½) in
+    unwrap_or (cheapest p q None (avoiding p q b cs)) (unwrap_or (cheapest p q None cs) p)

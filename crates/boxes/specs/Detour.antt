@@ -7,7 +7,7 @@ use Rattle.plane.specs.Plane.{box_in}
 use Rattle.boxes.specs.First.{first_hit}
 use Rattle.boxes.specs.Corner.{corner}
 
-module _ (boxes : List Box) (occupied : List ℕ) (gap : Float) (a b : ℕ) where
+module _ (boxes : List Box) (occupied : List ℕ) (clearance : Float) (a b : ℕ) where
   -- The pieces from p on, in turn. Where one hits a box a point is put in, and `again` looks at the path from that
   -- piece on.
   unfoldable pub detour_on : (List Point → List Point) → Point → List Point → List Point
@@ -15,7 +15,7 @@ module _ (boxes : List Box) (occupied : List ℕ) (gap : Float) (a b : ℕ) wher
   detour_on again p (q ∷ rest) =
       elim (first_hit boxes occupied p q a b) [
         | None ↦ p ∷ detour_on again q rest
-        | Some s ↦ again (p ∷ corner p q (box_in boxes s) gap ∷ q ∷ rest)
+        | Some s ↦ again (p ∷ corner p q (box_in boxes s) clearance ∷ q ∷ rest)
       ]
 
   -- with at most n points put in

@@ -15,7 +15,7 @@ use Rattle.plane.specs.Clip.{part, cut, clip_by, clipped, hits}
 use Rattle.plane.specs.Entry.{enters}
 use Rattle.network.specs.Views.{boxes_in}
 use Rattle.boxes.specs.First.{entry_at, comes_first, sooner, look, first_hit}
-use Rattle.boxes.specs.Corner.{corners_of, cost, cost_key, clears, clearing, cheaper, cheapest, corner}
+use Rattle.boxes.specs.Corner.{corners_of, cost, cost_key, avoids, avoiding, cheaper, cheapest, corner}
 use Rattle.boxes.specs.Detour.{detour_on, detour_to, detour}
 
 -- point i of a list
@@ -51,11 +51,11 @@ led l =
 unfoldable opened : ℕ
 unfolding hit numbers led of_bits to_bits round lt eq neg add sub mul div hypot_of key_of abs_of max_of min_of
     up_from table_from part cut clip_by clipped hits boxes_in enters entry_at comes_first sooner look first_hit
-    corners_of cost cost_key clears clearing cheaper cheapest corner detour_on detour_to detour
+    corners_of cost cost_key avoids avoiding cheaper cheapest corner detour_on detour_to detour
 opened = 0
 
 -- The last four: a box touched at its corner only; the box entered first though the other's middle is nearer; two boxes
--- entered at one place; two boxes that the piece begins in.
+-- entered at one fraction; two boxes that the piece begins in.
 first_hits : map hit
     ((0xBFE6_29C6_FD4B_DACC ∷ 0xBFD6_CBA2_75EE_49E8 ∷ 0x3FF9_5EA5_DB17_2224 ∷ 0x4004_9354_3EA0_7F94
     ∷ 0xC005_A2A2_259B_3B24 ∷ 0xC000_A8F9_7902_9C17 ∷ 0xC001_A2A2_259B_3B24 ∷ 0xBFF1_51F2_F205_382E

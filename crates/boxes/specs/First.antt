@@ -14,7 +14,7 @@ entry_at boxes p q a b s = cond (eqb s a || eqb s b) None (enters p q (box_in bo
 unfoldable pub comes_first : Float → ℕ → Float → ℕ → Bool
 comes_first t s u r = lt t u || (eq t u && ltb s r)
 
--- station s's box in place of the one entered first so far, by its place and its station, where it comes before that
+-- station s's box in place of the one entered first so far, by its entry and its station, where it comes before that
 unfoldable pub sooner : ℕ → Option Float → Option (Float × ℕ) → Option (Float × ℕ)
 sooner s None best = best
 sooner s (Some t) None = Some (t, s)

@@ -1,7 +1,7 @@
-// The point by which a piece goes round a box: a corner of it, half a gap off
+// The point by which a piece goes round a box: a corner of it, half a clearance off
 // (docs/RULES.md, 'Corner of a detour'). A piece is its two ends, p and q.
 ghost use Rattle.std.specs.Prelude.{◌≡◌, cond, None};
-ghost use Rattle.boxes.specs.Corner.{cost, cost_key, clears, clearing, cheaper, cheapest};
+ghost use Rattle.boxes.specs.Corner.{cost, cost_key, avoids, avoiding, cheaper, cheapest};
 ghost use Rattle.boxes.specs.Corner.{corners_of, corner};
 
 use numbers::float::key::order_key_total;
@@ -24,8 +24,8 @@ fn cost_key(p: Point, q: Point, via: Point) -> u64
 }
 
 // Whether the two pieces from p over `via` to q clear the box, shrunk by 1e-9.
-fn clears(p: Point, q: Point, obstacle: Box, via: Point) -> bool
-    ensures { result ≡ clears p q obstacle via }
+fn avoids(p: Point, q: Point, obstacle: Box, via: Point) -> bool
+    ensures { result ≡ avoids p q obstacle via }
 {
     let s = shrunk(obstacle);
     if piece_hits(p, via, s) {
@@ -51,16 +51,16 @@ fn cheaper(p: Point, q: Point, best: Option<Point>, via: Point) -> Option<Point>
 }
 
 // The same, but only where the two pieces over `via` clear the box.
-fn cheaper_clear(
+fn cheaper_avoiding(
     p: Point,
     q: Point,
     obstacle: Box,
     best: Option<Point>,
     via: Point,
 ) -> Option<Point>
-    ensures { result ≡ cond (clears p q obstacle via) (cheaper p q best via) best }
+    ensures { result ≡ cond (avoids p q obstacle via) (cheaper p q best via) best }
 {
-    if clears(p, q, obstacle, via) {
+    if avoids(p, q, obstacle, via) {
         return cheaper(p, q, best, via);
     }
     best
@@ -78,12 +78,12 @@ fn cheapest(p: Point, q: Point, corners: &[Point]) -> Option<Point>
 }
 
 // The cheapest of those that clear the box.
-fn cheapest_clear(p: Point, q: Point, obstacle: Box, corners: &[Point]) -> Option<Point>
-    ensures { result ≡ cheapest p q None (clearing p q obstacle corners.now) }
+fn cheapest_avoiding(p: Point, q: Point, obstacle: Box, corners: &[Point]) -> Option<Point>
+    ensures { result ≡ cheapest p q None (avoiding p q obstacle corners.now) }
 {
     let mut best = None;
     for &c in corners {
-        best = cheaper_clear(p, q, obstacle, best, c);
+        best = cheaper_avoiding(p, q, obstacle, best, c);
     }
     best
 }
@@ -108,15 +108,15 @@ fn corners_of(obstacle: Box, margin: f64) -> [Point; 4]
     ]
 }
 
-/// The point by which the piece p q goes round a box: of the four points half of `gap` off its
-/// corners the cheapest by which both new pieces clear the box, else the cheapest of all four
-/// (docs/RULES.md, 'Corner of a detour').
+// The point by which the piece p q goes round a box: of the four points half of `clearance` off its
+// corners the cheapest by which both new pieces clear the box, else the cheapest of all four
+// (docs/RULES.md, 'Corner of a detour').
 #[tactic(auto, unfolding(crate::specs::Corner::corner))]
-pub fn corner(p: Point, q: Point, obstacle: Box, gap: f64) -> Point
-    ensures { result ≡ corner p q obstacle gap }
+pub(crate) fn corner(p: Point, q: Point, obstacle: Box, clearance: f64) -> Point
+    ensures { result ≡ corner p q obstacle clearance }
 {
-    let corners = corners_of(obstacle, gap * 0.5);
-    cheapest_clear(p, q, obstacle, &corners).unwrap_or_else(|| cheapest(p, q, &corners).unwrap_or(
-        p,
-    ))
+    let corners = corners_of(obstacle, clearance * 0.5);
+    cheapest_avoiding(p, q, obstacle, &corners).unwrap_or_else(|| cheapest(
+        p, q, &corners,
+    ).unwrap_or(p))
 }

@@ -37,9 +37,9 @@ fn put_in(path: &mut [f64], number: usize, end: usize, point: Point)
 /// Leads the path of a line between two stations round boxes, and answers how many points it has
 /// then (docs/RULES.md, 'Detour'). The path is `count` points of `path` from point `first` on, two
 /// numbers each, with room for four more behind it. At most four points are put in, each half of
-/// `gap` off a box that a piece hits, and the same piece is looked at again.
+/// `clearance` off a box that a piece hits, and the same piece is looked at again.
 pub fn detour(
-    gap: f64,
+    clearance: f64,
     index: &BoxIndex<'_>,
     from_station: usize,
     to_station: usize,
@@ -49,7 +49,7 @@ pub fn detour(
 ) -> usize
     requires has_room { 2 * (first + count + 4) ≤ length path.old }
     ensures { Led first result
-        (detour (boxes_of index.now.placed) (occupied_of index.now.placed) gap
+        (detour (boxes_of index.now.placed) (occupied_of index.now.placed) clearance
         from_station to_station (path_in first count path.old)) path.old path.new }
 {
     let mut n = count;
@@ -63,7 +63,7 @@ pub fn detour(
             None => i += 1,
             Some(s) => {
                 let f = box_in(index.placed.k, index.placed.frames, s);
-                put_in(path, first + i + 1, first + n, corner(p, q, f, gap));
+                put_in(path, first + i + 1, first + n, corner(p, q, f, clearance));
                 n += 1;
                 left -= 1;
             }

@@ -55,21 +55,21 @@ pub(crate) fn entry_at(
     enters(p, q, &[0.0; 4])
 }
 
-/// Whether the box of a station, entered at a place, comes before that of another, entered at
+/// Whether the box of a station, entered at a fraction, comes before that of another, entered at
 /// another place: a tie goes to the lower station.
 #[tactic(auto, unfolding(crate::specs::First::comes_first))]
 pub(crate) fn comes_first(
-    place: f64,
+    entry: f64,
     station: usize,
-    other_place: f64,
+    other_entry: f64,
     other_station: usize,
 ) -> bool
-    ensures { result ≡ comes_first place station other_place other_station }
+    ensures { result ≡ comes_first entry station other_entry other_station }
 {
-    place < other_place || place == other_place && station < other_station
+    entry < other_entry || entry == other_entry && station < other_station
 }
 
-/// The box entered first after one more, of `station`: the place where the piece enters it, and its
+/// The box entered first after one more, of `station`: the entry of the piece, and its
 /// station.
 pub(crate) fn sooner(
     station: usize,

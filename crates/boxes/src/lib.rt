@@ -3,8 +3,8 @@
 
 /// The boxes of occupied stations, entered by cell in a lent list.
 pub mod box_cells;
-/// The point by which a piece goes round a box.
-pub mod corner;
+// The point by which a piece goes round a box.
+pub(crate) mod corner;
 /// A path led round boxes.
 pub mod detour;
 pub(crate) mod first_box;

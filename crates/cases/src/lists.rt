@@ -22,18 +22,18 @@ pub(crate) fn channel_agrees(words: &[u64]) -> bool {
         float_at(words, 13),
         float_at(words, 14),
     );
-    all_same(&[c.lo, c.hi, c.gap], words, 15)
+    all_same(&[c.lo, c.hi, c.least_step], words, 15)
 }
 
 pub(crate) fn space_agrees(words: &[u64]) -> bool {
-    let [lo, hi, gap]: [f64; 3] = floats(words, 0);
+    let [lo, hi, least_step]: [f64; 3] = floats(words, 0);
     let n = length_at(words, 3, MOST);
     let mut wish: [f64; MOST] = floats(words, 4);
     let mut keys = [0; MOST];
     let mut order = [0; MOST];
     let mut spare = [0; MOST];
     channels::spacing::space_sorted(
-        Channel { lo, hi, gap },
+        Channel { lo, hi, least_step },
         n,
         &mut wish,
         &mut keys,

@@ -1,2 +1,2 @@
--- Laws of half-edges by their corner.
+-- Laws of half-edges by their vertex.
 pub mod Rounds

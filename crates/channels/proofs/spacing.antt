@@ -7,3 +7,4 @@ pub mod SpaceSizes
 pub mod Spacing
 mod Ways
 pub mod Crossed
+pub mod Finite

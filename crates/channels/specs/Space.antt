@@ -1,4 +1,4 @@
--- The places of a channel's wishes (docs/RULES.md, 'Spacing on a channel'). Definitions only.
+-- The fractions of a channel's wishes (docs/RULES.md, 'Spacing on a channel'). Definitions only.
 use Rattle.std.specs.Prelude.{ℕ, ◌-◌, ◌^◌, Bool, cond, List, [], ◌∷◌, map, eqb, leb, length, get_or, set, Float}
 use Rattle.std.specs.Float.{nan, binary64}
 use Rattle.std.specs.Float.Ieee.{lt, is_nan, of_bits}
@@ -27,46 +27,46 @@ wish_order ws = let keys = map wish_key ws in sort_by (key_at keys) (up_from 0 (
 unfoldable pub in_order : List Float → List ℕ → List Float
 in_order ws order = map (λ j. get_or ws j nan) order
 
--- spread evenly: the place of number i of those to `last`
+-- spread evenly: the fraction of number i of those to `last`
 unfoldable pub even_at : Channel → ℕ → ℕ → Float
 even_at c last i = cond (eqb last 0) ((c.lo ⊕ c.hi) ⊘ f2) (c.lo ⊕ (c.hi ⊖ c.lo) ⊗ num i ⊘ num last)
 
--- the pass up: each wish held to the channel, and at least a gap past the place before it
+-- the pass up: each wish held to the channel, and at least the least step past the fraction before it
 unfoldable pub forward : Channel → Float → List Float → List Float
 forward c before [] = []
-forward c before (w ∷ ws) = let t = max_of (clamp_of w c.lo c.hi) (before ⊕ c.gap) in t ∷ forward c t ws
+forward c before (w ∷ ws) = let t = max_of (clamp_of w c.lo c.hi) (before ⊕ c.least_step) in t ∷ forward c t ws
 
 unfoldable pub forward_all : Channel → List Float → List Float
 forward_all c [] = []
 forward_all c (w ∷ ws) = let t = clamp_of w c.lo c.hi in t ∷ forward c t ws
 
--- t before places that are final: at least a gap before the first of them, or where there is none, not past the
--- channel's end
+-- t before fractions that are final: at least the least step before the first of them, or where there is none, not past
+-- the channel's end
 abbrev pub back_one : Channel → Float → List Float → List Float
 back_one c t [] = min_of t c.hi ∷ []
-back_one c t (u ∷ us) = min_of t (u ⊖ c.gap) ∷ u ∷ us
+back_one c t (u ∷ us) = min_of t (u ⊖ c.least_step) ∷ u ∷ us
 
--- the pass down, from the last place to the first
+-- the pass down, from the last fraction to the first
 unfoldable pub backward : Channel → List Float → List Float
 backward c [] = []
 backward c (t ∷ ts) = back_one c t (backward c ts)
 
 -- whether wishes numbered to `last` do not fit
 unfoldable pub crowded : Channel → ℕ → Bool
-crowded c last = lt (c.hi ⊖ c.lo) (num last ⊗ c.gap)
+crowded c last = lt (c.hi ⊖ c.lo) (num last ⊗ c.least_step)
 
--- the places of wishes that stand in their order
+-- the fractions of wishes that stand in their order
 unfoldable pub spaced : Channel → List Float → List Float
 spaced c ws =
     let n = length ws in
     cond (crowded c (n - 1)) (map (even_at c (n - 1)) (up_from 0 n)) (backward c (forward_all c ws))
 
--- each number of a list gets its place of another
+-- each number of a list gets its fraction of another
 unfoldable pub put_all : List ℕ → List Float → List Float → List Float
 put_all [] ts ps = ps
 put_all (x ∷ xs) [] ps = ps
 put_all (x ∷ xs) (t ∷ ts) ps = put_all xs ts (set ps x t)
 
--- the places of a channel's wishes, each at its wish's number
+-- the fractions of a channel's wishes, each at its wish's number
 unfoldable pub placed : Channel → List Float → List Float
 placed c ws = let o = wish_order ws in put_all o (spaced c (in_order ws o)) ws

@@ -13,7 +13,7 @@ use Rattle.channels.specs.declared.walk.Step.TheVariants.{Out, Home, Lost}
 
 -- The half-edges crossed, in order; and whether the path keeps them, or is cleared while they stay in their channels.
 pub record Walk : Type 0 where
-  pub edges : List ℕ
+  pub half_edges : List ℕ
   pub kept : Bool
 
 -- a walk that makes no further crossing keeps its path where it is home
@@ -22,11 +22,11 @@ home_of (Out h) = false
 home_of Home = true
 home_of Lost = false
 
--- the corners of the mesh, and the place of each corner
+-- the vertices of the mesh, and the place of each vertex
 module _ (corners : List ℕ) (centre : ℕ → Point) where
-  -- the piece from corner va to corner vb crosses half-edge h
-  unfoldable pub crosses_edge : ℕ → ℕ → ℕ → Bool
-  crosses_edge va vb h = crosses (centre va) (centre vb) (centre (at corners h)) (centre (end_at corners h))
+  -- the piece from vertex va to vertex vb crosses half-edge h
+  unfoldable pub crosses_half_edge : ℕ → ℕ → ℕ → Bool
+  crosses_half_edge va vb h = crosses (centre va) (centre vb) (centre (at corners h)) (centre (end_at corners h))
 
   -- In the triangle of half-edge h, which starts at va: home where it has vb, and then nothing is crossed; else out by
   -- the half-edge opposite va, if the line crosses that. Lost: it leaves va by another triangle.
@@ -34,7 +34,7 @@ module _ (corners : List ℕ) (centre : ℕ → Point) where
   leave va vb h =
       cond (eqb (at corners (next h)) vb || eqb (at corners (next (next h))) vb)
       Home
-      (cond (crosses_edge va vb (next h)) (Out (next h)) Lost)
+      (cond (crosses_half_edge va vb (next h)) (Out (next h)) Lost)
 
   -- the first of some triangles that the line doesn't leave va past
   unfoldable pub sought : ℕ → ℕ → List ℕ → Step
@@ -48,9 +48,9 @@ module _ (corners : List ℕ) (centre : ℕ → Point) where
   unfolding sought around
   started va vb = sought va vb (around corners va)
 
-  -- out by the first of two half-edges that the line crosses; neither: the line runs through a corner
+  -- out by the first of two half-edges that the line crosses; neither: the line runs through a vertex
   unfoldable pub out_by : ℕ → ℕ → ℕ → ℕ → Step
-  out_by va vb e f = cond (crosses_edge va vb e) (Out e) (cond (crosses_edge va vb f) (Out f) Lost)
+  out_by va vb e f = cond (crosses_half_edge va vb e) (Out e) (cond (crosses_half_edge va vb f) (Out f) Lost)
 
   -- In the triangle of half-edge g, which the line comes in through: home where its third vertex is vb, that at which
   -- half-edge next (next g) starts; else out by its other two half-edges.
@@ -58,29 +58,30 @@ module _ (corners : List ℕ) (centre : ℕ → Point) where
   unfolding out_by
   pass_on va vb g = cond (eqb (at corners (next (next g))) vb) Home (out_by va vb (next g) (next (next g)))
 
--- the mesh, and the place of each corner
+-- the mesh, and the place of each vertex
 module _ (corners twins : List ℕ) (centre : ℕ → Point) where
   -- after half-edge h is crossed: home where it has no twin, else on from its twin
   unfoldable pub after : ℕ → ℕ → ℕ → Step
   unfolding pass_on
   after va vb h = cond (eqb (at twins h) no_twin) Home (pass_on corners centre va vb (at twins h))
 
-  -- the walk on from x with n crossings left; one more clears the path
+  -- the walk on from x with n crossings left; one more clears it
   unfoldable pub walk : ℕ → ℕ → ℕ → Step → Walk
   unfolding after home_of
-  walk va vb zero x = record { edges = []; kept = home_of x }
-  walk va vb (suc n) (Out h) = let r = walk va vb n (after va vb h) in record { edges = h ∷ r.edges; kept = r.kept }
-  walk va vb (suc n) Home = record { edges = []; kept = true }
-  walk va vb (suc n) Lost = record { edges = []; kept = false }
+  walk va vb zero x = record { half_edges = []; kept = home_of x }
+  walk va vb (suc n) (Out h) = let r = walk va vb n (after va vb h) in
+      record { half_edges = h ∷ r.half_edges; kept = r.kept }
+  walk va vb (suc n) Home = record { half_edges = []; kept = true }
+  walk va vb (suc n) Lost = record { half_edges = []; kept = false }
 
-  -- The whole walk from corner va to corner vb, another one: at most as many crossings as the mesh is long.
+  -- The whole walk from vertex va to vertex vb, another one: at most as many crossings as the mesh is long.
   unfoldable pub traced : ℕ → ℕ → Walk
   unfolding started walk
   traced va vb = walk va vb (length corners) (started corners centre va vb)
 
 -- The code's answer to a walk: its half-edges stand first in the lent list, which is otherwise as before; their number;
 -- whether the path keeps them.
-pub record Trailed (w : Walk) (before behind : List ℕ) (count : ℕ) (kept : Bool) : Type 0 where
-  pub written : behind ≡ w.edges ++ drop count before
-  pub counted : count ≡ length w.edges
+pub record WalkWritten (w : Walk) (before behind : List ℕ) (count : ℕ) (kept : Bool) : Type 0 where
+  pub written : behind ≡ w.half_edges ++ drop count before
+  pub counted : count ≡ length w.half_edges
   pub flag : kept ≡ w.kept

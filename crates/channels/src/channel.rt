@@ -1,16 +1,16 @@
-//! Channels between stations: the stretch where lines may cross.
+//! Channels between stations: the part where lines may cross.
 
 /// The channel between two stations.
 pub mod ends;
 
-/// The stretch of a channel where lines may cross it (docs/RULES.md, 'Channels'), in parts of the
-/// channel's length, from 0 at the lower station to 1 at the higher one.
+/// The numbers of a channel (docs/RULES.md, 'Channels'), as fractions of its length, from 0 at the
+/// place of its lower vertex to 1 at that of its higher one.
 #[derive(Clone, Copy)]
 pub struct Channel {
-    /// The low end of the stretch, from 0 to 1.
+    /// The low end, from 0 to 1.
     pub lo: f64,
-    /// The high end of the stretch, from 0 to 1.
+    /// The high end, from 0 to 1.
     pub hi: f64,
-    /// The least space between two lines.
-    pub gap: f64,
+    /// The least step, which may be above 1.
+    pub least_step: f64,
 }

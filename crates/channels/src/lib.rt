@@ -2,11 +2,11 @@
 //! lines that cross one.
 #![tactic(auto)]
 
-/// The stretch of a channel where lines may cross.
+/// The part of a channel where lines may cross.
 pub mod channel;
 /// Crossings by their channel.
 pub mod grouping;
-/// Half-edges by the corner that they start at.
+/// Half-edges by the vertex that they start at.
 pub mod half_edges;
 /// Laws of channels.
 pub mod laws;

@@ -1,4 +1,4 @@
-//! Crossings of one channel, placed nearest their wishes, in their order, a gap apart
+//! Crossings of one channel, placed nearest their wishes, in their order, the least step apart
 //! (docs/RULES.md, 'Spacing on a channel').
 ghost use Rattle.std.specs.Prelude.{◌≡◌, ◌++◌, map, ◌+◌, ◌-◌, ◌^◌, ◌≤◌, length, drop, take};
 ghost use Rattle.std.specs.Prelude.{replicate};
@@ -59,10 +59,10 @@ fn gather(keys: &[u64], order: &[u32], wish: &mut [f64])
 fn crowded(channel: Channel, last: u32) -> bool
     ensures { result ≡ crowded channel last }
 {
-    (last as f64) * channel.gap > channel.hi - channel.lo
+    (last as f64) * channel.least_step > channel.hi - channel.lo
 }
 
-// Spread evenly: the place of number i of those to `last`.
+// Spread evenly: the fraction of number i of those to `last`.
 #[tactic(auto, unfolding(crate::specs::Space::even_at))]
 fn even_at(channel: Channel, last: u32, index: u32) -> f64
     ensures { result ≡ even_at channel last index }
@@ -83,7 +83,8 @@ fn spread(channel: Channel, last: u32, list: &mut [f64])
     }
 }
 
-// The first pass: each wish held to the channel, and at least a gap past the place before it.
+// The first pass: each wish held to the channel, and at least the least step past the fraction
+// before it.
 #[tactic(auto, unfolding(crate::specs::Space::forward_all))]
 fn forward_pass(channel: Channel, list: &mut [f64])
     ensures { list.new ≡ forward_all channel list.old }
@@ -93,14 +94,14 @@ fn forward_pass(channel: Channel, list: &mut [f64])
         *first = t;
         for x in rest {
             let wish = clamp(*x, channel.lo, channel.hi);
-            let next = t + channel.gap;
+            let next = t + channel.least_step;
             t = max(wish, next);
             *x = t;
         }
     }
 }
 
-// The second pass, from the last place to the first.
+// The second pass, from the last fraction to the first.
 #[tactic(auto, using(crate::proofs::spacing::Passes::back_laws))]
 fn backward_pass(channel: Channel, list: &mut [f64])
     ensures { list.new ≡ backward channel list.old }
@@ -109,13 +110,13 @@ fn backward_pass(channel: Channel, list: &mut [f64])
         let mut t = min(*last, channel.hi);
         *last = t;
         for i in (0..rest.len()).rev() {
-            t = min(rest[i], t - channel.gap);
+            t = min(rest[i], t - channel.least_step);
             rest[i] = t;
         }
     }
 }
 
-// Wishes that stand in their order become their places.
+// Wishes that stand in their order become their fractions.
 #[tactic(auto, using(crate::proofs::spacing::Ways::empty), unfolding(crate::specs::Space::spaced))]
 fn place(channel: Channel, list: &mut [f64])
     requires { length list.old ≤ 2 ^ 32 }
@@ -134,7 +135,7 @@ fn place(channel: Channel, list: &mut [f64])
     }
 }
 
-// Wishes become their places in their order; the other lists are as long.
+// Wishes become their fractions in their order; the other lists are as long.
 fn space_all(
     channel: Channel,
     wish: &mut [f64],
@@ -158,7 +159,7 @@ fn space_all(
     place(channel, wish);
 }
 
-/// The first `count` wishes become their places on the channel, in the order of the wishes, and
+/// The first `count` wishes become their fractions on the channel, in the order of the wishes, and
 /// `order` begins with the wishes' numbers in that order. `keys` and `spare` are work lists; what
 /// each of the four holds past `count` stays.
 pub fn space_sorted(

@@ -20,12 +20,12 @@ use Rattle.network.specs.Words.{station_of, kinds, occupied}
 use Rattle.network.specs.Views.{counts_in, from_rows_in, to_rows_in, points_in, boxes_in}
 use Rattle.placement.specs.Sized.{ill_sized}
 use Rattle.runs.specs.Run as Run
-use Rattle.runs.specs.Run.{Scene}
+use Rattle.runs.specs.Run.{RunScene}
 use Rattle.runs.specs.Stages.Views.{held, lead}
 use Rattle.results.specs.Stages.Runs.{runs_in}
 use Rattle.routing.specs.Route as Route
-use Rattle.routing.specs.Stages.Views.{Grid, grid, lines_in}
-use Rattle.routing.specs.Gap.{gap_of}
+use Rattle.routing.specs.Stages.Views.{TracedLists, grid, lines_in}
+use Rattle.routing.specs.Clearance.{clearance_of}
 use Rattle.routing.proofs.exits.Keeping.{exited_rows}
 use Rattle.routing.specs.Routes.{mesh_fits, crossings_of, route_refusal}
 use Rattle.routing.specs.Stages.Routed.{routed_in, Routes}
@@ -33,11 +33,11 @@ use Rattle.drawing.specs.Network.{Network}
 use Rattle.drawing.specs.Drawing as Drawing
 use Rattle.drawing.specs.Drawing.{measures_of, planned, drawing, straight_scene, led_scene, routed_scene, routed_of, scene_of}
 use Rattle.drawing.specs.Answer.{routed_by}
-use Rattle.chart.specs.Stages.Laid.{Laid}
+use Rattle.chart.specs.Stages.LaidOut.{LaidOut}
 use Rattle.chart.specs.Stages.Charted.{routed_late, Charted}
 use Rattle.chart.proofs.Scenes.{bars_held, scene_by, lines_held, runs_held}
 
-led_cong : (S S' : Scene) (l : Bool) (a a' : List ℕ) (b b' : Float) (w w' : List (List Point))
+led_cong : (S S' : RunScene) (l : Bool) (a a' : List ℕ) (b b' : Float) (w w' : List (List Point))
     → S ≡ S' → a ≡ a' → b ≡ b' → w ≡ w' → led_scene S l a b w ≡ led_scene S' l a' b' w'
 led_cong S S' l a a' b b' w w' p q r s = cc
 
@@ -46,11 +46,11 @@ some_none e = cc
 
 module _ (o : Options) (N : Network) (k : ℕ) (unit : Float) (stations buses ends : List ℕ) (blocks places frames : List Float)
     (below : (i : ℕ) → i < length N.station → station_of N.station i < k)
-    (G : Laid o N k unit stations buses ends blocks places frames) where
+    (G : LaidOut o N k unit stations buses ends blocks places frames) where
   abbrev its : ℕ
   its = o.route_iterations
 
-  abbrev grid_by : List ℕ → Grid
+  abbrev grid_by : List ℕ → TracedLists
   grid_by es = grid N.station N.from N.to N.service (measures_of o unit) es blocks places frames
 
   -- the scene of the lists with these rows is the plan's
@@ -67,16 +67,16 @@ module _ (o : Options) (N : Network) (k : ℕ) (unit : Float) (stations buses en
   lines_are : lines_in (grid_by ends) ≡ table (Drawing.line_of (planned o N).scene) (length (kinds N.station N.from N.to N.service))
   lines_are =
       lines_held N.station (measures_of o unit) buses blocks frames k below ends places N.from N.to N.service
-      ∙ ap (λ (S : Scene). table (Drawing.line_of S) (length (kinds N.station N.from N.to N.service))) (scene_is ends refl refl)
+      ∙ ap (λ (S : RunScene). table (Drawing.line_of S) (length (kinds N.station N.from N.to N.service))) (scene_is ends refl refl)
 
   -- what lines are routed through
   routed_is : routed_in (grid_by ends) k stations N.corners N.twins its ≡ routed_of o N (planned o N)
   unfolding routed_in routed_of routed_scene straight_scene
   routed_is =
       let s = scene_is ends refl refl in
-      let p : points_in k places ≡ (planned o N).scene.places = ap (λ (S : Scene). S.places) s in
-      let b : boxes_in k frames ≡ (planned o N).scene.boxes = ap (λ (S : Scene). S.boxes) s in
-      let ks : kinds N.station N.from N.to N.service ≡ (planned o N).scene.kinds = ap (λ (S : Scene). S.kinds) s in
+      let p : points_in k places ≡ (planned o N).scene.places = ap (λ (S : RunScene). S.places) s in
+      let b : boxes_in k frames ≡ (planned o N).scene.boxes = ap (λ (S : RunScene). S.boxes) s in
+      let ks : kinds N.station N.from N.to N.service ≡ (planned o N).scene.kinds = ap (λ (S : RunScene). S.kinds) s in
       let l : lines_in (grid_by ends) ≡ table (Drawing.line_of (planned o N).scene) (length (planned o N).scene.kinds) =
       lines_are ∙ ap (λ (z : List _). table (Drawing.line_of (planned o N).scene) (length z)) ks
       in
@@ -84,15 +84,15 @@ module _ (o : Options) (N : Network) (k : ℕ) (unit : Float) (stations buses en
 
   ways_long : length (routed_of o N (planned o N)).lines ≡ length N.from
   unfolding routed_in lines_in
-  ways_long = ap (λ (S : Route.Scene). length S.lines) (sym routed_is) ∙ length_table _ (length N.from)
+  ways_long = ap (λ (S : Route.MeshScene). length S.lines) (sym routed_is) ∙ length_table _ (length N.from)
 
   -- the waypoints of a branch
   way_is : (e : ℕ) → e < length N.from
       → Route.waypoints (routed_in (grid_by ends) k stations N.corners N.twins its) (Route.routing (routed_in (grid_by ends) k stations N.corners N.twins its)) (crossings_of (routed_in (grid_by ends) k stations N.corners N.twins its) its) e
-      ≡ get_or (Drawing.ways_of (routed_of o N (planned o N)) (crossings_of (routed_of o N (planned o N)) its)) e []
-  unfolding Drawing.ways_of
+      ≡ get_or (Drawing.waypoints_of (routed_of o N (planned o N)) (crossings_of (routed_of o N (planned o N)) its)) e []
+  unfolding Drawing.waypoints_of
   way_is e h =
-      ap (λ (S : Route.Scene). Route.waypoints S (Route.routing S) (crossings_of S its) e) routed_is
+      ap (λ (S : Route.MeshScene). Route.waypoints S (Route.routing S) (crossings_of S its) e) routed_is
       ∙ sym (get_d_table (Route.waypoints (routed_of o N (planned o N)) (Route.routing (routed_of o N (planned o N))) (crossings_of (routed_of o N (planned o N)) its)) (length (routed_of o N (planned o N)).lines) e [] (rw ways_long h))
 
   module _ (room : ℕ) (l : Option Refusal) (stations' ends' : List ℕ) (path ways : List Float)
@@ -105,18 +105,18 @@ module _ (o : Options) (N : Network) (k : ℕ) (unit : Float) (stations buses en
     counts_are = R.counts ∙ G.counts ∙ G.holds.counts
 
     runs_are : l ≡ None
-        → runs_in (held N.station (measures_of o unit) buses ends' blocks places frames (lead (ltb 0 its) (gap_of unit) k stations' ways)) N.from N.to N.service
+        → runs_in (held N.station (measures_of o unit) buses ends' blocks places frames (lead (ltb 0 its) (clearance_of unit) k stations' ways)) N.from N.to N.service
         ≡ (drawing o N).runs
     unfolding drawing scene_of
     runs_are z =
-        runs_held N.station (measures_of o unit) buses blocks frames k below ends' places N.from N.to N.service (ltb 0 its) (gap_of unit) stations' ways
+        runs_held N.station (measures_of o unit) buses blocks frames k below ends' places N.from N.to N.service (ltb 0 its) (clearance_of unit) stations' ways
         (occupied (counts_in k stations'))
-        (Drawing.ways_of (routed_of o N (planned o N)) (crossings_of (routed_of o N (planned o N)) its))
+        (Drawing.waypoints_of (routed_of o N (planned o N)) (crossings_of (routed_of o N (planned o N)) its))
         refl
         (exited_rows N.station N.from N.to N.service (measures_of o unit) blocks places frames ends ends' R.from_rows R.to_rows G.exits)
         (λ e h. R.along z e h ∙ way_is e h)
         ∙ ap Run.runs
-        (led_cong _ _ (ltb 0 its) _ _ _ _ _ _ (scene_is ends' R.from_rows R.to_rows) (ap occupied counts_are) (ap gap_of G.holds.unit_is) refl)
+        (led_cong _ _ (ltb 0 its) _ _ _ _ _ _ (scene_is ends' R.from_rows R.to_rows) (ap occupied counts_are) (ap clearance_of G.holds.unit_is) refl)
 
     -- The lists hold the drawing with its routes.
     pub charted : (ill : Bool) → ill ≡ ill_sized (boxes_in k frames) (occupied (counts_in k stations)) → ill ≡ false

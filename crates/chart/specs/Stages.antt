@@ -1,3 +1,3 @@
 pub mod Lengths
-pub mod Laid
+pub mod LaidOut
 pub mod Charted

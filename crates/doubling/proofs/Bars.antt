@@ -13,19 +13,19 @@ use Rattle.numbers.proofs.float.DoubleRange.{widen_to, add_stepped, mul_stepped}
 use Rattle.numbers.proofs.float.DoublePairs.{lt_of_doubles, widen_doubles, add_doubles, sub_doubles, mul_doubles_2, div_doubles, num_stepped}
 use Rattle.numbers.specs.Order.{pick}
 use Rattle.plane.specs.declared.geometry.Box.{Box}
-use Rattle.network.specs.declared.options.Gaps.{Gaps}
+use Rattle.network.specs.declared.options.BlockOptions.{BlockOptions}
 use Rattle.stations.specs.declared.bars.Bar.{Bar}
-use Rattle.stations.specs.Bar.{Span, bare, rows, bar_x, row_y, reach, bar_middle, lengthened, bar_for}
+use Rattle.stations.specs.Bar.{Span, bare, rows, bar_x, row_y, bar_ends, bar_middle, lengthened, bar_for}
 use Rattle.placement.specs.Doubles.{DoublesBox}
-use Rattle.doubling.specs.Doubling.{EachGap}
-use Rattle.doubling.proofs.Sizes.{Gap, power, two, two_positive}
+use Rattle.doubling.specs.Doubling.{EachBlockOption}
+use Rattle.doubling.proofs.Sizes.{BlockOption, power, two, two_positive}
 
 -- ---- coefficients of up to 2 ^ 16 blocks
 half : Stepped 1073 (2 ^ 1073) f½
 unfolding fits is_finite grains of_bits
 half = record { number = record { held = tt; finite = tt }; count = 1; grid = refl; size = le_refl (2 ^ 1073) }
 
-column_stepped : (G : Gaps) → EachGap Gap G → (n : ℕ) → n ≤ 2 ^ 12 → Stepped 1021 (2 ^ 1090) (G.pad ⊕ G.bar_gap ⊗ num n)
+column_stepped : (G : BlockOptions) → EachBlockOption BlockOption G → (n : ℕ) → n ≤ 2 ^ 12 → Stepped 1021 (2 ^ 1090) (G.pad ⊕ G.bar_gap ⊗ num n)
 column_stepped G E n h =
     let b : Stepped 1021 (2 ^ 1089) (G.bar_gap ⊗ num n) = mul_stepped 1021 (2 ^ 1089) E.bar_gap (small n h) refl (lit≤ tt) (power 1089 (lit< tt)) in
     add_stepped (widen_to 1021 (2 ^ 1089) (le_refl 1021) (lit≤ tt) E.pad) b (power 1090 (lit< tt))
@@ -33,7 +33,7 @@ column_stepped G E n h =
     small : (n : ℕ) → n ≤ 2 ^ 12 → Stepped 1074 (2 ^ 12 * 2 ^ 1074) (num n)
     small n h = widen_to 1074 (2 ^ 12 * 2 ^ 1074) (le_refl 1074) (mul-le-mul_right (2 ^ 1074) h) (num_stepped n (le_trans h (lit≤ tt)))
 
-row_stepped : (G : Gaps) → EachGap Gap G → (n : ℕ) → n ≤ 2 ^ 13 → Stepped 1021 (2 ^ 1090) (G.pad ⊕ num n ⊕ f½)
+row_stepped : (G : BlockOptions) → EachBlockOption BlockOption G → (n : ℕ) → n ≤ 2 ^ 13 → Stepped 1021 (2 ^ 1090) (G.pad ⊕ num n ⊕ f½)
 row_stepped G E n h =
     let a : Stepped 1021 (2 ^ 1088) (num n) = widen_to 1021 (2 ^ 1088) (lit≤ tt) (le_trans (mul-le-mul_right (2 ^ 1074) h) (lit≤ tt)) (num_stepped n (le_trans h (lit≤ tt))) in
     let b : Stepped 1021 (2 ^ 1089) (G.pad ⊕ num n) = add_stepped (widen_to 1021 (2 ^ 1088) (le_refl 1021) (lit≤ tt) E.pad) a (power 1089 (lit< tt)) in
@@ -57,7 +57,7 @@ Block f f' = Doubles 222 (2 ^ 1200) f f'
 part : {f f' c : Float} → Block f f' → Stepped 1021 (2 ^ 1090) c → Doubles 116 (2 ^ 1216) (c ⊗ f) (c ⊗ f')
 part f c = widen_doubles 116 (2 ^ 1216) (lit≤ tt) (le_refl (2 ^ 1216)) (mul_doubles_2 169 (2 ^ 1216) c f refl (lit≤ tt) (lit≤ tt) (power 1216 (lit< tt)))
 
-module _ (G : Gaps) (E : EachGap Gap G) (box box' : Box) (f f' : Float) (B : DoublesBox 116 (2 ^ 1208) box box') (F : Block f f') where
+module _ (G : BlockOptions) (E : EachBlockOption BlockOption G) (box box' : Box) (f f' : Float) (B : DoublesBox 116 (2 ^ 1208) box box') (F : Block f f') where
   wide : {x x' : Float} → Doubles 116 (2 ^ 1208) x x' → Doubles 116 (2 ^ 1216) x x'
   wide h = widen_doubles 116 (2 ^ 1216) (le_refl 116) (lit≤ tt) h
 
@@ -84,14 +84,14 @@ module _ (G : Gaps) (E : EachGap Gap G) (box box' : Box) (f f' : Float) (B : Dou
   to_17 : {x x' : Float} → Doubles 116 (2 ^ 1216) x x' → Doubles 116 (2 ^ 1217) x x'
   to_17 h = widen_doubles 116 (2 ^ 1217) (le_refl 116) (lit≤ tt) h
 
-  reach_doubles : (x x' : Float) (s : Span) → Rows s → Doubles 116 (2 ^ 1217) x x' → DoublesBar 116 (2 ^ 1218) (reach G box f x s) (reach G box' f' x' s)
-  unfolding reach
-  reach_doubles x x' bare h k = record {
+  bar_ends_doubles : (x x' : Float) (s : Span) → Rows s → Doubles 116 (2 ^ 1217) x x' → DoublesBar 116 (2 ^ 1218) (bar_ends G box f x s) (bar_ends G box' f' x' s)
+  unfolding bar_ends
+  bar_ends_doubles x x' bare h k = record {
     x = to_18 k;
     y0 = to_18 (add_doubles (wide B.top_side) (part F pad_part) (power 1217 (lit< tt)));
     y1 = to_18 (add_doubles (wide B.top_side) (part F bare_part) (power 1217 (lit< tt)));
   }
-  reach_doubles x x' (rows a b) h k = record {
+  bar_ends_doubles x x' (rows a b) h k = record {
     x = to_18 k;
     y0 = sub_doubles (row_y_lem a h.0) (to_17 (part F half_part)) (power 1218 (lit< tt));
     y1 = add_doubles (row_y_lem b h.1) (to_17 (part F half_part)) (power 1218 (lit< tt));
@@ -105,7 +105,7 @@ pick_bar : {lo top : ℕ} {p p' q q' : Bar} (b : Bool) → DoublesBar lo top p p
 pick_bar true f g = f
 pick_bar false f g = g
 
-module _ (G : Gaps) (E : EachGap Gap G) (f f' : Float) (F : Block f f') where
+module _ (G : BlockOptions) (E : EachBlockOption BlockOption G) (f f' : Float) (F : Block f f') where
   -- shortest bar × f, and half of it
   shortest : Doubles 169 (2 ^ 1203) (G.min_bar ⊗ f) (G.min_bar ⊗ f')
   shortest = mul_doubles_2 169 (2 ^ 1203) E.min_bar F refl (lit≤ tt) (lit≤ tt) (power 1203 (lit< tt))
@@ -124,6 +124,6 @@ module _ (G : Gaps) (E : EachGap Gap G) (f f' : Float) (F : Block f f') where
       let test : lt (b'.y1 ⊖ b'.y0) (G.min_bar ⊗ f') ≡ lt (b.y1 ⊖ b.y0) (G.min_bar ⊗ f) = lt_of_doubles (sub_doubles h.y1 h.y0 (power 1219 (lit< tt))) shortest in
       subst (λ (t : Bool). DoublesBar 63 (2 ^ 1220) (pick (lt (b.y1 ⊖ b.y0) (G.min_bar ⊗ f)) long b) (pick t long' b')) (sym test) (pick_bar (lt (b.y1 ⊖ b.y0) (G.min_bar ⊗ f)) made kept)
 
-pub bar_doubles : (G : Gaps) → EachGap Gap G → (box box' : Box) (f f' : Float) → DoublesBox 116 (2 ^ 1208) box box' → Block f f' → (column : ℕ) (s : Span) → column ≤ 2 ^ 12 → Rows s → DoublesBar 63 (2 ^ 1220) (bar_for G box f column s) (bar_for G box' f' column s)
+pub bar_doubles : (G : BlockOptions) → EachBlockOption BlockOption G → (box box' : Box) (f f' : Float) → DoublesBox 116 (2 ^ 1208) box box' → Block f f' → (column : ℕ) (s : Span) → column ≤ 2 ^ 12 → Rows s → DoublesBar 63 (2 ^ 1220) (bar_for G box f column s) (bar_for G box' f' column s)
 unfolding bar_for
-bar_doubles G E box box' f f' B F column s h k = lengthened_doubles G E f f' F (reach G box f (bar_x G box f column) s) (reach G box' f' (bar_x G box' f' column) s) (reach_doubles G E box box' f f' B F (bar_x G box f column) (bar_x G box' f' column) s k (bar_x_lem G E box box' f f' B F column h))
+bar_doubles G E box box' f f' B F column s h k = lengthened_doubles G E f f' F (bar_ends G box f (bar_x G box f column) s) (bar_ends G box' f' (bar_x G box' f' column) s) (bar_ends_doubles G E box box' f f' B F (bar_x G box f column) (bar_x G box' f' column) s k (bar_x_lem G E box box' f f' B F column h))

@@ -20,7 +20,7 @@ use Rattle.numbers.specs.Over.{over}
 use Rattle.std.specs.Prelude.{Option, Some, None, Result, Ok, Err}
 use Rattle.network.specs.declared.refusals.Refusal.{Refusal}
 use Rattle.network.specs.Refusal.{number_of}
-use Rattle.drawing.specs.declared.room.Room.{Room}
+use Rattle.drawing.specs.declared.lengths.ListLengths.{ListLengths}
 use Rattle.drawing.specs.declared.answer.Plot.{Plot}
 use Rattle.drawing.specs.Network.{Network, Lists, Work, Crossings}
 use Rattle.drawing.specs.Drawing.{Drawing, planned, drawing}
@@ -164,7 +164,7 @@ module _ (k : ℕ) (O : Options) (N : Network) (xy' : List Float) (T : Times k (
 -- ---- doubling
 module _ (k : ℕ) (O : Options) (N : Network) (A : Asked k O N) (xy' : List Float) (S : ScaledMap k (length N.station) N.xy xy') where
   -- both drawings, through the map cut to the buses' coordinates
-  drawings : (R : Room) → early O N R ≡ None → Times k (drawing O N) (drawing O (with_map N xy'))
+  drawings : (R : ListLengths) → early O N R ≡ None → Times k (drawing O N) (drawing O (with_map N xy'))
   drawings R e =
       let P = passed k O N A R e in
       let c = take (2 * length N.station) N.xy in
@@ -191,7 +191,7 @@ module _ (k : ℕ) (O : Options) (N : Network) (A : Asked k O N) (xy' : List Flo
     by_early None e =
         let t = drawings (room_of L W X) e in
         subst (λ (r : Option Refusal). ScaledCalls k N L L' (call_late (late (drawing O N) (room_of L W X)) (drawing O N) L W X) (call_late r (drawing O (with_map N xy')) L' W' X'))
-        (sym (ap (λ (R : Room). late (drawing O (with_map N xy')) R) room ∙ t.late_same (room_of L W X)))
+        (sym (ap (λ (R : ListLengths). late (drawing O (with_map N xy')) R) room ∙ t.late_same (room_of L W X)))
         (late_calls k O N xy' t L L' W W' X X' (late (drawing O N) (room_of L W X)))
 
     -- Layout with a map scaled by 2 ^ k, whatever lists of the same lengths are lent and whatever they held.

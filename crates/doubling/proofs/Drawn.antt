@@ -29,11 +29,11 @@ use Rattle.stations.specs.Bar.{bars, position}
 use Rattle.routing.specs.Route as Route
 use Rattle.routing.specs.Routes.{mesh_used, crossings_of}
 use Rattle.routing.proofs.routes.Few.{length_rounds, routing_short}
-use Rattle.runs.specs.Run.{Scene, Piece, runs, run_of}
+use Rattle.runs.specs.Run.{RunScene, Piece, runs, run_of}
 use Rattle.runs.specs.Lists.{flat, point_numbers, box_numbers, bar_numbers, piece_numbers}
-use Rattle.drawing.specs.declared.room.Room.{Room}
+use Rattle.drawing.specs.declared.lengths.ListLengths.{ListLengths}
 use Rattle.drawing.specs.Network.{Network}
-use Rattle.drawing.specs.Drawing.{Plan, planned, straight_scene, led_scene, routed_of, routed_scene, ways_of, scene_of, drawing}
+use Rattle.drawing.specs.Drawing.{Plan, planned, straight_scene, led_scene, routed_of, routed_scene, waypoints_of, scene_of, drawing}
 use Rattle.drawing.specs.Answer.{crossing_room, routed_by, late_by, late, lists_of}
 use Rattle.stations.specs.Doubles.{DoublesPoint, Paired}
 use Rattle.placement.specs.Doubles.{DoublesBox}
@@ -100,7 +100,7 @@ branches_same (x ∷ l) [] p = absurd p
 branches_same (x ∷ l) (x' ∷ l') p = ap (λ (k : ℕ). k ∷ map (λ (q : Piece). q.branch) l') p.0.branch ∙ ap (λ (k : List ℕ). x.branch ∷ k) (branches_same l l' p.1)
 
 -- ---- no iterations: no mesh, no crossings, no waypoints
-module _ (R : Route.Scene) (meshless : length R.corners ≡ 0) where
+module _ (R : Route.MeshScene) (meshless : length R.corners ≡ 0) where
   none_many : (n : ℕ) → length (crossings_of R n) ≡ 0
   unfolding crossings_of
   none_many n =
@@ -110,14 +110,14 @@ module _ (R : Route.Scene) (meshless : length R.corners ≡ 0) where
 
   none_way : (ps : List Float) (e : ℕ) → e < length R.lines → Route.waypoints R (Route.routing R) ps e ≡ []
   unfolding Route.waypoints
-  none_way ps e h = at (Route.path_at R (Route.routing R) e).first (Route.path_at R (Route.routing R) e).count (omega (arith, (routing_short R).each e h))
+  none_way ps e h = at (Route.kept_crossings_at R (Route.routing R) e).first (Route.kept_crossings_at R (Route.routing R) e).count (omega (arith, (routing_short R).each e h))
     where
       at : (a n : ℕ) → n ≤ 0 → map (Route.point_of R (Route.routing R) ps) (up_from a n) ≡ []
       at a zero k = unfold up_from in refl
       at a (suc n) k = absurd (omega arith)
 
-  no_ways : (ps : List Float) (e : ℕ) → get_or (ways_of R ps) e [] ≡ []
-  unfolding ways_of
+  no_ways : (ps : List Float) (e : ℕ) → get_or (waypoints_of R ps) e [] ≡ []
+  unfolding waypoints_of
   no_ways ps e = go (dec_le (length R.lines) e)
     where
       go : Dec (length R.lines ≤ e) → get_or (table (Route.waypoints R (Route.routing R) ps) (length R.lines)) e [] ≡ []
@@ -158,8 +158,8 @@ module _ (O : Options) (N : Network) (it : O.route_iterations ≡ 0) (A : Passed
     from_rows = rows_from O N.station N.kv ks N.xy search F xy' D;
     to_rows = rows_to O N.station N.kv ks N.xy search F xy' D;
     few = few O N.station N.kv ks N.xy search F xy' D;
-    same_gaps = refl;
-    gaps = F.gaps;
+    same_block_options = refl;
+    block_options = F.block_options;
     blocks = block_of O N.station N.kv ks N.xy search F xy' D;
     boxes = λ s. box_wide (box_of O N.station N.kv ks N.xy search F xy' D s);
     places = λ s. point_wide (place_of O N.station N.kv ks N.xy search F xy' D s);
@@ -210,7 +210,7 @@ module _ (O : Options) (N : Network) (it : O.route_iterations ≡ 0) (A : Passed
   unfolding drawing planned
   fits_same = refl
 
-  late_is : (R : Room) → late (drawing O (with_map N xy')) R ≡ late (drawing O N) R
+  late_is : (R : ListLengths) → late (drawing O (with_map N xy')) R ≡ late (drawing O N) R
   unfolding late
   late_is R =
       let d = drawing O N in

@@ -25,9 +25,9 @@ use Rattle.numbers.specs.Table.{how_many, which}
 use Rattle.numbers.proofs.order.Tables.{how_many_zero, how_many_no, which_suc, which_yes, length_table}
 use Rattle.plane.specs.declared.geometry.Point.{Point}
 use Rattle.plane.specs.Plane.{point_at}
-use Rattle.network.specs.declared.options.Gaps.{Gaps}
+use Rattle.network.specs.declared.options.BlockOptions.{BlockOptions}
 use Rattle.network.specs.declared.options.Options.{Options}
-use Rattle.network.specs.Options.{between, search_fits, gap_fits, gaps_fit, in_range}
+use Rattle.network.specs.Options.{between, search_fits, block_option_fits, block_options_fit, in_range}
 use Rattle.network.specs.Words.{station_count, bus_counts, is_occupied, occupied, kind_of, kinds}
 use Rattle.network.specs.Seed.{seeds, place_at}
 use Rattle.std.specs.Prelude.{Option, Some, None}
@@ -36,12 +36,12 @@ use Rattle.network.specs.declared.refusals.Refusal.{Refusal}
 use Rattle.network.specs.declared.refusals.Refusal.TheVariants as Refusals
 use Rattle.network.specs.Refusal.{too_many, above, far_out, too_far, refuse, shape_refusal}
 use Rattle.stations.specs.Unit.{coordinates}
-use Rattle.drawing.specs.declared.room.Room.{Room}
+use Rattle.drawing.specs.declared.lengths.ListLengths.{ListLengths}
 use Rattle.drawing.specs.Network.{Network}
 use Rattle.drawing.specs.Answer.{mesh_length, short_results, short_work, early}
-use Rattle.doubling.specs.Doubling.{sixty_fourth, HasPoint, Allowed, EachGap, Asked, ScaledBus, ScaledMap, with_map}
-use Rattle.doubling.proofs.Frames.{coordinates_at}
-use Rattle.doubling.proofs.Passed.{sixteen, thousand, least_gap, most_gap, Ranged, Passed, lt_no}
+use Rattle.doubling.specs.Doubling.{sixty_fourth, HasPoint, Allowed, EachBlockOption, Asked, ScaledBus, ScaledMap, with_map}
+use Rattle.doubling.proofs.HalfSidesDoubled.{coordinates_at}
+use Rattle.doubling.proofs.Passed.{sixteen, thousand, least_option, most_option, Ranged, Passed, lt_no}
 use Rattle.doubling.proofs.Powers.{both_true, above_down}
 use Rattle.doubling.proofs.Buses.{seeds_ext, same_bus, bus_kept}
 
@@ -85,7 +85,7 @@ module _ (k : ℕ) (O : Options) (N : Network) (A : Asked k O N) where
           go true e = both_true _ _ e
           go false e = absurd (true≢false (sym (ap (λ (b : Bool). b && is_finite (get_or xy' (2 * i + 1) nan)) h.0 ∙ h.1) ∙ (S i l).absent e))
 
-  pub early_same : (xy' : List Float) → ScaledMap k (length N.station) N.xy xy' → (R : Room) → early O (with_map N xy') R ≡ early O N R
+  pub early_same : (xy' : List Float) → ScaledMap k (length N.station) N.xy xy' → (R : ListLengths) → early O (with_map N xy') R ≡ early O N R
   unfolding early
   early_same xy' S R =
       ap (λ (b : Bool). option_or (shape_refusal N.station N.kv N.from N.to) (refuse (not (in_range O)) (Some Refusals.OptionRange) (refuse b (Some Refusals.TooFar) (refuse (short_results (length N.station) (length N.from) (station_count N.station) R) (Some Refusals.ListTooShort) (refuse (short_work (length N.station) (length N.from) (mesh_length N) R) (Some Refusals.ListTooShort) None)))))
@@ -127,29 +127,29 @@ parts a b c d e f g h z w =
     let gh = both_true g h r₅.0 in
     (r₂.0, cd.0, cd.1, ef.0, ef.1, gh.0, gh.1, r₅.1)
 
--- a gap that is in its range
+-- a block option that is in its range
 abbrev Fitting : Float → Type 0
-Fitting x = (le least_gap x ≡ true) × (le x most_gap ≡ true)
+Fitting x = (le least_option x ≡ true) × (le x most_option ≡ true)
 
-fitting : (G : Gaps) → gaps_fit G ≡ true → EachGap Fitting G
-unfolding gaps_fit gap_fits between
+fitting : (G : BlockOptions) → block_options_fit G ≡ true → EachBlockOption Fitting G
+unfolding block_options_fit block_option_fits between
 fitting G h =
-    let at : (x : Float) → le least_gap x && le x most_gap ≡ true → Fitting x = λ x e. both_true (le least_gap x) (le x most_gap) e in
-    let p = both_true (gap_fits G.bar_gap) (gap_fits G.pad && (gap_fits G.min_bar && gap_fits G.buffer)) h in
-    let q = both_true (gap_fits G.pad) (gap_fits G.min_bar && gap_fits G.buffer) p.1 in
-    let r = both_true (gap_fits G.min_bar) (gap_fits G.buffer) q.1 in
+    let at : (x : Float) → le least_option x && le x most_option ≡ true → Fitting x = λ x e. both_true (le least_option x) (le x most_option) e in
+    let p = both_true (block_option_fits G.bar_gap) (block_option_fits G.pad && (block_option_fits G.min_bar && block_option_fits G.buffer)) h in
+    let q = both_true (block_option_fits G.pad) (block_option_fits G.min_bar && block_option_fits G.buffer) p.1 in
+    let r = both_true (block_option_fits G.min_bar) (block_option_fits G.buffer) q.1 in
     record { bar_gap = at G.bar_gap p.0; pad = at G.pad q.0; min_bar = at G.min_bar r.0; buffer = at G.buffer r.1 }
 
 options : (O : Options) → in_range O ≡ true
     → (le O.fill sixteen ≡ true) × (le f0 O.tier_radius ≡ true) × (le O.tier_radius thousand ≡ true)
     × (le sixty_fourth O.tier_scale_1 ≡ true) × (le O.tier_scale_1 f1 ≡ true) × (le sixty_fourth O.tier_scale_2 ≡ true) × (le O.tier_scale_2 f1 ≡ true)
-    × EachGap Fitting O.gaps
+    × EachBlockOption Fitting O.block_options
 unfolding in_range between
 options O r =
     let w = parts (lt f0 O.fill) (le O.fill sixteen) (le f0 O.tier_radius) (le O.tier_radius thousand) (le sixty_fourth O.tier_scale_1) (le O.tier_scale_1 f1) (le sixty_fourth O.tier_scale_2) (le O.tier_scale_2 f1)
-    (search_fits O.search && (gaps_fit O.gaps && leb O.route_iterations 100)) r in
-    let v = both_true (search_fits O.search) (gaps_fit O.gaps && leb O.route_iterations 100) w.7 in
-    (w.0, w.1, w.2, w.3, w.4, w.5, w.6, fitting O.gaps (both_true (gaps_fit O.gaps) (leb O.route_iterations 100) v.1).0)
+    (search_fits O.search && (block_options_fit O.block_options && leb O.route_iterations 100)) r in
+    let v = both_true (search_fits O.search) (block_options_fit O.block_options && leb O.route_iterations 100) w.7 in
+    (w.0, w.1, w.2, w.3, w.4, w.5, w.6, fitting O.block_options (both_true (block_options_fit O.block_options) (leb O.route_iterations 100) v.1).0)
 
 -- a number of a power of two at least is its own size
 above_minus : (m : ℕ) (d : ℕ) → 0 < d → T (ltb 0 (m + d))
@@ -174,7 +174,7 @@ low_is : sixty_fourth ≡ fin false 1 (negsuc 5)
 unfolding of_bits
 low_is = refl
 
-least_is : least_gap ≡ fin false 1 (negsuc 0)
+least_is : least_option ≡ fin false 1 (negsuc 0)
 unfolding of_bits
 least_is = refl
 
@@ -182,9 +182,9 @@ low_most : AtMost 1090 sixty_fourth
 unfolding most_test is_finite of_bits
 low_most = most_lit 1090 sixty_fourth tt
 
-least_most : AtMost 1090 least_gap
+least_most : AtMost 1090 least_option
 unfolding most_test is_finite of_bits
-least_most = most_lit 1090 least_gap tt
+least_most = most_lit 1090 least_option tt
 
 from_to : (k : ℕ) (low x high : Float) → low ≡ fin false 1 (negsuc k) → T (fits binary64 x) → AtMost 1090 low → AtMost 1090 high → le low x ≡ true → le x high ≡ true → Ranged low x high
 from_to k low x high is f b h e g =
@@ -200,12 +200,12 @@ from_to k low x high is f b h e g =
 ranged : (x high : Float) → T (fits binary64 x) → AtMost 1090 high → le sixty_fourth x ≡ true → le x high ≡ true → Ranged sixty_fourth x high
 ranged x high f h e g = from_to 5 sixty_fourth x high low_is f low_most h e g
 
-most_most : AtMost 1090 most_gap
+most_most : AtMost 1090 most_option
 unfolding most_test is_finite of_bits
-most_most = most_lit 1090 most_gap tt
+most_most = most_lit 1090 most_option tt
 
-ranged_gap : (x : Float) → T (fits binary64 x) → Fitting x → Ranged least_gap x most_gap
-ranged_gap x f h = from_to 0 least_gap x most_gap least_is f least_most most_most h.0 h.1
+ranged_option : (x : Float) → T (fits binary64 x) → Fitting x → Ranged least_option x most_option
+ranged_option x f h = from_to 0 least_option x most_option least_is f least_most most_most h.0 h.1
 
 thousand_most : AtMost 1090 thousand
 unfolding most_test is_finite of_bits
@@ -338,7 +338,7 @@ module _ (k : ℕ) (O : Options) (N : Network) (A : Asked k O N) where
       ∙ coordinates_at (seeds N.station N.xy) (occupied (bus_counts N.station)) i l
       ∙ ap (place_at (seeds N.station N.xy)) e
 
-  pub passed : (R : Room) → early O N R ≡ None → Passed k O N.station (kinds N.station N.from N.to N.service) (take (2 * length N.station) N.xy)
+  pub passed : (R : ListLengths) → early O N R ≡ None → Passed k O N.station (kinds N.station N.from N.to N.service) (take (2 * length N.station) N.xy)
   unfolding early kinds
   passed R e =
       let a = or_none _ _ e in
@@ -355,11 +355,11 @@ module _ (k : ℕ) (O : Options) (N : Network) (A : Asked k O N) where
         radius = ranged_radius O.tier_radius A.held.radius A.radius r.1 r.2;
         scale_1 = ranged O.tier_scale_1 f1 A.held.scale_1 one_most r.3 r.4;
         scale_2 = ranged O.tier_scale_2 f1 A.held.scale_2 one_most r.5 r.6;
-        gaps = record {
-          bar_gap = ranged_gap O.gaps.bar_gap A.held.gaps.bar_gap r.7.bar_gap;
-          pad = ranged_gap O.gaps.pad A.held.gaps.pad r.7.pad;
-          min_bar = ranged_gap O.gaps.min_bar A.held.gaps.min_bar r.7.min_bar;
-          buffer = ranged_gap O.gaps.buffer A.held.gaps.buffer r.7.buffer;
+        block_options = record {
+          bar_gap = ranged_option O.block_options.bar_gap A.held.block_options.bar_gap r.7.bar_gap;
+          pad = ranged_option O.block_options.pad A.held.block_options.pad r.7.pad;
+          min_bar = ranged_option O.block_options.min_bar A.held.block_options.min_bar r.7.min_bar;
+          buffer = ranged_option O.block_options.buffer A.held.block_options.buffer r.7.buffer;
         };
         i = i.0;
         j = j.0;

@@ -62,7 +62,7 @@ allowed (suc (suc i)) l h = absurd (never i l)
 pub asked : Asked 1 straight (pair points)
 unfolding defaults fits le eq lt add div of_int of_bits is_finite seeds seed_of sum_to mean bus_point point_of bus_counts buses_in station_count past_to table_from up_from count keep
 asked = record {
-  held = record { fill = tt; radius = tt; scale_1 = tt; scale_2 = tt; gaps = record { bar_gap = tt; pad = tt; min_bar = tt; buffer = tt }; map = held };
+  held = record { fill = tt; radius = tt; scale_1 = tt; scale_2 = tt; block_options = record { bar_gap = tt; pad = tt; min_bar = tt; buffer = tt }; map = held };
   iterations = refl;
   fill = refl;
   radius = inr refl;

@@ -1,5 +1,5 @@
 pub mod Seeds
-pub mod Frames
+pub mod HalfSidesDoubled
 pub mod Sizes
 pub mod Stage
 pub mod Bars

@@ -30,10 +30,10 @@ use Rattle.network.specs.Words.{bus_counts, occupied}
 use Rattle.network.specs.Seed.{seeds}
 use Rattle.stations.specs.Unit.{coordinates}
 use Rattle.stations.specs.Doubles.{DoublesPoint}
-use Rattle.doubling.specs.Doubling.{sixty_fourth, Allowed, EachGap}
-use Rattle.doubling.proofs.Sizes.{Gap, power, sizeless}
+use Rattle.doubling.specs.Doubling.{sixty_fourth, Allowed, EachBlockOption}
+use Rattle.doubling.proofs.Sizes.{BlockOption, power, sizeless}
 use Rattle.doubling.proofs.Seeds.{bus_doubles, seeds_doubles}
-use Rattle.doubling.proofs.Frames.{coordinates_doubles}
+use Rattle.doubling.proofs.HalfSidesDoubled.{coordinates_doubles}
 use Rattle.doubling.proofs.Distinct.{median_some}
 use Rattle.doubling.proofs.Stage.{InRanges, sum_limit, buses_le}
 use Rattle.doubling.proofs.Premises.{mapped, map_doubled, between_stepped}
@@ -46,11 +46,11 @@ abbrev pub thousand : Float
 thousand = of_bits binary64 0x408F_4000_0000_0000
 
 -- 0.5 and 8
-abbrev pub least_gap : Float
-least_gap = of_bits binary64 0x3FE0_0000_0000_0000
+abbrev pub least_option : Float
+least_option = of_bits binary64 0x3FE0_0000_0000_0000
 
-abbrev pub most_gap : Float
-most_gap = of_bits binary64 0x4020_0000_0000_0000
+abbrev pub most_option : Float
+most_option = of_bits binary64 0x4020_0000_0000_0000
 
 -- a size from one limit to another, or 0
 pub record Ranged (low x high : Float) : Type 0 where
@@ -67,7 +67,7 @@ pub record Passed (k : ℕ) (O : Options) (sub : List ℕ) (ks : List Kind) (xy 
   pub radius : Ranged sixty_fourth O.tier_radius thousand
   pub scale_1 : Ranged sixty_fourth O.tier_scale_1 f1
   pub scale_2 : Ranged sixty_fourth O.tier_scale_2 f1
-  pub gaps : EachGap (λ x. Ranged least_gap x most_gap) O.gaps
+  pub block_options : EachBlockOption (λ x. Ranged least_option x most_option) O.block_options
   -- two occupied stations, the i-th and the j-th, on different seeds
   pub i : ℕ
   pub j : ℕ
@@ -172,24 +172,24 @@ low_grains = refl
 ranged_stepped : (x high : Float) (top : ℕ) → Finite high → abs_of high ≡ high → grains high ≤ top → Ranged sixty_fourth x high → Stepped 1016 top x
 ranged_stepped x high top h p q r = between_stepped x sixty_fourth high r.number low_number h low_plus p 1016 top r.fine r.most (le_of_eq (sym low_grains)) q
 
-gap_numbers : Finite least_gap × Finite most_gap
+option_numbers : Finite least_option × Finite most_option
 unfolding fits is_finite of_bits
-gap_numbers = (record { held = tt; finite = tt }, record { held = tt; finite = tt })
+option_numbers = (record { held = tt; finite = tt }, record { held = tt; finite = tt })
 
-gap_plus : (abs_of least_gap ≡ least_gap) × (abs_of most_gap ≡ most_gap)
+option_plus : (abs_of least_option ≡ least_option) × (abs_of most_option ≡ most_option)
 unfolding abs_of of_bits
-gap_plus = (refl, refl)
+option_plus = (refl, refl)
 
-least_grains : grains least_gap ≡ 2 ^ 1073
+least_grains : grains least_option ≡ 2 ^ 1073
 unfolding grains of_bits
 least_grains = refl
 
-most_grains : grains most_gap ≤ 8 * 2 ^ 1074
+most_grains : grains most_option ≤ 8 * 2 ^ 1074
 unfolding grains of_bits
 most_grains = lit≤ tt
 
-gap_stepped : (x : Float) → Ranged least_gap x most_gap → Gap x
-gap_stepped x r = between_stepped x least_gap most_gap r.number gap_numbers.0 gap_numbers.1 gap_plus.0 gap_plus.1 1021 (8 * 2 ^ 1074) r.fine r.most (le_of_eq (sym least_grains)) most_grains
+option_stepped : (x : Float) → Ranged least_option x most_option → BlockOption x
+option_stepped x r = between_stepped x least_option most_option r.number option_numbers.0 option_numbers.1 option_plus.0 option_plus.1 1021 (8 * 2 ^ 1074) r.fine r.most (le_of_eq (sym least_grains)) most_grains
 
 one_number : Finite f1
 unfolding fits is_finite of_bits
@@ -250,7 +250,7 @@ in_ranges O sub ks xy A = record {
   radius = ranged_stepped O.tier_radius thousand (1024 * 2 ^ 1074) thousand_number thousand_plus thousand_grains A.radius;
   scale_1 = ranged_stepped O.tier_scale_1 f1 (2 ^ 1074) one_number one_plus one_grains A.scale_1;
   scale_2 = ranged_stepped O.tier_scale_2 f1 (2 ^ 1074) one_number one_plus one_grains A.scale_2;
-  gaps = record { bar_gap = gap_stepped O.gaps.bar_gap A.gaps.bar_gap; pad = gap_stepped O.gaps.pad A.gaps.pad; min_bar = gap_stepped O.gaps.min_bar A.gaps.min_bar; buffer = gap_stepped O.gaps.buffer A.gaps.buffer };
+  block_options = record { bar_gap = option_stepped O.block_options.bar_gap A.block_options.bar_gap; pad = option_stepped O.block_options.pad A.block_options.pad; min_bar = option_stepped O.block_options.min_bar A.block_options.min_bar; buffer = option_stepped O.block_options.buffer A.block_options.buffer };
   some = median_some ps (length ss) A.i A.j A.first A.second other (distance_finite p q P.x.stepped P.y.stepped Q.x.stepped Q.y.stepped) (distance_positive p q P.x.stepped P.y.stepped Q.x.stepped Q.y.stepped A.different);
 }
   where

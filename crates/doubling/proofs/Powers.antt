@@ -29,7 +29,7 @@ use Rattle.network.specs.Seed.{seeds}
 use Rattle.network.specs.Refusal.{above}
 use Rattle.stations.specs.Unit.{coordinates}
 use Rattle.drawing.specs.Network.{Network}
-use Rattle.drawing.specs.declared.room.Room.{Room}
+use Rattle.drawing.specs.declared.lengths.ListLengths.{ListLengths}
 use Rattle.drawing.specs.Drawing.{Drawing, drawing}
 use Rattle.drawing.specs.Answer.{late, lists_of}
 use Rattle.stations.specs.Doubles.{DoublesPoint}
@@ -39,7 +39,7 @@ use Rattle.doubling.specs.Doubling.{least, HasPoint, Allowed, ScaledBox, with_ma
 use Rattle.doubling.proofs.Passed.{Passed}
 use Rattle.doubling.proofs.Sizes.{power}
 use Rattle.doubling.proofs.Seeds.{bus_doubles, seeds_doubles}
-use Rattle.doubling.proofs.Frames.{coordinates_doubles}
+use Rattle.doubling.proofs.HalfSidesDoubled.{coordinates_doubles}
 use Rattle.doubling.proofs.Stage.{sum_limit, buses_le}
 use Rattle.doubling.proofs.Premises.{coordinate_stepped, mapped, least_number, least_plus, at_least, farthest, farthest_number, farthest_plus, above_twice}
 use Rattle.doubling.proofs.Drawn.{doubling}
@@ -145,7 +145,7 @@ module _ (k : ℕ) (O : Options) (sub : List ℕ) (ks : List Kind) (xy : List Fl
     fill = P.fill;
     radius = P.radius;
     scale_1 = P.scale_1;
-    gaps = P.gaps;
+    block_options = P.block_options;
     scale_2 = P.scale_2;
     i = P.i;
     j = P.j;
@@ -192,7 +192,7 @@ module _ (k : ℕ) (O : Options) (sub : List ℕ) (ks : List Kind) (xy : List Fl
     fill = P.fill;
     radius = P.radius;
     scale_1 = P.scale_1;
-    gaps = P.gaps;
+    block_options = P.block_options;
     scale_2 = P.scale_2;
     i = P.i;
     j = P.j;
@@ -203,7 +203,7 @@ module _ (k : ℕ) (O : Options) (sub : List ℕ) (ks : List Kind) (xy : List Fl
 
 -- what is the same in two drawings, and what is scaled
 pub record Times (k : ℕ) (d d' : Drawing) : Type 0 where
-  pub late_same : (R : Room) → late d' R ≡ late d R
+  pub late_same : (R : ListLengths) → late d' R ≡ late d R
   pub unit : d'.unit ≡ scaled k d.unit
   pub bounds : ScaledBox k d.bounds d'.bounds
   pub piece_count : length d'.pieces ≡ length d.pieces

@@ -15,7 +15,7 @@ use Rattle.numbers.specs.Order.{pick}
 use Rattle.numbers.specs.Table.{joined}
 use Rattle.plane.specs.declared.geometry.Point.{Point}
 use Rattle.plane.specs.declared.geometry.Box.{Box}
-use Rattle.network.specs.declared.options.Gaps.{Gaps}
+use Rattle.network.specs.declared.options.BlockOptions.{BlockOptions}
 use Rattle.network.specs.declared.words.Kind.{Kind}
 use Rattle.network.specs.declared.words.Kind.TheVariants.{Undrawn, Open, Internal, Line}
 use Rattle.network.specs.Words.{kind_at, station_of}
@@ -25,13 +25,13 @@ use Rattle.boxes.specs.Detour.{detour}
 use Rattle.stations.specs.declared.bars.Bar.{Bar}
 use Rattle.stations.specs.Bar.{block_at, bar_at, position, row_end}
 use Rattle.stations.specs.Exit.{exit_x, exit}
-use Rattle.runs.specs.Run.{Scene, Piece, slot, led_path, line_points, run_for, run_of, apart, pieces, is_line, all_pieces}
+use Rattle.runs.specs.Run.{RunScene, Piece, row_end_at, led_path, line_points, run_for, run_of, apart, pieces, is_line, all_pieces}
 use Rattle.results.specs.Bounds.{around, around_all, nowhere, bounds_of}
 use Rattle.stations.specs.Doubles.{DoublesPoint, Paired}
 use Rattle.placement.specs.Doubles.{DoublesBox}
-use Rattle.doubling.specs.Doubling.{EachGap}
+use Rattle.doubling.specs.Doubling.{EachBlockOption}
 use Rattle.doubling.specs.Twice.{TwiceBox}
-use Rattle.doubling.proofs.Sizes.{Gap, power, two, two_positive}
+use Rattle.doubling.proofs.Sizes.{BlockOption, power, two, two_positive}
 use Rattle.doubling.proofs.Bars.{DoublesBar, Block, row_y_lem}
 
 -- points of runs: multiples of 2 ^ 10 grains, up to 2 ^ 1221
@@ -39,14 +39,14 @@ abbrev pub Spot : Point → Point → Type 0
 Spot p p' = DoublesPoint 10 (2 ^ 1221) p p'
 
 -- the scenes of two drawings
-pub record Scenes (S S' : Scene) : Type 0 where
+pub record Scenes (S S' : RunScene) : Type 0 where
   pub sub : S'.sub ≡ S.sub
   pub kinds : S'.kinds ≡ S.kinds
   pub from_rows : S'.from_rows ≡ S.from_rows
   pub to_rows : S'.to_rows ≡ S.to_rows
   pub few : (e : ℕ) → (get_or S.from_rows e 0 ≤ 2 ^ 13) × (get_or S.to_rows e 0 ≤ 2 ^ 13)
-  pub same_gaps : S'.gaps ≡ S.gaps
-  pub gaps : EachGap Gap S.gaps
+  pub same_block_options : S'.block_options ≡ S.block_options
+  pub block_options : EachBlockOption BlockOption S.block_options
   pub blocks : (s : ℕ) → Block (block_at S.blocks s) (block_at S'.blocks s)
   pub boxes : (s : ℕ) → DoublesBox 116 (2 ^ 1208) (box_in S.boxes s) (box_in S'.boxes s)
   pub places : (s : ℕ) → DoublesPoint 116 (2 ^ 1208) (place_at S.places s) (place_at S'.places s)
@@ -74,32 +74,32 @@ exit_x_lem b b' p p' q q' h f g =
     subst (λ (t : Bool). Doubles 10 (2 ^ 1221) (pick (le p.x q.x) b.right b.left) (pick t b'.right b'.left)) (sym (le_of_doubles f.x g.x))
     (widen_doubles 10 (2 ^ 1221) (lit≤ tt) (lit≤ tt) (pick_doubles (le p.x q.x) h.right h.left))
 
-module _ (S S' : Scene) (H : Scenes S S') where
-  slot_at : (i row : ℕ) → row ≤ 2 ^ 13 → Spot (row_end S.gaps S.sub S.blocks S.boxes S.bars i row) (row_end S.gaps S.sub S'.blocks S'.boxes S'.bars i row)
+module _ (S S' : RunScene) (H : Scenes S S') where
+  row_end_point : (i row : ℕ) → row ≤ 2 ^ 13 → Spot (row_end S.block_options S.sub S.blocks S.boxes S.bars i row) (row_end S.block_options S.sub S'.blocks S'.boxes S'.bars i row)
   unfolding row_end
-  slot_at i row h =
+  row_end_point i row h =
       let s = station_of S.sub i in
       record {
         x = widen_doubles 10 (2 ^ 1221) (lit≤ tt) (lit≤ tt) (H.bars i).x;
-        y = widen_doubles 10 (2 ^ 1221) (lit≤ tt) (lit≤ tt) (row_y_lem S.gaps H.gaps (box_in S.boxes s) (box_in S'.boxes s) (block_at S.blocks s) (block_at S'.blocks s) (H.boxes s) (H.blocks s) row h);
+        y = widen_doubles 10 (2 ^ 1221) (lit≤ tt) (lit≤ tt) (row_y_lem S.block_options H.block_options (box_in S.boxes s) (box_in S'.boxes s) (block_at S.blocks s) (block_at S'.blocks s) (H.boxes s) (H.blocks s) row h);
       }
 
-  slot_doubles : (i row : ℕ) → row ≤ 2 ^ 13 → Spot (slot S i row) (slot S' i row)
-  unfolding slot
-  slot_doubles i row h =
-      subst (λ (g : Gaps). Spot (row_end S.gaps S.sub S.blocks S.boxes S.bars i row) (row_end g S'.sub S'.blocks S'.boxes S'.bars i row)) (sym H.same_gaps)
-      (subst (λ (l : List ℕ). Spot (row_end S.gaps S.sub S.blocks S.boxes S.bars i row) (row_end S.gaps l S'.blocks S'.boxes S'.bars i row)) (sym H.sub) (slot_at i row h))
+  row_end_at_doubles : (i row : ℕ) → row ≤ 2 ^ 13 → Spot (row_end_at S i row) (row_end_at S' i row)
+  unfolding row_end_at
+  row_end_at_doubles i row h =
+      subst (λ (g : BlockOptions). Spot (row_end S.block_options S.sub S.blocks S.boxes S.bars i row) (row_end g S'.sub S'.blocks S'.boxes S'.bars i row)) (sym H.same_block_options)
+      (subst (λ (l : List ℕ). Spot (row_end S.block_options S.sub S.blocks S.boxes S.bars i row) (row_end S.block_options l S'.blocks S'.boxes S'.bars i row)) (sym H.sub) (row_end_point i row h))
 
   exit_doubles : (s t : ℕ) (y y' : Float) → Doubles 10 (2 ^ 1221) y y' → Spot (exit S.boxes S.places s t y) (exit S'.boxes S'.places s t y')
   unfolding exit
   exit_doubles s t y y' h = record { x = exit_x_lem (box_in S.boxes s) (box_in S'.boxes s) (place_at S.places s) (place_at S'.places s) (place_at S.places t) (place_at S'.places t) (H.boxes s) (H.places s) (H.places t); y = h }
 
-  -- a line without waypoints and detours: slot, exit, exit, slot
-  straight : (T : Scene) (s t : ℕ) (p q : Point) → T.led ≡ false → line_points T s t [] p q ≡ p ∷ exit T.boxes T.places s t p.y ∷ exit T.boxes T.places t s q.y ∷ q ∷ []
+  -- a line without waypoints and detours: row end, exit, exit, row end
+  straight : (T : RunScene) (s t : ℕ) (p q : Point) → T.led ≡ false → line_points T s t [] p q ≡ p ∷ exit T.boxes T.places s t p.y ∷ exit T.boxes T.places t s q.y ∷ q ∷ []
   unfolding line_points led_path
   straight T s t p q e =
       let path = exit T.boxes T.places s t p.y ∷ exit T.boxes T.places t s q.y ∷ [] in
-      ap (λ (b : Bool). p ∷ (cond b (detour T.boxes T.occupied T.gap s t path) path ++ (q ∷ []))) e
+      ap (λ (b : Bool). p ∷ (cond b (detour T.boxes T.occupied T.clearance s t path) path ++ (q ∷ []))) e
 
   line_doubles : (s t : ℕ) (p p' q q' : Point) → Spot p p' → Spot q q' → Paired (DoublesPoint 10 (2 ^ 1221)) (line_points S s t [] p q) (line_points S' s t [] p' q')
   line_doubles s t p p' q q' f g =
@@ -111,10 +111,10 @@ module _ (S S' : Scene) (H : Scenes S S') where
   unfolding run_for
   run_for_lem ra rb Undrawn h k = tt
   run_for_lem ra rb (Open a b) h k = (position_doubles (bar_at S.bars a) (bar_at S'.bars a) (H.bars a), (position_doubles (bar_at S.bars b) (bar_at S'.bars b) (H.bars b), tt))
-  run_for_lem ra rb (Internal a b) h k = (slot_doubles a ra h, (slot_doubles b rb k, tt))
+  run_for_lem ra rb (Internal a b) h k = (row_end_at_doubles a ra h, (row_end_at_doubles b rb k, tt))
   run_for_lem ra rb (Line a b) h k =
-      subst (λ (l : List ℕ). Paired (DoublesPoint 10 (2 ^ 1221)) (line_points S (station_of S.sub a) (station_of S.sub b) [] (slot S a ra) (slot S b rb)) (line_points S' (station_of l a) (station_of l b) [] (slot S' a ra) (slot S' b rb))) (sym H.sub)
-      (line_doubles (station_of S.sub a) (station_of S.sub b) (slot S a ra) (slot S' a ra) (slot S b rb) (slot S' b rb) (slot_doubles a ra h) (slot_doubles b rb k))
+      subst (λ (l : List ℕ). Paired (DoublesPoint 10 (2 ^ 1221)) (line_points S (station_of S.sub a) (station_of S.sub b) [] (row_end_at S a ra) (row_end_at S b rb)) (line_points S' (station_of l a) (station_of l b) [] (row_end_at S' a ra) (row_end_at S' b rb))) (sym H.sub)
+      (line_doubles (station_of S.sub a) (station_of S.sub b) (row_end_at S a ra) (row_end_at S' a ra) (row_end_at S b rb) (row_end_at S' b rb) (row_end_at_doubles a ra h) (row_end_at_doubles b rb k))
 
   pub run_doubles : (e : ℕ) → Paired (DoublesPoint 10 (2 ^ 1221)) (run_of S e) (run_of S' e)
   unfolding run_of

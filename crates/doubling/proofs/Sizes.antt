@@ -28,7 +28,7 @@ use Rattle.numbers.specs.Table.{table}
 use Rattle.numbers.proofs.order.Tables.{get_d_table, length_table, how_many_le}
 use Rattle.numbers.specs.Median.{finite_of, insert_float, sort_floats, middle, median_of}
 use Rattle.plane.specs.declared.geometry.Point.{Point}
-use Rattle.network.specs.declared.options.Gaps.{Gaps}
+use Rattle.network.specs.declared.options.BlockOptions.{BlockOptions}
 use Rattle.network.specs.declared.options.Options.{Options}
 use Rattle.network.specs.declared.words.Kind.{Kind}
 use Rattle.network.specs.Words.{buses_in, bus_counts, is_occupied, occupied}
@@ -36,7 +36,7 @@ use Rattle.stations.specs.Row.{rows_in}
 use Rattle.stations.specs.Size.{Size, width_for, height_for, size_for, sizes, size_at, sides}
 use Rattle.stations.specs.Unit.{typical}
 use Rattle.stations.specs.Scale.{tier, scale_at, scales_of, scales}
-use Rattle.doubling.specs.Doubling.{EachGap}
+use Rattle.doubling.specs.Doubling.{EachBlockOption}
 
 -- ---- constants
 pub one : Stepped 1074 (2 ^ 1074) f1
@@ -57,16 +57,16 @@ power k h = record { q = 1; k = k; is = at (2 ^ k); digits = lit< tt; room = pow
     at : (p : ℕ) → p ≡ 1 * p
     at p = omega arith
 
--- ---- a gap from 0.5 to 8: 1021 is 1074 - 1 - 52
-abbrev pub Gap : Float → Type 0
-Gap x = Stepped 1021 (8 * 2 ^ 1074) x
+-- ---- a block option from 0.5 to 8: 1021 is 1074 - 1 - 52
+abbrev pub BlockOption : Float → Type 0
+BlockOption x = Stepped 1021 (8 * 2 ^ 1074) x
 
-twice_stepped : (x : Float) → Gap x → Stepped 1021 (2 ^ 15 * 2 ^ 1074) (f2 ⊗ x)
+twice_stepped : (x : Float) → BlockOption x → Stepped 1021 (2 ^ 15 * 2 ^ 1074) (f2 ⊗ x)
 twice_stepped x g = mul_stepped 1021 (2 ^ 15 * 2 ^ 1074) two g refl (lit≤ tt) (power 1089 (lit< tt))
 
 -- ---- sizes: at most 2 ^ 16 blocks
 -- the width of up to 2 ^ 12 buses, the height of up to 2 ^ 13 rows
-width_stepped : (G : Gaps) → EachGap Gap G → (n : ℕ) → n ≤ 2 ^ 12 → Stepped 1021 (2 ^ 16 * 2 ^ 1074) (width_for G n)
+width_stepped : (G : BlockOptions) → EachBlockOption BlockOption G → (n : ℕ) → n ≤ 2 ^ 12 → Stepped 1021 (2 ^ 16 * 2 ^ 1074) (width_for G n)
 unfolding width_for
 width_stepped G E n h =
     let a : Stepped 1074 (2 ^ 12 * 2 ^ 1074) (num (n - 1)) = widen_to 1074 (2 ^ 12 * 2 ^ 1074) (le_refl 1074) (mul-le-mul_right (2 ^ 1074) (less n h)) (num_stepped (n - 1) (le_trans (less n h) (lit≤ tt))) in
@@ -76,7 +76,7 @@ width_stepped G E n h =
     less : (n : ℕ) → n ≤ 2 ^ 12 → n - 1 ≤ 2 ^ 12
     less n h = omega arith
 
-height_stepped : (G : Gaps) → EachGap Gap G → (n : ℕ) → n ≤ 2 ^ 13 → Stepped 1021 (2 ^ 16 * 2 ^ 1074) (height_for G n)
+height_stepped : (G : BlockOptions) → EachBlockOption BlockOption G → (n : ℕ) → n ≤ 2 ^ 13 → Stepped 1021 (2 ^ 16 * 2 ^ 1074) (height_for G n)
 unfolding height_for
 height_stepped G E n h =
     let a : Stepped 1021 (2 ^ 15 * 2 ^ 1074) (num n) = widen_to 1021 (2 ^ 15 * 2 ^ 1074) (lit≤ tt) (le_trans (mul-le-mul_right (2 ^ 1074) h) (lit≤ tt)) (num_stepped n (le_trans h (lit≤ tt))) in
@@ -102,7 +102,7 @@ rows_le : (sub : List ℕ) (ks : List Kind) (s : ℕ) → length ks ≤ 2 ^ 13 �
 unfolding rows_in
 rows_le sub ks s h = le_trans (how_many_le _ (length ks)) h
 
-pub sizes_stepped : (G : Gaps) → EachGap Gap G → (sub : List ℕ) (ks : List Kind) → length sub ≤ 2 ^ 12 → length ks ≤ 2 ^ 13 → (s : ℕ) → Blocks (size_at (sizes G sub ks (bus_counts sub)) s)
+pub sizes_stepped : (G : BlockOptions) → EachBlockOption BlockOption G → (sub : List ℕ) (ks : List Kind) → length sub ≤ 2 ^ 12 → length ks ≤ 2 ^ 13 → (s : ℕ) → Blocks (size_at (sizes G sub ks (bus_counts sub)) s)
 unfolding sizes size_for
 sizes_stepped G E sub ks h k =
     table_in Blocks (λ s. size_for G (get_or (bus_counts sub) s 0) (rows_in sub ks s)) (length (bus_counts sub)) (record { w = f0; h = f0 })
@@ -207,6 +207,6 @@ pick_stepped : {lo top : ℕ} {x y : Float} (b : Bool) → Stepped lo top x → 
 pick_stepped true f g = f
 pick_stepped false f g = g
 
-pub scales_stepped : (O : Options) (qs : List Point) (counts : List ℕ) (gap : Float) → Stepped 1016 (2 ^ 1074) O.tier_scale_1 → Stepped 1016 (2 ^ 1074) O.tier_scale_2 → (s : ℕ) → Stepped 1016 (2 ^ 1074) (get_or (scales O qs counts gap) s f1)
+pub scales_stepped : (O : Options) (qs : List Point) (counts : List ℕ) (median_spacing : Float) → Stepped 1016 (2 ^ 1074) O.tier_scale_1 → Stepped 1016 (2 ^ 1074) O.tier_scale_2 → (s : ℕ) → Stepped 1016 (2 ^ 1074) (get_or (scales O qs counts median_spacing) s f1)
 unfolding scales scales_of scale_at tier
-scales_stepped O qs counts gap a b = table_in (Stepped 1016 (2 ^ 1074)) _ (length counts) f1 (λ s. pick_stepped (is_occupied counts s) (pick_stepped (leb O.tier_count_2 _) b (pick_stepped (leb O.tier_count_1 _) a one_fine)) one_fine) one_fine
+scales_stepped O qs counts median_spacing a b = table_in (Stepped 1016 (2 ^ 1074)) _ (length counts) f1 (λ s. pick_stepped (is_occupied counts s) (pick_stepped (leb O.tier_count_2 _) b (pick_stepped (leb O.tier_count_1 _) a one_fine)) one_fine) one_fine

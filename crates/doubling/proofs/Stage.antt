@@ -19,7 +19,7 @@ use Rattle.numbers.specs.Median.{median_of}
 use Rattle.numbers.proofs.order.Tables.{get_d_table, length_table, how_many_le}
 use Rattle.plane.specs.declared.geometry.Point.{Point}
 use Rattle.plane.specs.Near.{nearest}
-use Rattle.network.specs.declared.options.Gaps.{Gaps}
+use Rattle.network.specs.declared.options.BlockOptions.{BlockOptions}
 use Rattle.network.specs.declared.options.Options.{Options}
 use Rattle.network.specs.declared.words.Kind.{Kind}
 use Rattle.network.specs.Words.{station_count, buses_in, bus_counts, occupied}
@@ -31,20 +31,20 @@ use Rattle.stations.specs.Scale.{scales}
 use Rattle.offsets.specs.Offset.{offsets}
 use Rattle.plane.specs.Plane.{box_in}
 use Rattle.placement.specs.Place.{places, boxes}
-use Rattle.placement.specs.Search.{Frame, frame_for, frames, frame_at}
+use Rattle.placement.specs.Search.{HalfSides, half_sides_for, half_sides, half_sides_at}
 use Rattle.placement.specs.Turns.{placement_order}
 use Rattle.placement.specs.Sized.{ill_sized}
 use Rattle.placement.specs.Stages.Listed.{Turns}
 use Rattle.placement.proofs.turns.Queue.{order_turns}
 use Rattle.stations.specs.Doubles.{DoublesPoint}
-use Rattle.placement.specs.Doubles.{DoublesBox, DoublesFrame, Reach}
+use Rattle.placement.specs.Doubles.{DoublesBox, DoublesHalfSides, SearchLimits}
 use Rattle.drawing.specs.Drawing.{measures_of}
-use Rattle.doubling.specs.Doubling.{EachGap}
+use Rattle.doubling.specs.Doubling.{EachBlockOption}
 use Rattle.doubling.specs.Twice.{DoubledMap}
 use Rattle.doubling.proofs.Seeds.{Mapped, bus_doubles, seeds_doubles, from_rows_lem, to_rows_lem}
 use Rattle.stations.proofs.units.SpacingDoubles.{spacing_doubles, unit_doubles}
-use Rattle.doubling.proofs.Sizes.{Gap, Blocks, power, sizes_stepped, typical_stepped, typical_positive, scales_stepped}
-use Rattle.doubling.proofs.Frames.{coordinates_doubles, scales_same, frame_doubles}
+use Rattle.doubling.proofs.Sizes.{BlockOption, Blocks, power, sizes_stepped, typical_stepped, typical_positive, scales_stepped}
+use Rattle.doubling.proofs.HalfSidesDoubled.{coordinates_doubles, scales_same, half_sides_doubles}
 use Rattle.placement.proofs.PlaceDoubles.{offsets_small, places_doubles, boxes_doubles}
 use Rattle.placement.proofs.sized.SizedDoubles.{ill_sized_of_doubles}
 
@@ -78,16 +78,16 @@ doubles_table {A} R f g n d h k s = go (dec_le n s)
     go (yes l) = subst (λ (a : A). R a (get_or (table g n) s d)) (sym (past f l)) (subst (λ (a : A). R d a) (sym (past g l)) k)
     go (no l) = subst (λ (a : A). R a (get_or (table g n) s d)) (sym (get_d_table f n s d (lt_of_not-le l))) (subst (λ (a : A). R (f s) a) (sym (get_d_table g n s d (lt_of_not-le l))) (h s))
 
--- frames by station
-frames_doubles : {t : ℕ} (lo : ℕ) (G : Gaps) (unit unit' : Float) (ss : List Float) (zs : List Size) → Doubles (lo + 164) t unit unit' → ((s : ℕ) → Stepped 1016 (2 ^ 1074) (get_or ss s f1)) → ((s : ℕ) → Blocks (size_at zs s)) → Gap G.buffer → lo ≤ 1900 → Limit t → Limit (t * 2 ^ 16)
-    → (s : ℕ) → DoublesFrame lo (t * 2 ^ 16) (frame_at (frames (record { unit = unit; gaps = G }) ss zs) s) (frame_at (frames (record { unit = unit'; gaps = G }) ss zs) s)
-unfolding frames
-frames_doubles {t} lo G unit unit' ss zs u a b g r l m s =
-    doubles_table (DoublesFrame lo (t * 2 ^ 16)) (λ i. frame_for (record { unit = unit; gaps = G }) (get_or ss i f1) (size_at zs i)) (λ i. frame_for (record { unit = unit'; gaps = G }) (get_or ss i f1) (size_at zs i)) (length zs) none
-    (λ i. frame_doubles lo G unit unit' (get_or ss i f1) (size_at zs i) u (a i) (b i).w (b i).h g r (lit≤ tt) l m)
-    (record { half = record { w = zero_doubles lo (t * 2 ^ 16); h = zero_doubles lo (t * 2 ^ 16) }; f = zero_doubles (lo + 106) (t * 2 ^ 16); same = refl; gap = (zero_doubles 1021 (8 * 2 ^ 1074)).stepped }) s
+-- half sides by station
+each_half_sides_doubles : {t : ℕ} (lo : ℕ) (G : BlockOptions) (unit unit' : Float) (ss : List Float) (zs : List Size) → Doubles (lo + 164) t unit unit' → ((s : ℕ) → Stepped 1016 (2 ^ 1074) (get_or ss s f1)) → ((s : ℕ) → Blocks (size_at zs s)) → BlockOption G.buffer → lo ≤ 1900 → Limit t → Limit (t * 2 ^ 16)
+    → (s : ℕ) → DoublesHalfSides lo (t * 2 ^ 16) (half_sides_at (half_sides (record { unit = unit; block_options = G }) ss zs) s) (half_sides_at (half_sides (record { unit = unit'; block_options = G }) ss zs) s)
+unfolding half_sides
+each_half_sides_doubles {t} lo G unit unit' ss zs u a b g r l m s =
+    doubles_table (DoublesHalfSides lo (t * 2 ^ 16)) (λ i. half_sides_for (record { unit = unit; block_options = G }) (get_or ss i f1) (size_at zs i)) (λ i. half_sides_for (record { unit = unit'; block_options = G }) (get_or ss i f1) (size_at zs i)) (length zs) none
+    (λ i. half_sides_doubles lo G unit unit' (get_or ss i f1) (size_at zs i) u (a i) (b i).w (b i).h g r (lit≤ tt) l m)
+    (record { half = record { w = zero_doubles lo (t * 2 ^ 16); h = zero_doubles lo (t * 2 ^ 16) }; f = zero_doubles (lo + 106) (t * 2 ^ 16); same = refl; kept_free = (zero_doubles 1021 (8 * 2 ^ 1074)).stepped }) s
   where
-    none : Frame
+    none : HalfSides
     none = record { half = record { w = f0; h = f0 }; f = f0; buffer = f0 }
 
 -- ---- small things
@@ -115,7 +115,7 @@ pub record InRanges (O : Options) (sub : List ℕ) (ks : List Kind) (xy : List F
   pub radius : Stepped 1016 (1024 * 2 ^ 1074) O.tier_radius
   pub scale_1 : Stepped 1016 (2 ^ 1074) O.tier_scale_1
   pub scale_2 : Stepped 1016 (2 ^ 1074) O.tier_scale_2
-  pub gaps : EachGap Gap O.gaps
+  pub block_options : EachBlockOption BlockOption O.block_options
   -- two occupied stations on different seeds: some station has a nearest other
   pub some : IsSome (median_of (table (nearest (coordinates (seeds sub xy) (occupied (bus_counts sub))) (length (occupied (bus_counts sub)))) (length (occupied (bus_counts sub)))))
 
@@ -151,7 +151,7 @@ module _ (O : Options) (sub kv : List ℕ) (ks : List Kind) (xy : List Float) (s
       (mul_doubles_2 348 (2 ^ 1137) F.radius spacing_of refl (lit≤ tt) (lit≤ tt) (power 1137 (lit< tt)))
 
   abbrev pub blocks : List Size
-  blocks = sizes O.gaps sub ks counts
+  blocks = sizes O.block_options sub ks counts
 
   abbrev pub unit₁ : Float
   unit₁ = unit_for O.fill (spacing seeds₁ counts) (typical blocks counts)
@@ -160,7 +160,7 @@ module _ (O : Options) (sub kv : List ℕ) (ks : List Kind) (xy : List Float) (s
   unit₂ = unit_for O.fill (spacing seeds₂ counts) (typical blocks counts)
 
   sized : (s : ℕ) → Blocks (size_at blocks s)
-  sized = sizes_stepped O.gaps F.gaps sub ks F.buses F.branches
+  sized = sizes_stepped O.block_options F.block_options sub ks F.buses F.branches
 
   -- unit: 348 - 52 - 16
   pub unit_of : Doubles 280 (2 ^ 1184) unit₁ unit₂
@@ -171,26 +171,26 @@ module _ (O : Options) (sub kv : List ℕ) (ks : List Kind) (xy : List Float) (s
   abbrev pub scales₁ : List Float
   scales₁ = scales O seeds₁ counts (spacing seeds₁ counts)
 
-  abbrev pub frames₁ : List Frame
-  frames₁ = frames (measures_of O unit₁) scales₁ blocks
+  abbrev pub half_sides₁ : List HalfSides
+  half_sides₁ = half_sides (measures_of O unit₁) scales₁ blocks
 
-  abbrev pub frames₂ : List Frame
-  frames₂ = frames (measures_of O unit₂) (scales O seeds₂ counts (spacing seeds₂ counts)) blocks
+  abbrev pub half_sides₂ : List HalfSides
+  half_sides₂ = half_sides (measures_of O unit₂) (scales O seeds₂ counts (spacing seeds₂ counts)) blocks
 
-  pub frame_of : (s : ℕ) → DoublesFrame 116 (2 ^ 1200) (frame_at frames₁ s) (frame_at frames₂ s)
-  frame_of s =
-      subst (λ (l : List Float). DoublesFrame 116 (2 ^ 1200) (frame_at frames₁ s) (frame_at (frames (measures_of O unit₂) l blocks) s)) (sym scales_are)
-      (frames_doubles {t = 2 ^ 1184} 116 O.gaps unit₁ unit₂ scales₁ blocks unit_of (scales_stepped O seeds₁ counts (spacing seeds₁ counts) F.scale_1 F.scale_2) sized F.gaps.buffer (lit≤ tt) (power 1184 (lit< tt)) (power 1200 (lit< tt)) s)
+  pub half_sides_of : (s : ℕ) → DoublesHalfSides 116 (2 ^ 1200) (half_sides_at half_sides₁ s) (half_sides_at half_sides₂ s)
+  half_sides_of s =
+      subst (λ (l : List Float). DoublesHalfSides 116 (2 ^ 1200) (half_sides_at half_sides₁ s) (half_sides_at (half_sides (measures_of O unit₂) l blocks) s)) (sym scales_are)
+      (each_half_sides_doubles {t = 2 ^ 1184} 116 O.block_options unit₁ unit₂ scales₁ blocks unit_of (scales_stepped O seeds₁ counts (spacing seeds₁ counts) F.scale_1 F.scale_2) sized F.block_options.buffer (lit≤ tt) (power 1184 (lit< tt)) (power 1200 (lit< tt)) s)
 
   -- seeds up to 2 ^ 1180 grains, half sides up to 2 ^ 1200
-  reach : Reach 116 (2 ^ 1180) (2 ^ 1200)
-  reach = record {
+  search_limits : SearchLimits 116 (2 ^ 1180) (2 ^ 1200)
+  search_limits = record {
     fine = lit≤ tt;
     offset = limit 20 1200 (lit< tt) (lit≤ tt);
     widened = limit 80 1200 (lit< tt) (lit≤ tt);
     place = limit (1 + 80 * 2 ^ 20) 1180 (lit< tt) (lit≤ tt);
     box = limit (1 + 81 * 2 ^ 20) 1180 (lit< tt) (lit≤ tt);
-    gap = limit 8 1200 (lit< tt) (lit≤ tt);
+    kept_free = limit 8 1200 (lit< tt) (lit≤ tt);
     buffer = limit (1 + 89 * 2 ^ 20) 1180 (lit< tt) (lit≤ tt);
   }
 
@@ -198,19 +198,19 @@ module _ (O : Options) (sub kv : List ℕ) (ks : List Kind) (xy : List Float) (s
   order = placement_order sub kv counts
 
   abbrev pub places₁ : List Point
-  places₁ = places frames₁ (offsets search) seeds₁ order
+  places₁ = places half_sides₁ (offsets search) seeds₁ order
 
   abbrev pub places₂ : List Point
-  places₂ = places frames₂ (offsets search) seeds₂ order
+  places₂ = places half_sides₂ (offsets search) seeds₂ order
 
   pub place_of : (s : ℕ) → DoublesPoint 116 (2 ^ 1180 + 80 * 2 ^ 1200) (place_at places₁ s) (place_at places₂ s)
   place_of =
-      places_doubles frames₁ frames₂ (offsets search) seeds₁ seeds₂ order frame_of (λ s. finer (seed_of_lem s)) (station_count sub) (seeds_length sub xy) (seeds_length sub xy')
-      (subst (λ (n : ℕ). Turns n order) (counts_length sub) (order_turns sub kv counts)) (offsets_small search) reach
+      places_doubles half_sides₁ half_sides₂ (offsets search) seeds₁ seeds₂ order half_sides_of (λ s. finer (seed_of_lem s)) (station_count sub) (seeds_length sub xy) (seeds_length sub xy')
+      (subst (λ (n : ℕ). Turns n order) (counts_length sub) (order_turns sub kv counts)) (offsets_small search) search_limits
 
-  pub box_of : (s : ℕ) → DoublesBox 116 (2 ^ 1180 + 80 * 2 ^ 1200 + 2 ^ 1200) (box_in (boxes frames₁ counts places₁) s) (box_in (boxes frames₂ counts places₂) s)
-  box_of = boxes_doubles frames₁ frames₂ counts places₁ places₂ frame_of place_of reach.box
+  pub box_of : (s : ℕ) → DoublesBox 116 (2 ^ 1180 + 80 * 2 ^ 1200 + 2 ^ 1200) (box_in (boxes half_sides₁ counts places₁) s) (box_in (boxes half_sides₂ counts places₂) s)
+  box_of = boxes_doubles half_sides₁ half_sides₂ counts places₁ places₂ half_sides_of place_of search_limits.box
 
   -- refusal 8
-  pub ill_sized_lem : ill_sized (boxes frames₂ counts places₂) (occupied counts) ≡ ill_sized (boxes frames₁ counts places₁) (occupied counts)
-  ill_sized_lem = ill_sized_of_doubles (boxes frames₁ counts places₁) (boxes frames₂ counts places₂) box_of (limit (2 * (1 + 81 * 2 ^ 20)) 1180 (lit< tt) (lit≤ tt)) (occupied counts)
+  pub ill_sized_lem : ill_sized (boxes half_sides₂ counts places₂) (occupied counts) ≡ ill_sized (boxes half_sides₁ counts places₁) (occupied counts)
+  ill_sized_lem = ill_sized_of_doubles (boxes half_sides₁ counts places₁) (boxes half_sides₂ counts places₂) box_of (limit (2 * (1 + 81 * 2 ^ 20)) 1180 (lit< tt) (lit≤ tt)) (occupied counts)

@@ -29,16 +29,16 @@ use Rattle.stations.specs.Column.{column, columns}
 use Rattle.stations.specs.Row.{row, from_row, to_row, from_rows, to_rows}
 use Rattle.plane.specs.Plane.{box_in}
 use Rattle.placement.specs.Place.{boxes}
-use Rattle.placement.specs.Search.{Frame, frame_at}
+use Rattle.placement.specs.Search.{HalfSides, half_sides_at}
 use Rattle.stations.specs.declared.bars.Bar.{Bar}
 use Rattle.stations.specs.Bar.{Span, bare, rows, include, include_end, include_branch, span_to, spans, bar_for, bars, bar_at, block_at}
 use Rattle.results.specs.Bounds.{around, around_all, nowhere, bounds_of}
 use Rattle.stations.specs.Doubles.{DoublesPoint}
-use Rattle.placement.specs.Doubles.{DoublesBox, DoublesFrame}
+use Rattle.placement.specs.Doubles.{DoublesBox, DoublesHalfSides}
 use Rattle.doubling.specs.Twice.{TwiceBox, DoubledMap}
 use Rattle.doubling.proofs.Bars.{DoublesBar, Block, Rows, bar_doubles}
 use Rattle.doubling.proofs.Runs.{bounds_doubled}
-use Rattle.doubling.proofs.Stage.{InRanges, doubles_table, seeds₁, seeds₂, frames₁, frames₂, places₁, places₂, rows_from, rows_to, frame_of, box_of}
+use Rattle.doubling.proofs.Stage.{InRanges, doubles_table, seeds₁, seeds₂, half_sides₁, half_sides₂, places₁, places₂, rows_from, rows_to, half_sides_of, box_of}
 
 -- ---- rows are at most 2 ^ 13
 row_le : (sub : List ℕ) (qs : List Point) (ks : List Kind) (s e : ℕ) → length ks ≤ 2 ^ 13 → row sub qs ks s e ≤ 2 ^ 13
@@ -111,13 +111,13 @@ point_wide h = record { x = widen_doubles 116 (2 ^ 1208) (le_refl 116) (lit≤ t
 box_doubled : {lo top : ℕ} {b b' : Box} → DoublesBox lo top b b' → TwiceBox b b'
 box_doubled h = record { left = h.left.is; top = h.top_side.is; right = h.right.is; bottom = h.bottom.is }
 
--- a list of blocks, of frames that double
-block_at_lem : (fs fs' : List Frame) → ((s : ℕ) → DoublesFrame 116 (2 ^ 1200) (frame_at fs s) (frame_at fs' s)) → (s : ℕ) → Block (block_at (map (λ (r : Frame). r.f) fs) s) (block_at (map (λ (r : Frame). r.f) fs') s)
+-- a list of blocks, of half sides that double
+block_at_lem : (fs fs' : List HalfSides) → ((s : ℕ) → DoublesHalfSides 116 (2 ^ 1200) (half_sides_at fs s) (half_sides_at fs' s)) → (s : ℕ) → Block (block_at (map (λ (r : HalfSides). r.f) fs) s) (block_at (map (λ (r : HalfSides). r.f) fs') s)
 block_at_lem fs fs' h s =
-    subst (λ (x : Float). Block x (block_at (map (λ (r : Frame). r.f) fs') s)) (sym (get_or-map (λ (r : Frame). r.f) fs s none))
-    (subst (λ (x : Float). Block (frame_at fs s).f x) (sym (get_or-map (λ (r : Frame). r.f) fs' s none)) (h s).f)
+    subst (λ (x : Float). Block x (block_at (map (λ (r : HalfSides). r.f) fs') s)) (sym (get_or-map (λ (r : HalfSides). r.f) fs s none))
+    (subst (λ (x : Float). Block (half_sides_at fs s).f x) (sym (get_or-map (λ (r : HalfSides). r.f) fs' s none)) (h s).f)
   where
-    none : Frame
+    none : HalfSides
     none = record { half = record { w = f0; h = f0 }; f = f0; buffer = f0 }
 
 -- ---- the bounds of some boxes with finite left sides have one
@@ -160,19 +160,19 @@ module _ (O : Options) (sub kv : List ℕ) (ks : List Kind) (xy : List Float) (s
   )
 
   abbrev pub boxes₁ : List Box
-  boxes₁ = boxes (frames₁ O sub kv ks xy search F xy' D) (bus_counts sub) (places₁ O sub kv ks xy search F xy' D)
+  boxes₁ = boxes (half_sides₁ O sub kv ks xy search F xy' D) (bus_counts sub) (places₁ O sub kv ks xy search F xy' D)
 
   abbrev pub boxes₂ : List Box
-  boxes₂ = boxes (frames₂ O sub kv ks xy search F xy' D) (bus_counts sub) (places₂ O sub kv ks xy search F xy' D)
+  boxes₂ = boxes (half_sides₂ O sub kv ks xy search F xy' D) (bus_counts sub) (places₂ O sub kv ks xy search F xy' D)
 
   abbrev pub blocks₁ : List Float
-  blocks₁ = map (λ (r : Frame). r.f) (frames₁ O sub kv ks xy search F xy' D)
+  blocks₁ = map (λ (r : HalfSides). r.f) (half_sides₁ O sub kv ks xy search F xy' D)
 
   abbrev pub blocks₂ : List Float
-  blocks₂ = map (λ (r : Frame). r.f) (frames₂ O sub kv ks xy search F xy' D)
+  blocks₂ = map (λ (r : HalfSides). r.f) (half_sides₂ O sub kv ks xy search F xy' D)
 
   abbrev pub bars₁ : List Bar
-  bars₁ = bars O.gaps sub (columns sub kv) (spans sub ks fr tr) blocks₁ boxes₁
+  bars₁ = bars O.block_options sub (columns sub kv) (spans sub ks fr tr) blocks₁ boxes₁
 
   abbrev pub fr₂ : List ℕ
   fr₂ = from_rows sub (seeds₂ O sub kv ks xy search F xy' D) ks
@@ -181,22 +181,22 @@ module _ (O : Options) (sub kv : List ℕ) (ks : List Kind) (xy : List Float) (s
   tr₂ = to_rows sub (seeds₂ O sub kv ks xy search F xy' D) ks
 
   abbrev pub bars₂ : List Bar
-  bars₂ = bars O.gaps sub (columns sub kv) (spans sub ks fr₂ tr₂) blocks₂ boxes₂
+  bars₂ = bars O.block_options sub (columns sub kv) (spans sub ks fr₂ tr₂) blocks₂ boxes₂
 
   pub block_of : (s : ℕ) → Block (block_at blocks₁ s) (block_at blocks₂ s)
-  block_of = block_at_lem (frames₁ O sub kv ks xy search F xy' D) (frames₂ O sub kv ks xy search F xy' D) (frame_of O sub kv ks xy search F xy' D)
+  block_of = block_at_lem (half_sides₁ O sub kv ks xy search F xy' D) (half_sides₂ O sub kv ks xy search F xy' D) (half_sides_of O sub kv ks xy search F xy' D)
 
   spans_in : (i : ℕ) → Rows (get_or (spans sub ks fr tr) i bare)
   unfolding spans
   spans_in = table_in Rows (λ i. span_to ks fr tr i (length ks)) (length sub) bare (λ i. span_rows ks fr tr few i (length ks)) tt
 
-  bar_at_lem : (i : ℕ) → DoublesBar 63 (2 ^ 1220) (bar_at bars₁ i) (bar_at (bars O.gaps sub (columns sub kv) (spans sub ks fr tr) blocks₂ boxes₂) i)
+  bar_at_lem : (i : ℕ) → DoublesBar 63 (2 ^ 1220) (bar_at bars₁ i) (bar_at (bars O.block_options sub (columns sub kv) (spans sub ks fr tr) blocks₂ boxes₂) i)
   unfolding bars
   bar_at_lem =
       doubles_table (DoublesBar 63 (2 ^ 1220))
-      (λ i. bar_for O.gaps (box_in boxes₁ (station_of sub i)) (block_at blocks₁ (station_of sub i)) (get_or (columns sub kv) i 0) (get_or (spans sub ks fr tr) i bare))
-      (λ i. bar_for O.gaps (box_in boxes₂ (station_of sub i)) (block_at blocks₂ (station_of sub i)) (get_or (columns sub kv) i 0) (get_or (spans sub ks fr tr) i bare)) (length sub) none
-      (λ i. bar_doubles O.gaps F.gaps (box_in boxes₁ (station_of sub i)) (box_in boxes₂ (station_of sub i)) (block_at blocks₁ (station_of sub i)) (block_at blocks₂ (station_of sub i)) (box_wide (box_of O sub kv ks xy search F xy' D (station_of sub i))) (block_of (station_of sub i))
+      (λ i. bar_for O.block_options (box_in boxes₁ (station_of sub i)) (block_at blocks₁ (station_of sub i)) (get_or (columns sub kv) i 0) (get_or (spans sub ks fr tr) i bare))
+      (λ i. bar_for O.block_options (box_in boxes₂ (station_of sub i)) (block_at blocks₂ (station_of sub i)) (get_or (columns sub kv) i 0) (get_or (spans sub ks fr tr) i bare)) (length sub) none
+      (λ i. bar_doubles O.block_options F.block_options (box_in boxes₁ (station_of sub i)) (box_in boxes₂ (station_of sub i)) (block_at blocks₁ (station_of sub i)) (block_at blocks₂ (station_of sub i)) (box_wide (box_of O sub kv ks xy search F xy' D (station_of sub i))) (block_of (station_of sub i))
       (get_or (columns sub kv) i 0) (get_or (spans sub ks fr tr) i bare) (columns_le sub kv F.buses i) (spans_in i))
       (record { x = zero_doubles 63 (2 ^ 1220); y0 = zero_doubles 63 (2 ^ 1220); y1 = zero_doubles 63 (2 ^ 1220) })
     where
@@ -205,8 +205,8 @@ module _ (O : Options) (sub kv : List ℕ) (ks : List Kind) (xy : List Float) (s
 
   pub bar_of : (i : ℕ) → DoublesBar 63 (2 ^ 1220) (bar_at bars₁ i) (bar_at bars₂ i)
   bar_of i =
-      subst (λ (f : List ℕ). DoublesBar 63 (2 ^ 1220) (bar_at bars₁ i) (bar_at (bars O.gaps sub (columns sub kv) (spans sub ks f tr₂) blocks₂ boxes₂) i)) (sym (rows_from O sub kv ks xy search F xy' D))
-      (subst (λ (t : List ℕ). DoublesBar 63 (2 ^ 1220) (bar_at bars₁ i) (bar_at (bars O.gaps sub (columns sub kv) (spans sub ks fr t) blocks₂ boxes₂) i)) (sym (rows_to O sub kv ks xy search F xy' D)) (bar_at_lem i))
+      subst (λ (f : List ℕ). DoublesBar 63 (2 ^ 1220) (bar_at bars₁ i) (bar_at (bars O.block_options sub (columns sub kv) (spans sub ks f tr₂) blocks₂ boxes₂) i)) (sym (rows_from O sub kv ks xy search F xy' D))
+      (subst (λ (t : List ℕ). DoublesBar 63 (2 ^ 1220) (bar_at bars₁ i) (bar_at (bars O.block_options sub (columns sub kv) (spans sub ks fr t) blocks₂ boxes₂) i)) (sym (rows_to O sub kv ks xy search F xy' D)) (bar_at_lem i))
 
   -- the bounds, where a station is occupied
   pub bounds_of_lem : 0 < length (occupied (bus_counts sub)) → TwiceBox (bounds_of boxes₁ (occupied (bus_counts sub))) (bounds_of boxes₂ (occupied (bus_counts sub)))

@@ -8,7 +8,7 @@ use Rattle.numbers.specs.Small.{abs_of, is_finite}
 use Rattle.numbers.specs.Ops.{f0}
 use Rattle.numbers.specs.Double.{scaled}
 use Rattle.plane.specs.declared.geometry.Box.{Box}
-use Rattle.network.specs.declared.options.Gaps.{Gaps}
+use Rattle.network.specs.declared.options.BlockOptions.{BlockOptions}
 use Rattle.network.specs.declared.options.Options.{Options}
 use Rattle.network.specs.Words.{station_count, bus_counts, is_occupied}
 use Rattle.network.specs.Seed.{seeds, place_at}
@@ -35,8 +35,8 @@ pub record Allowed (k : ℕ) (x : Float) : Type 0 where
   pub large : eq x f0 ≡ false → lt (abs_of x) least ≡ false
   pub near : above (scaled k x) ≡ false
 
--- each of the four gaps
-pub record EachGap (P : Float → Type 0) (G : Gaps) : Type 0 where
+-- each of the four block options
+pub record EachBlockOption (P : Float → Type 0) (G : BlockOptions) : Type 0 where
   pub bar_gap : P G.bar_gap
   pub pad : P G.pad
   pub min_bar : P G.min_bar
@@ -48,7 +48,7 @@ pub record InFormat (O : Options) (N : Network) : Type 0 where
   pub radius : T (fits binary64 O.tier_radius)
   pub scale_1 : T (fits binary64 O.tier_scale_1)
   pub scale_2 : T (fits binary64 O.tier_scale_2)
-  pub gaps : EachGap (λ x. T (fits binary64 x)) O.gaps
+  pub block_options : EachBlockOption (λ x. T (fits binary64 x)) O.block_options
   pub map : (i : ℕ) → T (fits binary64 (get_or N.xy i nan))
 
 -- Nothing is asked of the other options, of the number of buses and branches, of voltages, of the mesh or of the lent

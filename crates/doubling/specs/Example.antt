@@ -39,7 +39,7 @@ straight = record {
   tier_scale_2 = defaults.tier_scale_2;
   search = defaults.search;
   route_iterations = 0;
-  gaps = defaults.gaps;
+  block_options = defaults.block_options;
 }
 
 -- two stations of one bus each, without branches, at these points
@@ -57,4 +57,6 @@ close = f0 ∷ f0 ∷ of_bits binary64 4 ∷ f0 ∷ []
 -- the bits of the unit of stations without branches at these points, with these options
 unfoldable pub unit_of : List ℕ → List Float → ℕ
 unfolding defaults unit_for spacing spacing_of typical sizes size_for sides rows_in median_of nearest coordinates seeds seed_of sum_to mean bus_point point_of occupied bus_counts buses_in station_count past_to table_from up_from count keep eq le lt add sub mul div of_int of_bits to_bits hypot_of key_of min_of max_of is_finite
-unit_of sub xy = to_bits binary64 (unit_for straight.fill (spacing (seeds sub xy) (bus_counts sub)) (typical (sizes straight.gaps sub [] (bus_counts sub)) (bus_counts sub)))
+unit_of sub xy =
+    to_bits binary64 (unit_for straight.fill (spacing (seeds sub xy) (bus_counts sub))
+    (typical (sizes straight.block_options sub [] (bus_counts sub)) (bus_counts sub)))

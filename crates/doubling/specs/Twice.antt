@@ -5,7 +5,7 @@ use Rattle.std.specs.Float.{nan}
 use Rattle.numbers.specs.Small.{is_finite}
 use Rattle.numbers.specs.Double.{twice}
 use Rattle.plane.specs.declared.geometry.Box.{Box}
-use Rattle.drawing.specs.declared.room.Room.{Room}
+use Rattle.drawing.specs.declared.lengths.ListLengths.{ListLengths}
 use Rattle.drawing.specs.Drawing.{Drawing}
 use Rattle.drawing.specs.Answer.{late, lists_of}
 
@@ -29,7 +29,7 @@ pub record TwiceBox (b b' : Box) : Type 0 where
 
 -- what is the same in two drawings, and what is doubled
 pub record Twice (d d' : Drawing) : Type 0 where
-  pub late_same : (R : Room) → late d' R ≡ late d R
+  pub late_same : (R : ListLengths) → late d' R ≡ late d R
   pub unit : d'.unit ≡ twice d.unit
   pub bounds : TwiceBox d.bounds d'.bounds
   pub piece_count : length d'.pieces ≡ length d.pieces

@@ -1,5 +1,6 @@
 //! Laws of doubling. A function here does nothing: its contract is the law.
-ghost use Rattle.doubling.specs.Laws.{Scales, Doubles, TimesScales, CanBeAsked, CloseUnit, LoneUnit};
+ghost use Rattle.doubling.specs.Laws.{Scales, Doubles, TimesScales, CanBeAsked, CloseUnit};
+ghost use Rattle.doubling.specs.Laws.{LoneUnit};
 
 /// Two calls of layout, the second with every map point times a power of two: both answer the
 /// same number, and where they draw, the second drawing is the first one scaled

@@ -7,7 +7,6 @@ use native.Mathlib.Nat.{le_trans, le_of_eq, zero-add, not-suc-le-zero, le_of_suc
 use native.Mathlib.Omega.{arith}
 use mathlib.Core.Bool.{Bool, true, false, not, cond, ◌&&◌, ◌||◌, true≢false}
 use mathlib.Core.List.{List, [], ◌∷◌, map}
-use mathlib.Core.Option.{none, some}
 use Rattle.std.specs.Prelude.{Some, None}
 use borrow.Author.Tests.{leb-true}
 use lib.Dec.{T, ltb, eqb, lit≤}
@@ -20,6 +19,7 @@ use Rattle.numbers.specs.Size.{AtMost, most_test}
 use Rattle.numbers.proofs.float.Keys.{plus}
 use Rattle.numbers.proofs.float.SizeLaws.{most_weaken, most_lit, mul_most, limit_most, f0_most}
 use Rattle.numbers.proofs.float.Quotients.{mul_plus}
+use Rattle.numbers.proofs.float.Each.{Each, each_at}
 use Rattle.numbers.specs.Order.{pick, up_from, before, keep}
 use Rattle.numbers.specs.Table.{table, which}
 use Rattle.numbers.proofs.order.Laws.{all_at, get_d_up, length_up}
@@ -34,7 +34,7 @@ use Rattle.network.proofs.mesh.Meshes.{Sound, mesh_sound}
 use Rattle.network.specs.declared.options.Options.{Options}
 use Rattle.network.specs.declared.words.Kind.{Kind}
 use Rattle.network.specs.declared.words.Kind.TheVariants.{Undrawn, Open, Internal, Line}
-use Rattle.network.specs.Options.{in_range, between, search_fits, gaps_fit, search_of}
+use Rattle.network.specs.Options.{in_range, between, search_fits, block_options_fit, search_of}
 use Rattle.network.specs.Words.{station_count, buses_in, bus_counts, station_of, is_occupied, occupied, kind_of, kinds, kind_at, Safe}
 use Rattle.std.specs.Option.{option_or}
 use Rattle.network.specs.declared.refusals.Refusal.TheVariants as Refusals
@@ -53,7 +53,7 @@ use Rattle.stations.specs.Size as Sizes
 use Rattle.stations.specs.Unit.{coordinates, spacing, typical, unit_for}
 use Rattle.stations.specs.Scale as Scale
 use Rattle.stations.proofs.units.UnitSizes.{spacing_most, spacing_plus, typical_least, typical_positive, unit_most, unit_plus, coordinates_each, coordinates_length, point_near}
-use Rattle.stations.proofs.sizes.SideSizes.{table_at, Sides, Narrow, gaps_narrow, sizes_most}
+use Rattle.stations.proofs.sizes.SideSizes.{table_at, Sides, Narrow, block_options_narrow, sizes_most}
 use Rattle.stations.proofs.scales.ScaleSizes.{Scaled, scale_in, scales_all, scales_at}
 use Rattle.offsets.specs.Offset as Offset
 use Rattle.placement.specs.Turns.{placement_order}
@@ -63,26 +63,28 @@ use Rattle.placement.proofs.turns.OrderLaw.{bus_occupied}
 use Rattle.placement.specs.Sized.{ill_sized}
 use Rattle.placement.specs.Place as Place
 use Rattle.placement.specs.Search as PlaceSearch
-use Rattle.placement.specs.Search.{Frame, frame_at}
-use Rattle.placement.proofs.PlaceSizes.{frames_most, places_near, offsets_near, boxes_most}
+use Rattle.placement.specs.Search.{HalfSides, half_sides_at}
+use Rattle.placement.proofs.PlaceSizes.{each_half_sides_most, places_near, offsets_near, boxes_most}
 use Rattle.stations.specs.declared.bars.Bar.{Bar}
 use Rattle.stations.specs.Bar as Bars
 use Rattle.stations.specs.Bar.{block_at, bar_at}
-use Rattle.stations.proofs.bars.BarSizes.{Barred, spans_spanned, bars_most, exit_near}
+use Rattle.stations.proofs.bars.BarSizes.{Barred, spans_spanned, bars_most, position_near, exit_near}
 use Rattle.boxes.proofs.detour.DetourSizes.{Points}
 use Rattle.runs.specs.Run as Run
-use Rattle.runs.specs.Run.{slot}
+use Rattle.runs.specs.Run.{row_end_at}
 use Rattle.runs.specs.Finite.{all_of, finite_point, finite_box, finite_bar}
-use Rattle.runs.proofs.RunSizes.{most_finite, near_finite, edges_finite, barred_finite, all_of_lem, all_each, Bounded, slot_near, runs_finite}
+use Rattle.runs.proofs.RunSizes.{most_finite, near_finite, edges_finite, barred_finite, all_of_lem, all_each, Bounded, row_end_at_near, run_near, runs_finite}
 use Rattle.routing.specs.Route as Route
 use Rattle.routing.specs.Route.{vertex_of}
-use Rattle.routing.specs.Gap.{gap_of}
+use Rattle.routing.specs.Clearance.{clearance_of}
 use Rattle.routing.proofs.rounds.CrossedSizes.{Lined, Firm}
 use Rattle.routing.specs.Routes.{mesh_used, mesh_fits, crossings_of, route_refusal}
 use Rattle.routing.proofs.routes.RoundSizes.{crossings_most, ways_near}
 use Rattle.drawing.specs.Network.{Network}
-use Rattle.drawing.specs.Drawing.{measures_of, straight_scene, planned, led_scene, line_for, line_of, routed_scene, routed_of, ways_of, scene_of, Drawing, drawing}
-use Rattle.drawing.specs.declared.room.Room.{Room}
+use Rattle.drawing.specs.Drawing.{measures_of, straight_scene, planned, led_scene, line_for, line_of, routed_scene, routed_of, waypoints_of, scene_of, Drawing, drawing}
+use Rattle.drawing.specs.declared.lengths.ListLengths.{ListLengths}
+use Rattle.boxes.specs.Laws.{PointAtMost}
+use Rattle.drawing.specs.Laws.{NumbersAreSized}
 use Rattle.drawing.specs.Answer.{early, piece_room, crossing_room, routed_by, late_by, late, all_finite}
 use Rattle.drawing.proofs.Fitting.{fits_of}
 
@@ -94,7 +96,7 @@ record Ranged (O : Options) : Type 0 where
   first : Scaled O.tier_scale_1
   second : Scaled O.tier_scale_2
   search : search_of O.search ≤ 20
-  gaps : Narrow O.gaps
+  block_options : Narrow O.block_options
 
 both : (a b : Bool) → (a && b) ≡ true → (a ≡ true) × (b ≡ true)
 both true b h = (refl, h)
@@ -114,34 +116,34 @@ ranged O h =
     let h4 = both (between (of_bits binary64 0x3F90_0000_0000_0000) O.tier_scale_1 f1) _ h3.1 in
     let h5 = both (between (of_bits binary64 0x3F90_0000_0000_0000) O.tier_scale_2 f1) _ h4.1 in
     let h6 = both (search_fits O.search) _ h5.1 in
-    let h7 = both (gaps_fit O.gaps) _ h6.1 in
+    let h7 = both (block_options_fit O.block_options) _ h6.1 in
     record {
       above = h1.0;
       most = h2.0;
       first = scale_in O.tier_scale_1 h4.0;
       second = scale_in O.tier_scale_2 h5.0;
       search = search_small O.search h6.0;
-      gaps = gaps_narrow O.gaps h7.0;
+      block_options = block_options_narrow O.block_options h7.0;
     }
 
--- ---- the gap between lines
-gap_part : AtMost 1074 (of_bits binary64 0x3FE9_9999_9999_999A)
+-- ---- the clearance
+clearance_part : AtMost 1074 (of_bits binary64 0x3FE9_9999_9999_999A)
 unfolding most_test is_finite of_bits of_fields odd
-gap_part = most_lit 1074 (of_bits binary64 0x3FE9_9999_9999_999A) tt
+clearance_part = most_lit 1074 (of_bits binary64 0x3FE9_9999_9999_999A) tt
 
-gap_part_plus : T (plus (of_bits binary64 0x3FE9_9999_9999_999A))
+clearance_part_plus : T (plus (of_bits binary64 0x3FE9_9999_9999_999A))
 unfolding plus of_bits of_fields odd
-gap_part_plus = tt
+clearance_part_plus = tt
 
-gap_of_most : (unit : Float) → AtMost (1074 + 46) unit → AtMost (1074 + 46) (gap_of unit)
-unfolding gap_of
-gap_of_most unit h = mul_most 1074 (1074 + 46) (1074 + 46) (of_bits binary64 0x3FE9_9999_9999_999A) unit (lit≤ tt) (lit≤ tt) gap_part h
+clearance_of_most : (unit : Float) → AtMost (1074 + 46) unit → AtMost (1074 + 46) (clearance_of unit)
+unfolding clearance_of
+clearance_of_most unit h = mul_most 1074 (1074 + 46) (1074 + 46) (of_bits binary64 0x3FE9_9999_9999_999A) unit (lit≤ tt) (lit≤ tt) clearance_part h
 
-gap_of_plus : (unit : Float) → AtMost (1074 + 46) unit → T (plus unit) → T (plus (gap_of unit))
-gap_of_plus unit h p = go (gap_of_most unit h)
+clearance_of_plus : (unit : Float) → AtMost (1074 + 46) unit → T (plus unit) → T (plus (clearance_of unit))
+clearance_of_plus unit h p = go (clearance_of_most unit h)
   where
-    go : AtMost (1074 + 46) (gap_of unit) → T (plus (gap_of unit))
-    go k = unfold gap_of in mul_plus (of_bits binary64 0x3FE9_9999_9999_999A) unit gap_part_plus p k.finite
+    go : AtMost (1074 + 46) (clearance_of unit) → T (plus (clearance_of unit))
+    go k = unfold clearance_of in mul_plus (of_bits binary64 0x3FE9_9999_9999_999A) unit clearance_part_plus p k.finite
 
 -- ---- a number that stands in a list has a place in it
 place_below : (s : ℕ) (l : List ℕ) (j : ℕ) → j < length l → get_or l j 0 ≡ s → vertex_of s l < length l
@@ -229,7 +231,7 @@ unfolding bus_counts buses_in
 counts_few sub few s =
     table_at (λ n. n ≤ 2 ^ 12) (buses_in sub) (station_count sub) s 0 (λ j l. le_trans (how_many_le (λ i. eqb (station_of sub i) j) (length sub)) few) zero-le
 
-from_some : {A : Type 0} (x y : A) → some x ≡ some y → x ≡ y
+from_some : {A : Type 0} (x y : A) → Some x ≡ Some y → x ≡ y
 from_some x y e = cc
 
 -- ---- the drawing of any seeds within 10 ^ 12
@@ -251,76 +253,76 @@ module _ (O : Options) (N : Network) (R : Ranged O) (few-buses : length N.statio
   to_rows = Row.to_rows sub seeds ks
 
   abbrev sizes : List Sizes.Size
-  sizes = Sizes.sizes O.gaps sub ks counts
+  sizes = Sizes.sizes O.block_options sub ks counts
 
-  abbrev gap : Float
-  gap = spacing seeds counts
+  abbrev median_spacing : Float
+  median_spacing = spacing seeds counts
 
   abbrev unit : Float
-  unit = unit_for O.fill gap (typical sizes counts)
+  unit = unit_for O.fill median_spacing (typical sizes counts)
 
   abbrev scales : List Float
-  scales = Scale.scales O seeds counts gap
+  scales = Scale.scales O seeds counts median_spacing
 
-  abbrev frames : List Frame
-  frames = PlaceSearch.frames (measures_of O unit) scales sizes
+  abbrev half_sides : List HalfSides
+  half_sides = PlaceSearch.half_sides (measures_of O unit) scales sizes
 
   abbrev order : List ℕ
   order = placement_order sub N.kv counts
 
   abbrev places : List Point
-  places = Place.places frames (Offset.offsets (search_of O.search)) seeds order
+  places = Place.places half_sides (Offset.offsets (search_of O.search)) seeds order
 
   abbrev boxes : List Box
-  boxes = Place.boxes frames counts places
+  boxes = Place.boxes half_sides counts places
 
   abbrev blocks : List Float
-  blocks = map (λ (r : Frame). r.f) frames
+  blocks = map (λ (r : HalfSides). r.f) half_sides
 
   abbrev bars : List Bar
-  bars = Bars.bars O.gaps sub (Column.columns sub N.kv) (Bars.spans sub ks from_rows to_rows) blocks boxes
+  bars = Bars.bars O.block_options sub (Column.columns sub N.kv) (Bars.spans sub ks from_rows to_rows) blocks boxes
 
-  abbrev scene : Run.Scene
-  scene = straight_scene sub ks from_rows to_rows O.gaps blocks boxes places bars
+  abbrev scene : Run.RunScene
+  scene = straight_scene sub ks from_rows to_rows O.block_options blocks boxes places bars
 
   many : length ks ≤ 2 ^ 13
   many = le_trans (le_of_eq (kinds_length sub N.from N.to N.service)) few-branches
 
-  gap_most : AtMost (1074 + 42) gap
-  gap_most = spacing_most (1074 + 40) (lit≤ tt) seeds counts (lit≤ tt) close
+  median_spacing_most : AtMost (1074 + 42) median_spacing
+  median_spacing_most = spacing_most (1074 + 40) (lit≤ tt) seeds counts (lit≤ tt) close
 
   unit_is_most : AtMost (1074 + 46) unit
-  unit_is_most = unit_most (1074 + 42) O.fill gap (typical sizes counts) (lit≤ tt) R.above R.most gap_most (typical_least sizes counts)
+  unit_is_most = unit_most (1074 + 42) O.fill median_spacing (typical sizes counts) (lit≤ tt) R.above R.most median_spacing_most (typical_least sizes counts)
 
   unit_is_plus : T (plus unit)
   unit_is_plus =
-      unit_plus (1074 + 42) O.fill gap (typical sizes counts) (lit≤ tt) R.above R.most gap_most (spacing_plus (1074 + 40) (lit≤ tt) seeds counts close) (typical_positive sizes counts)
+      unit_plus (1074 + 42) O.fill median_spacing (typical sizes counts) (lit≤ tt) R.above R.most median_spacing_most (spacing_plus (1074 + 40) (lit≤ tt) seeds counts close) (typical_positive sizes counts)
 
-  framed : (s : ℕ) → Sides (1074 + 61) (frame_at frames s).half × AtMost (1074 + 46) (frame_at frames s).f
+  framed : (s : ℕ) → Sides (1074 + 61) (half_sides_at half_sides s).half × AtMost (1074 + 46) (half_sides_at half_sides s).f
   framed =
-      frames_most (1074 + 46) (1074 + 16) (1074 + 61) (lit≤ tt) (lit≤ tt) (lit≤ tt) (measures_of O unit) scales sizes unit_is_most
-      (λ s. (scales_all O R.first R.second seeds counts gap s).most) (sizes_most O.gaps R.gaps sub ks counts (counts_few sub few-buses) many)
+      each_half_sides_most (1074 + 46) (1074 + 16) (1074 + 61) (lit≤ tt) (lit≤ tt) (lit≤ tt) (measures_of O unit) scales sizes unit_is_most
+      (λ s. (scales_all O R.first R.second seeds counts median_spacing s).most) (sizes_most O.block_options R.block_options sub ks counts (counts_few sub few-buses) many)
 
   turns : Turns (length seeds) order
   turns = subst (λ (n : ℕ). Turns n order) (counts_length sub ∙ sym long) (order_turns sub N.kv counts)
 
   placed : (s : ℕ) → Near (1074 + 69) (place_at places s)
   placed =
-      places_near (1074 + 40) (1074 + 61) (lit≤ tt) (lit≤ tt) (lit≤ tt) frames (Offset.offsets (search_of O.search)) seeds order turns close (λ s. (framed s).0)
+      places_near (1074 + 40) (1074 + 61) (lit≤ tt) (lit≤ tt) (lit≤ tt) half_sides (Offset.offsets (search_of O.search)) seeds order turns close (λ s. (framed s).0)
       (offsets_near (search_of O.search) R.search)
 
   wide : (s : ℕ) → Near (1074 + 70) (place_at places s)
   wide s = let h = placed s in record { x = most_weaken (1074 + 69) (1074 + 70) (place_at places s).x (lit≤ tt) h.x; y = most_weaken (1074 + 69) (1074 + 70) (place_at places s).y (lit≤ tt) h.y }
 
   boxed : (s : ℕ) → Edges (1074 + 70) (box_in boxes s)
-  boxed = boxes_most (1074 + 69) (1074 + 61) frames counts places (lit≤ tt) (lit≤ tt) placed (λ s. (framed s).0)
+  boxed = boxes_most (1074 + 69) (1074 + 61) half_sides counts places (lit≤ tt) (lit≤ tt) placed (λ s. (framed s).0)
 
   blocked : (s : ℕ) → AtMost (1074 + 46) (block_at blocks s)
-  blocked s = subst (AtMost (1074 + 46)) (sym (get_or-map (λ (r : Frame). r.f) frames s (record { half = record { w = f0; h = f0 }; f = f0; buffer = f0 }))) (framed s).1
+  blocked s = subst (AtMost (1074 + 46)) (sym (get_or-map (λ (r : HalfSides). r.f) half_sides s (record { half = record { w = f0; h = f0 }; f = f0; buffer = f0 }))) (framed s).1
 
   barred : (i : ℕ) → Barred (1074 + 73) (bar_at bars i)
   barred =
-      bars_most O.gaps R.gaps sub (Column.columns sub N.kv) (Bars.spans sub ks from_rows to_rows) blocks boxes (columns_few sub N.kv few-buses)
+      bars_most O.block_options R.block_options sub (Column.columns sub N.kv) (Bars.spans sub ks from_rows to_rows) blocks boxes (columns_few sub N.kv few-buses)
       (spans_spanned (2 ^ 13) ks from_rows to_rows (from_rows_few sub seeds ks many) (to_rows_few sub seeds ks many) sub) blocked boxed
 
   -- ---- what lines are routed through
@@ -330,19 +332,19 @@ module _ (O : Options) (N : Network) (R : Ranged O) (few-buses : length N.statio
   abbrev used : Bool
   used = mesh_used (length occ) O.route_iterations
 
-  abbrev routed : Route.Scene
-  routed = routed_scene scene occ scales (gap_of unit) (pick used N.corners []) (pick used N.twins [])
+  abbrev routed : Route.MeshScene
+  routed = routed_scene scene occ scales (clearance_of unit) (pick used N.corners []) (pick used N.twins [])
 
-  slotted : (i row : ℕ) → row ≤ 2 ^ 13 → Near (1074 + 73) (slot scene i row)
-  slotted i row l = at (slot_near scene i row l)
+  row_ends_near : (i row : ℕ) → row ≤ 2 ^ 13 → Near (1074 + 73) (row_end_at scene i row)
+  row_ends_near i row l = at (row_end_at_near scene i row l)
     where
-      at : (Narrow scene.gaps → ((s : ℕ) → Edges (1074 + 70) (box_in scene.boxes s)) → ((s : ℕ) → AtMost (1074 + 46) (block_at scene.blocks s)) → ((i : ℕ) → Barred (1074 + 73) (bar_at scene.bars i)) → Near (1074 + 73) (slot scene i row)) → Near (1074 + 73) (slot scene i row)
-      at f = unfold straight_scene in f R.gaps boxed blocked barred
+      at : (Narrow scene.block_options → ((s : ℕ) → Edges (1074 + 70) (box_in scene.boxes s)) → ((s : ℕ) → AtMost (1074 + 46) (block_at scene.blocks s)) → ((i : ℕ) → Barred (1074 + 73) (bar_at scene.bars i)) → Near (1074 + 73) (row_end_at scene i row)) → Near (1074 + 73) (row_end_at scene i row)
+      at f = unfold straight_scene in f R.block_options boxed blocked barred
 
-  left_by : (s t i row : ℕ) → row ≤ 2 ^ 13 → Near 1184 (Rattle.stations.specs.Exit.exit boxes places s t (slot scene i row).y)
-  left_by s t i row l = exit_near 1184 boxes places s t (slot scene i row).y (lit≤ tt) (boxed s) (most_weaken (1074 + 73) 1184 (slot scene i row).y (lit≤ tt) (slotted i row l).y)
+  left_by : (s t i row : ℕ) → row ≤ 2 ^ 13 → Near 1184 (Rattle.stations.specs.Exit.exit boxes places s t (row_end_at scene i row).y)
+  left_by s t i row l = exit_near 1184 boxes places s t (row_end_at scene i row).y (lit≤ tt) (boxed s) (most_weaken (1074 + 73) 1184 (row_end_at scene i row).y (lit≤ tt) (row_ends_near i row l).y)
 
-  line_lined : (ra rb : ℕ) (c : Kind) (l : Route.Line) → ra ≤ 2 ^ 13 → rb ≤ 2 ^ 13 → Safe sub c → line_for scene ra rb c ≡ some l → Lined 1184 routed l
+  line_lined : (ra rb : ℕ) (c : Kind) (l : Route.RoutedLine) → ra ≤ 2 ^ 13 → rb ≤ 2 ^ 13 → Safe sub c → line_for scene ra rb c ≡ Some l → Lined 1184 routed l
   unfolding line_for Safe routed_scene straight_scene
   line_lined ra rb Undrawn l h k s e = absurd (let z : ◌≡◌ {A = ℕ} 0 1 = cc in omega arith)
   line_lined ra rb (Open a b) l h k s e = absurd (let z : ◌≡◌ {A = ℕ} 0 1 = cc in omega arith)
@@ -356,17 +358,17 @@ module _ (O : Options) (N : Network) (R : Ranged O) (few-buses : length N.statio
         exit1 = left_by (station_of sub b) (station_of sub a) b rb k;
       })
 
-  lines_lined : (e : ℕ) (l : Route.Line) → get_or routed.lines e none ≡ some l → Lined 1184 routed l
+  lines_lined : (e : ℕ) (l : Route.RoutedLine) → get_or routed.lines e None ≡ Some l → Lined 1184 routed l
   unfolding routed_scene straight_scene line_of
   lines_lined e l q =
       ⊎_elim
       (λ (k : length ks ≤ e).
       let n : length (table (line_of scene) (length ks)) ≤ e = le_trans (le_of_eq (length_table (line_of scene) (length ks))) k in
-      let z : none ≡ some l = sym (get_or-eq_default (table (line_of scene) (length ks)) none {n = e} n) ∙ q in
+      let z : None ≡ Some l = sym (get_or-eq_default (table (line_of scene) (length ks)) None {n = e} n) ∙ q in
       absurd (let w : ◌≡◌ {A = ℕ} 0 1 = cc in omega arith))
       (λ (k : e < length ks).
       line_lined (get_or from_rows e 0) (get_or to_rows e 0) (kind_at ks e) l (from_rows_few sub seeds ks many e) (to_rows_few sub seeds ks many e) (kinds_safe sub N.from N.to N.service e)
-      (sym (get_d_table (line_of scene) (length ks) e none k) ∙ q))
+      (sym (get_d_table (line_of scene) (length ks) e None k) ∙ q))
       (le_or_lt (length ks) e)
 
   -- ---- with a mesh that 9 lets pass, or none
@@ -386,12 +388,12 @@ module _ (O : Options) (N : Network) (R : Ranged O) (few-buses : length N.statio
     firm : Firm 1184 routed
     firm = at (λ e l q. lines_lined e l q)
       where
-        at : ((e : ℕ) (l : Route.Line) → get_or routed.lines e none ≡ some l → Lined 1184 routed l) → Firm 1184 routed
+        at : ((e : ℕ) (l : Route.RoutedLine) → get_or routed.lines e None ≡ Some l → Lined 1184 routed l) → Firm 1184 routed
         at f = unfold routed_scene straight_scene in
             (record {
               stands =
                   λ v l.
-                  let c = scales_at O R.first R.second seeds counts gap (get_or occ v 0) nan (occupied_below counts v l) in
+                  let c = scales_at O R.first R.second seeds counts median_spacing (get_or occ v 0) nan (occupied_below counts v l) in
                   let b = boxed (get_or occ v 0) in
                   record {
                     place = point_near (1074 + 70) (lit≤ tt) (coordinates places occ) (length occ) (coordinates_length (1074 + 70) (lit≤ tt) places occ) (coordinates_each (1074 + 70) (lit≤ tt) places occ wide) v l;
@@ -399,8 +401,8 @@ module _ (O : Options) (N : Network) (R : Ranged O) (few-buses : length N.statio
                     scale = c.most;
                     clear = c.clear;
                   };
-              gap = gap_of_most unit unit_is_most;
-              clear = gap_of_plus unit unit_is_most unit_is_plus;
+              clearance = clearance_of_most unit unit_is_most;
+              clear = clearance_of_plus unit unit_is_most unit_is_plus;
               corners = corners_in used refl;
               lines = f;
             })
@@ -413,23 +415,31 @@ module _ (O : Options) (N : Network) (R : Ranged O) (few-buses : length N.statio
     unfolding routed_scene
     routed_short = corners_short used refl
 
-    abbrev led : Run.Scene
-    led = led_scene scene (ltb 0 O.route_iterations) occ (gap_of unit) (ways_of routed (crossings_of routed O.route_iterations))
+    abbrev led : Run.RunScene
+    led = led_scene scene (ltb 0 O.route_iterations) occ (clearance_of unit) (waypoints_of routed (crossings_of routed O.route_iterations))
 
     bounded : Bounded 1184 led
-    unfolding led_scene straight_scene ways_of
+    unfolding led_scene straight_scene waypoints_of
     bounded = record {
       from_rows = from_rows_few sub seeds ks many;
       to_rows = to_rows_few sub seeds ks many;
-      gaps = R.gaps;
+      block_options = R.block_options;
       blocks = blocked;
       boxes = boxed;
       bars = barred;
-      gap = gap_of_most unit unit_is_most;
+      clearance = clearance_of_most unit unit_is_most;
       ways =
           λ e. table_at (Points 1184) (Route.waypoints routed (Route.routing routed) (crossings_of routed O.route_iterations)) (length routed.lines) e []
           (λ j l. ways_near 1184 (lit≤ tt) (lit≤ tt) routed firm lines_few routed_short O.route_iterations j l) tt;
     }
+
+    -- ---- how large they are
+    crossings_sized : Each (AtMost 1106) (crossings_of routed O.route_iterations)
+    crossings_sized = crossings_most 1184 (lit≤ tt) (lit≤ tt) routed firm lines_few routed_short O.route_iterations
+
+    runs_sized : (e : ℕ) → Points 1184 (get_or (Run.runs led) e [])
+    unfolding Run.runs
+    runs_sized e = table_at (Points 1184) (Run.run_of led) (length led.kinds) e [] (λ i l. run_near 1184 (lit≤ tt) (lit≤ tt) led bounded i) tt
 
     -- ---- all of them
     seeds_finite : all_of finite_point seeds ≡ true
@@ -442,7 +452,7 @@ module _ (O : Options) (N : Network) (R : Ranged O) (few-buses : length N.statio
     bars_finite = all_of_lem finite_bar bars (record { x = f0; y0 = f0; y1 = f0 }) (λ i l. barred_finite (1074 + 73) (bar_at bars i) (barred i))
 
     crossings_finite : all_of is_finite (crossings_of routed O.route_iterations) ≡ true
-    crossings_finite = all_each 1106 (crossings_of routed O.route_iterations) (crossings_most 1184 (lit≤ tt) (lit≤ tt) routed firm lines_few routed_short O.route_iterations)
+    crossings_finite = all_each 1106 (crossings_of routed O.route_iterations) crossings_sized
 
     points_finite : all_of (all_of finite_point) (Run.runs led) ≡ true
     points_finite = runs_finite 1184 (lit≤ tt) (lit≤ tt) led bounded
@@ -477,7 +487,7 @@ seeds_within O N buses near s l =
     (seed_times N.station N.xy buses near s)
 
 -- Where 1 to 7 and 15 don't refuse the input, nor 9 the mesh, all are finite.
-pub no_lost_numbers : (O : Options) (N : Network) (R : Room) → None ≡ early O N R → (drawing O N).mesh_fits ≡ true → all_finite (drawing O N) ≡ true
+pub no_lost_numbers : (O : Options) (N : Network) (R : ListLengths) → None ≡ early O N R → (drawing O N).mesh_fits ≡ true → all_finite (drawing O N) ≡ true
 no_lost_numbers O N R h fits =
     let F = fits_of O N R h in
     finite_by_seeds O N F.range F.shape.few F.shape.many (seeds_within O N F.shape.few F.near) fits
@@ -488,11 +498,39 @@ mesh_of full true crowded fits h = cc
 mesh_of full false crowded true h = refl
 mesh_of full false crowded false h = cc
 
-late_fits : (O : Options) (N : Network) (R : Room) → None ≡ late (drawing O N) R → (drawing O N).mesh_fits ≡ true
+late_fits : (O : Options) (N : Network) (R : ListLengths) → None ≡ late (drawing O N) R → (drawing O N).mesh_fits ≡ true
 unfolding late late_by routed_by route_refusal
 late_fits O N R h =
     let d = drawing O N in
     mesh_of (ltb (piece_room R.pieces R.branches) (length d.pieces)) (ill_sized d.boxes (occupied d.counts)) (ltb (crossing_room R) (length d.crossings)) d.mesh_fits h
 
-pub drawn_finite : (O : Options) (N : Network) (R : Room) → None ≡ early O N R → None ≡ late (drawing O N) R → all_finite (drawing O N) ≡ true
+pub drawn_finite : (O : Options) (N : Network) (R : ListLengths) → None ≡ early O N R → None ≡ late (drawing O N) R → all_finite (drawing O N) ≡ true
 drawn_finite O N R h k = no_lost_numbers O N R h (late_fits O N R k)
+
+-- ---- how large each number is
+points_at : (k : ℕ) (l : List Point) → Points k l → (i : ℕ) → i < length l → PointAtMost k (place_at l i)
+points_at k [] h i l = absurd (not-suc-le-zero l)
+points_at k (p ∷ ps) h zero l = let q = h.0 in (q.x, q.y)
+points_at k (p ∷ ps) h (suc i) l = points_at k ps h.1 i (le_of_suc-le-suc l)
+
+pub numbers_sized : NumbersAreSized
+unfolding drawing planned scene_of routed_of Seed.seeds
+numbers_sized O N R h fits =
+    let F = fits_of O N R h in
+    let r = ranged O F.range in
+    let near = seeds_within O N F.shape.few F.near in
+    let at = Seed.seeds N.station N.xy in
+    let long = length_table (seed_of N.station N.xy) (station_count N.station) in
+    let close = seeds_close at near in
+    record {
+      seeds = λ s l. let t = near s l in (t.x, t.y);
+      between_seeds = median_spacing_most O N r F.shape.few F.shape.many at long close;
+      unit = unit_is_most O N r F.shape.few F.shape.many at long close;
+      places = λ s. let p = placed O N r F.shape.few F.shape.many at long close s in (p.x, p.y);
+      boxes = boxed O N r F.shape.few F.shape.many at long close;
+      bar_x = λ i. let b = barred O N r F.shape.few F.shape.many at long close i in b.x;
+      bar_ends = λ i. let b = barred O N r F.shape.few F.shape.many at long close i in (b.y0, b.y1);
+      positions = λ i. let p = position_near (1074 + 73) _ (lit≤ tt) (barred O N r F.shape.few F.shape.many at long close i) in (p.x, p.y);
+      crossings = λ x l. each_at (AtMost 1106) _ x nan l (crossings_sized O N r F.shape.few F.shape.many at long close fits);
+      points = λ e i l. points_at 1184 _ (runs_sized O N r F.shape.few F.shape.many at long close fits e) i l;
+    }

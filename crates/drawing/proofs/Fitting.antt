@@ -11,7 +11,7 @@ use lib.Ieee.{binary64, lt, le, of_bits}
 use borrow.Author.Tests.{ltb-false, leb-true}
 use Rattle.network.specs.declared.options.Options.{Options}
 use Rattle.numbers.specs.Ops.{f0, f1}
-use Rattle.network.specs.Options.{in_range, between, search_fits, gaps_fit, search_of}
+use Rattle.network.specs.Options.{in_range, between, search_fits, block_options_fit, search_of}
 use Rattle.network.specs.Words.{station_count}
 use Rattle.std.specs.Prelude.{Option, Some, None}
 use Rattle.std.specs.Option.{option_or}
@@ -19,13 +19,13 @@ use Rattle.network.specs.declared.refusals.Refusal.{Refusal}
 use Rattle.network.specs.declared.refusals.Refusal.TheVariants as Refusals
 use Rattle.network.specs.Refusal.{refuse, shape_refusal, too_far}
 use Rattle.boxes.specs.Length.{index_length}
-use Rattle.drawing.specs.declared.room.Room.{Room}
+use Rattle.drawing.specs.declared.lengths.ListLengths.{ListLengths}
 use Rattle.drawing.specs.Network.{Network}
 use Rattle.drawing.specs.Answer.{early, mesh_length, sorting, short_results, short_work, crossing_room}
 use Rattle.network.proofs.refusals.Shapes.{Shape, shape_fits, test_on}
 
 -- The lent lists have the lengths that a network of this shape asks.
-pub record Fits (o : Options) (N : Network) (R : Room) : Type 0 where
+pub record Fits (o : Options) (N : Network) (R : ListLengths) : Type 0 where
   pub shape : Shape N.station N.kv N.from N.to
   pub range : in_range o ≡ true
   pub near : too_far (length N.station) N.xy ≡ false
@@ -93,7 +93,7 @@ search_in o h =
     (between (of_bits binary64 0x3F90_0000_0000_0000) o.tier_scale_1 f1)
     (between (of_bits binary64 0x3F90_0000_0000_0000) o.tier_scale_2 f1)
     (search_fits o.search)
-    (gaps_fit o.gaps && leb o.route_iterations 100)
+    (block_options_fit o.block_options && leb o.route_iterations 100)
     h)
 
 -- Five lengths.
@@ -107,7 +107,7 @@ five a a' b b' c c' d d' e e' h =
     let s = enough d d' (ltb e e') r.1 in
     (p.0, q.0, r.0, s.0, ltb-false e e' s.1)
 
-pub fits_of : (o : Options) (N : Network) (R : Room) → None ≡ early o N R → Fits o N R
+pub fits_of : (o : Options) (N : Network) (R : ListLengths) → None ≡ early o N R → Fits o N R
 unfolding early short_results short_work
 fits_of o N R h =
     let n = length N.station in
@@ -165,7 +165,7 @@ fits_of o N R h =
     }
 
 -- The crossing list holds no more than each of its six lists.
-pub room_parts : (R : Room) (x : ℕ) → x ≡ crossing_room R
+pub room_parts : (R : ListLengths) (x : ℕ) → x ≡ crossing_room R
     → (3 * x ≤ R.numbers) × (x ≤ R.crossings) × (2 * x ≤ R.ways) × (x ≤ R.sorted) × (x ≤ R.spare) × (x ≤ R.keys)
 unfolding crossing_room
 room_parts R x e =

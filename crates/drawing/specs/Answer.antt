@@ -13,7 +13,7 @@ use Rattle.network.specs.Refusal.{refuse, unless, shape_refusal, too_far}
 use Rattle.placement.specs.Sized.{ill_sized}
 use Rattle.boxes.specs.Length.{index_length}
 use Rattle.stations.specs.Bar.{position}
-use Rattle.drawing.specs.declared.room.Room.{Room}
+use Rattle.drawing.specs.declared.lengths.ListLengths.{ListLengths}
 use Rattle.drawing.specs.declared.answer.Plot.{Plot}
 use Rattle.drawing.specs.Network.{Network, Lists, Work, Crossings, crossings}
 use Rattle.routing.specs.Routes.{route_refusal}
@@ -23,7 +23,7 @@ use Rattle.runs.specs.Lists.{flat, point_numbers, box_numbers, bar_numbers, piec
 use Rattle.drawing.specs.Drawing.{Drawing, drawing}
 
 -- the lengths of the lent lists
-abbrev pub room_of : Lists → Work → Crossings → Room
+abbrev pub room_of : Lists → Work → Crossings → ListLengths
 room_of L W X =
     record {
       positions = length L.positions;
@@ -54,7 +54,7 @@ mesh_length N = min (length N.corners) 24576
 
 -- 7: a result or work list of fixed length is too short, for n buses, m branches, k stations and the mesh length
 -- (docs/WORK.md)
-unfoldable pub short_results : ℕ → ℕ → ℕ → Room → Bool
+unfoldable pub short_results : ℕ → ℕ → ℕ → ListLengths → Bool
 short_results n m k R =
     ltb R.positions (2 * n) || (ltb R.bars (4 * n) || (ltb R.boxes (4 * k) || (ltb R.scales k || ltb R.roles m)))
 
@@ -62,7 +62,7 @@ short_results n m k R =
 abbrev pub sorting : ℕ → ℕ → ℕ → ℕ
 sorting n m mesh = n + 2 * m + mesh
 
-unfoldable pub short_work : ℕ → ℕ → ℕ → Room → Bool
+unfoldable pub short_work : ℕ → ℕ → ℕ → ListLengths → Bool
 short_work n m mesh R =
     ltb R.stations (2 * n) || (ltb R.buses (3 * n) || (ltb R.ends (4 * m + 4 * mesh + 4)
     || (ltb R.sorted (sorting n m mesh) || (ltb R.spare (sorting n m mesh) || (ltb R.keys (sorting n m mesh)
@@ -70,7 +70,7 @@ short_work n m mesh R =
     || (ltb R.path (2 * n + 3 * mesh + 16) || ltb R.sorted (index_length n))))))))))
 
 -- 1 to 7 and 15, none where none applies
-unfoldable pub early : Options → Network → Room → Option Refusal
+unfoldable pub early : Options → Network → ListLengths → Option Refusal
 early O N R =
     option_or (shape_refusal N.station N.kv N.from N.to)
     (refuse (not (in_range O)) (Some Refusals.OptionRange)
@@ -82,14 +82,15 @@ early O N R =
 unfoldable pub piece_room : ℕ → ℕ → ℕ
 piece_room numbers names = min (numbers / 4) names
 
--- 10: crossings, those of cleared paths included, outnumber the lent crossing list, which holds as many as each of its
+-- 10: crossings, those of cleared walks included, outnumber the lent crossing list, which holds as many as each of its
 -- six lists
-unfoldable pub crossing_room : Room → ℕ
+unfoldable pub crossing_room : ListLengths → ℕ
 crossing_room R =
     min (R.numbers / 3) (min R.crossings (min (R.ways / 2) (min R.sorted (min R.spare R.keys))))
 
--- No number of a drawing is lost: each seed, the unit, each box corner, bar end, crossing place and route point is
--- finite. Of every drawing that 1 to 7, 15 and 9 let pass `drawing::laws::no_lost_numbers` promises it.
+-- Each number of a drawing is finite: each seed, the unit, each edge of a box, each number of a bar, each fraction of a
+-- crossing after the rounds, and each point of a run. Of every drawing that 1 to 7, 15 and 9 let pass
+-- `drawing::laws::no_lost_numbers` promises it.
 unfoldable pub all_finite : Drawing → Bool
 all_finite d =
     all_of finite_point d.seeds && (is_finite d.unit && (all_of finite_box d.boxes && (all_of finite_bar d.bars
@@ -104,7 +105,7 @@ unfoldable pub late_by : Option Refusal → ℕ → ℕ → ℕ → Option Refus
 late_by earlier pieces numbers names =
     option_or earlier (refuse (ltb (piece_room numbers names) pieces) (Some Refusals.Pieces) None)
 
-unfoldable pub late : Drawing → Room → Option Refusal
+unfoldable pub late : Drawing → ListLengths → Option Refusal
 late d R =
     late_by (routed_by (ill_sized d.boxes (occupied d.counts)) d.mesh_fits (length d.crossings) (crossing_room R))
     (length d.pieces)
@@ -144,8 +145,8 @@ zero_numbers l = replicate (length l) 0
 abbrev pub zeros : List Float → List Float
 zeros l = replicate (length l) f0
 
-unfoldable pub cleared_work : Work → Work
-cleared_work W =
+unfoldable pub zeroed_work : Work → Work
+zeroed_work W =
     record {
       stations = zero_numbers W.stations;
       buses = zero_numbers W.buses;
@@ -159,8 +160,8 @@ cleared_work W =
       path = zeros W.path;
     }
 
-unfoldable pub cleared_crossings : Crossings → Crossings
-cleared_crossings X =
+unfoldable pub zeroed_crossings : Crossings → Crossings
+zeroed_crossings X =
     crossings (zero_numbers X.numbers) (zeros X.places) (zeros X.ways)
 
 -- ---- the whole of a call: its answer, and the lists after it
@@ -183,13 +184,13 @@ answer_for r d = unless r (plot_of d)
 
 -- where the input has passed, by the late refusal
 unfoldable pub call_late : Option Refusal → Drawing → Lists → Work → Crossings → Call
-call_late r d L W X = call (answer_for r d) (lists_after r (lists_of d) L) (cleared_work W) (cleared_crossings X)
+call_late r d L W X = call (answer_for r d) (lists_after r (lists_of d) L) (zeroed_work W) (zeroed_crossings X)
 
 -- by the early refusal: 1 to 7 and 15 leave every list unchanged
 unfoldable pub call_early : Option Refusal → Options → Network → Lists → Work → Crossings → Call
 call_early None O N L W X = let d = drawing O N in call_late (late d (room_of L W X)) d L W X
 call_early (Some r) O N L W X = call (Err r) L W X
 
--- Layout returns the lowest number that applies.
+-- Layout returns the first refusal of the table that applies (docs/RULES.md, 'Order of refusals').
 unfoldable pub layout_of : Options → Network → Lists → Work → Crossings → Call
 layout_of O N L W X = call_early (early O N (room_of L W X)) O N L W X

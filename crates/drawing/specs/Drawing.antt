@@ -1,13 +1,13 @@
 -- A drawing: what each step gives, handed on to the next. Definitions only.
 -- The steps stand in docs/RULES.md, from 'Branches and stations' to 'Runs, pieces, roles and bounds'.
 use Rattle.std.specs.Prelude.{ℕ, Bool, false, List, [], map, ltb, length, get_or, Float}
-use Rattle.std.proofs.Math.Option.{Option, none, some}
+use Rattle.std.specs.Prelude.{Option, Some, None}
 use Rattle.numbers.specs.Ops.{f0}
 use Rattle.numbers.specs.Order.{pick}
 use Rattle.numbers.specs.Table.{table}
 use Rattle.plane.specs.declared.geometry.Point.{Point}
 use Rattle.plane.specs.declared.geometry.Box.{Box}
-use Rattle.network.specs.declared.options.Gaps.{Gaps}
+use Rattle.network.specs.declared.options.BlockOptions.{BlockOptions}
 use Rattle.network.specs.declared.options.Options.{Options}
 use Rattle.network.specs.Options.{search_of}
 use Rattle.network.specs.declared.words.Kind.{Kind}
@@ -28,12 +28,12 @@ use Rattle.stations.specs.declared.bars.Bar.{Bar}
 use Rattle.stations.specs.Bar as Bars
 use Rattle.stations.specs.Exit.{exit}
 use Rattle.routing.specs.Route as Route
-use Rattle.routing.specs.Gap.{gap_of}
+use Rattle.routing.specs.Clearance.{clearance_of}
 use Rattle.routing.specs.Routes.{mesh_used, mesh_fits, crossings_of}
 use Rattle.drawing.specs.Network.{Network}
 use Rattle.runs.specs.Run as Run
 use Rattle.results.specs.Bounds.{bounds_of}
-use Rattle.runs.specs.Run.{Scene, Piece, slot, all_pieces, role}
+use Rattle.runs.specs.Run.{RunScene, Piece, row_end_at, all_pieces, role}
 
 -- What the steps up to the bars give, and the scene that runs are drawn from, its lines straight.
 pub record Plan : Type 0 where
@@ -45,29 +45,29 @@ pub record Plan : Type 0 where
   pub found : List Bool
   pub boxes : List Box
   pub bars : List Bar
-  pub scene : Scene
+  pub scene : RunScene
 
--- what interiors are measured by: a unit, and the options' gaps
+-- what interiors are measured by: a unit, and the block options
 abbrev pub measures_of : Options → Float → Measures
-measures_of O unit = record { unit = unit; gaps = O.gaps }
+measures_of O unit = record { unit = unit; block_options = O.block_options }
 
 -- a scene whose lines run straight
 unfoldable pub straight_scene :
-    List ℕ → List Kind → List ℕ → List ℕ → Gaps → List Float → List Box → List Point → List Bar → Scene
-straight_scene sub ks fromRows toRows gaps blocks boxes places bars =
+    List ℕ → List Kind → List ℕ → List ℕ → BlockOptions → List Float → List Box → List Point → List Bar → RunScene
+straight_scene sub ks fromRows toRows block_options blocks boxes places bars =
     record {
       sub = sub;
       kinds = ks;
       from_rows = fromRows;
       to_rows = toRows;
-      gaps = gaps;
+      block_options = block_options;
       blocks = blocks;
       boxes = boxes;
       places = places;
       bars = bars;
       led = false;
       occupied = [];
-      gap = f0;
+      clearance = f0;
       ways = [];
     }
 
@@ -80,18 +80,18 @@ planned O N =
     let columns = Column.columns sub N.kv in
     let fromRows = Row.from_rows sub seeds ks in
     let toRows = Row.to_rows sub seeds ks in
-    let sizes = Sizes.sizes O.gaps sub ks counts in
-    let gap = spacing seeds counts in
-    let unit = unit_for O.fill gap (typical sizes counts) in
-    let scales = Scale.scales O seeds counts gap in
-    let frames = PlaceSearch.frames (measures_of O unit) scales sizes in
+    let sizes = Sizes.sizes O.block_options sub ks counts in
+    let median_spacing = spacing seeds counts in
+    let unit = unit_for O.fill median_spacing (typical sizes counts) in
+    let scales = Scale.scales O seeds counts median_spacing in
+    let half_sides = PlaceSearch.half_sides (measures_of O unit) scales sizes in
     let order = placement_order sub N.kv counts in
     let offsets = Offset.offsets (search_of O.search) in
-    let places = Place.places frames offsets seeds order in
-    let found = table (Place.found_free frames offsets seeds order) (length order) in
-    let boxes = Place.boxes frames counts places in
-    let blocks = map (λ (r : PlaceSearch.Frame). r.f) frames in
-    let bars = Bars.bars O.gaps sub columns (Bars.spans sub ks fromRows toRows) blocks boxes in
+    let places = Place.places half_sides offsets seeds order in
+    let found = table (Place.found_free half_sides offsets seeds order) (length order) in
+    let boxes = Place.boxes half_sides counts places in
+    let blocks = map (λ (r : PlaceSearch.HalfSides). r.f) half_sides in
+    let bars = Bars.bars O.block_options sub columns (Bars.spans sub ks fromRows toRows) blocks boxes in
     record {
       counts = counts;
       seeds = seeds;
@@ -101,58 +101,67 @@ planned O N =
       found = found;
       boxes = boxes;
       bars = bars;
-      scene = straight_scene sub ks fromRows toRows O.gaps blocks boxes places bars;
+      scene = straight_scene sub ks fromRows toRows O.block_options blocks boxes places bars;
     }
+
+-- Each station's search finds a free place.
+unfoldable pub all_free : Options → Network → Bool
+all_free O N =
+    let P = planned O N in
+    let sizes = Sizes.sizes O.block_options N.station (kinds N.station N.from N.to N.service) P.counts in
+    let half_sides = PlaceSearch.half_sides (measures_of O P.unit) P.scales sizes in
+    Place.all_find_free half_sides (Offset.offsets (search_of O.search)) P.seeds
+    (placement_order N.station N.kv P.counts)
 
 -- ---- lines through the mesh
 
 -- the same with lines led over these waypoints, and round the occupied stations' boxes where there are iterations
-unfoldable pub led_scene : Scene → Bool → List ℕ → Float → List (List Point) → Scene
-led_scene S led occ gap ways =
+unfoldable pub led_scene : RunScene → Bool → List ℕ → Float → List (List Point) → RunScene
+led_scene S led occ clearance ways =
     record {
       sub = S.sub;
       kinds = S.kinds;
       from_rows = S.from_rows;
       to_rows = S.to_rows;
-      gaps = S.gaps;
+      block_options = S.block_options;
       blocks = S.blocks;
       boxes = S.boxes;
       places = S.places;
       bars = S.bars;
       led = led;
       occupied = occ;
-      gap = gap;
+      clearance = clearance;
       ways = ways;
     }
 
 -- what a branch is to routing: a line with its stations and exits, or none
-unfoldable pub line_for : Scene → ℕ → ℕ → Kind → Option Route.Line
-line_for S ra rb Undrawn = none
-line_for S ra rb (Open a b) = none
-line_for S ra rb (Internal a b) = none
+unfoldable pub line_for : RunScene → ℕ → ℕ → Kind → Option Route.RoutedLine
+line_for S ra rb Undrawn = None
+line_for S ra rb (Open a b) = None
+line_for S ra rb (Internal a b) = None
 line_for S ra rb (Line a b) =
     let s = station_of S.sub a in
     let t = station_of S.sub b in
-    some
+    Some
     (record {
       sa = s;
       sb = t;
-      exit0 = exit S.boxes S.places s t (slot S a ra).y;
-      exit1 = exit S.boxes S.places t s (slot S b rb).y;
+      exit0 = exit S.boxes S.places s t (row_end_at S a ra).y;
+      exit1 = exit S.boxes S.places t s (row_end_at S b rb).y;
     })
 
-unfoldable pub line_of : Scene → ℕ → Option Route.Line
+unfoldable pub line_of : RunScene → ℕ → Option Route.RoutedLine
 line_of S e = line_for S (get_or S.from_rows e 0) (get_or S.to_rows e 0) (kind_at S.kinds e)
 
--- what lines are routed through: corner v of the mesh is the occupied station number v
-unfoldable pub routed_scene : Scene → List ℕ → List Float → Float → List ℕ → List ℕ → Route.Scene
-routed_scene S occ scales gap corners twins =
+-- what lines are routed through: vertex v of the mesh is the occupied station number v
+unfoldable pub routed_scene : RunScene → List ℕ → List Float → Float → List ℕ → List ℕ → Route.MeshScene
+routed_scene S occ scales clearance corners twins =
     record {
       occupied = occ;
       centres = coordinates S.places occ;
       boxes = S.boxes;
       scales = scales;
-      gap = gap;
+      clearance = clearance;
       corners = corners;
       twins = twins;
       lines = table (line_of S) (length S.kinds);
@@ -177,22 +186,22 @@ pub record Drawing : Type 0 where
   pub bounds : Box
 
 -- what the lines of a plan are routed through
-unfoldable pub routed_of : Options → Network → Plan → Route.Scene
+unfoldable pub routed_of : Options → Network → Plan → Route.MeshScene
 routed_of O N P =
     let occ = occupied P.counts in
     let used = mesh_used (length occ) O.route_iterations in
-    routed_scene P.scene occ P.scales (gap_of P.unit) (pick used N.corners []) (pick used N.twins [])
+    routed_scene P.scene occ P.scales (clearance_of P.unit) (pick used N.corners []) (pick used N.twins [])
 
 -- the waypoints of every branch
-unfoldable pub ways_of : Route.Scene → List Float → List (List Point)
-ways_of R places = table (Route.waypoints R (Route.routing R) places) (length R.lines)
+unfoldable pub waypoints_of : Route.MeshScene → List Float → List (List Point)
+waypoints_of R places = table (Route.waypoints R (Route.routing R) places) (length R.lines)
 
 -- the scene with its lines led
-unfoldable pub scene_of : Options → Network → Plan → Scene
+unfoldable pub scene_of : Options → Network → Plan → RunScene
 scene_of O N P =
     let R = routed_of O N P in
-    led_scene P.scene (ltb 0 O.route_iterations) (occupied P.counts) (gap_of P.unit)
-    (ways_of R (crossings_of R O.route_iterations))
+    led_scene P.scene (ltb 0 O.route_iterations) (occupied P.counts) (clearance_of P.unit)
+    (waypoints_of R (crossings_of R O.route_iterations))
 
 unfoldable pub drawing : Options → Network → Drawing
 drawing O N =

@@ -6,7 +6,7 @@ use Rattle.network.specs.Words.{station_count, occupied}
 use Rattle.network.specs.Refusal.{refuse, number_of, too_many, kv_unlike, to_unlike, number_too_high, stray_voltage}
 use Rattle.network.specs.Refusal.{too_far}
 use Rattle.placement.specs.Sized.{ill_sized}
-use Rattle.drawing.specs.declared.room.Room.{Room}
+use Rattle.drawing.specs.declared.lengths.ListLengths.{ListLengths}
 use Rattle.drawing.specs.Network.{Network, Lists, Work, Crossings}
 use Rattle.drawing.specs.Drawing.{drawing}
 use Rattle.drawing.specs.Answer.{room_of, mesh_length, short_results, short_work, crossing_room, piece_room, Call}
@@ -16,7 +16,7 @@ use Rattle.drawing.specs.Answer.{layout_of}
 -- higher. The first row whose condition holds gives the number, 0 where none does.
 -- 9 and 10 are skipped with fewer than three occupied stations or 0 iterations: the mesh then fits and there are no
 -- crossings.
-unfoldable pub layout_number : Options → Network → Room → ℕ
+unfoldable pub layout_number : Options → Network → ListLengths → ℕ
 layout_number O N R =
     let n = length N.station in
     let m = length N.from in

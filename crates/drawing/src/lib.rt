@@ -8,4 +8,4 @@ pub mod late;
 /// Laws of every drawing.
 pub mod laws;
 /// The lengths of the lent lists.
-pub mod room;
+pub mod lengths;

@@ -18,7 +18,7 @@ use Rattle.network.specs.Refusal.{number}
 use Rattle.drawing.specs.Network.{Network, network, Lists}
 use Rattle.layout.proofs.Drawn.{pieces_fit}
 use Rattle.small.specs.Small.{work_lists, crossing_lists, held_call, SmallCall}
-use Rattle.text.specs.declared.listing.input.Counts.{Counts}
+use Rattle.text.specs.declared.listing.input.InputCounts.{InputCounts}
 use Rattle.std.specs.Prelude.{Option, Some, None, IfSome, OnOk}
 use Rattle.text.specs.Input.{parsed}
 use Rattle.numbers.specs.Over.{over}
@@ -64,7 +64,7 @@ same_network p q r s t u = rw (p, q, r, s, t, u)
 pub front : {A : Type 0} (n : ℕ) (new old list : List A) → n ≡ length new → list ≡ over new old → take n list ≡ new
 front n new old list e h = ap (λ (l : List _). take n l) h ∙ ap (λ (k : ℕ). take k (over new old)) e ∙ take_over new old
 
-pub output_drawn : (t : List ℕ) (n : Counts) (a a' b b' : List ℕ) (c c' d d' : List ℤ) (e e' : List ℕ) (f f' : List Float)
+pub output_drawn : (t : List ℕ) (n : InputCounts) (a a' b b' : List ℕ) (c c' d d' : List ℤ) (e e' : List ℕ) (f f' : List Float)
     → answer (parsed t) ≡ Some n
     → a ≡ over (parsed t).buses.sub a'
     → b ≡ over (parsed t).buses.kv b'
@@ -93,7 +93,7 @@ pub output_malformed : (t : List ℕ) → answer (parsed t) ≡ None → refusal
 unfolding output_of answer number_of
 output_malformed t h = malformed (parsed t).well_formed refl h
   where
-    malformed : (b : Bool) → (parsed t).well_formed ≡ b → ◌≡◌ {A = Option Counts} (cond b (Some (record { buses = length (parsed t).buses.sub; branches = length (parsed t).branches.live })) None) None
+    malformed : (b : Bool) → (parsed t).well_formed ≡ b → ◌≡◌ {A = Option InputCounts} (cond b (Some (record { buses = length (parsed t).buses.sub; branches = length (parsed t).branches.live })) None) None
         → refusal 14 ≡ cond (parsed t).well_formed (text_of (network_of (parsed t))) (refusal (number_of (answer (parsed t))))
     malformed true e k = let z : ◌≡◌ {A = ℕ} 0 1 = cc in absurd (omega arith)
     malformed false e k = rw e
@@ -130,16 +130,16 @@ text_written (Ok v) known got k P e h p = known_text known got k P e h p
 text_written (Err v) known got k P e h p = tt
 
 -- as many buses and branches as the lists hold
-few_read : (t : List ℕ) (n : Counts) → answer (parsed t) ≡ Some n → (n.buses ≤ 64) × (n.branches ≤ 64)
+few_read : (t : List ℕ) (n : InputCounts) → answer (parsed t) ≡ Some n → (n.buses ≤ 64) × (n.branches ≤ 64)
 few_read t n h =
     let w = answered (parsed t) n h in
     let s = parsed_shape t in
     (omega (arith, w.1, s.0.few), omega (arith, w.2, s.1.few))
 
-pub few_buses : (t : List ℕ) (n : Counts) → Some n ≡ answer (parsed t) → n.buses ≤ 64
+pub few_buses : (t : List ℕ) (n : InputCounts) → Some n ≡ answer (parsed t) → n.buses ≤ 64
 few_buses t n h = (few_read t n (sym h)).0
 
-pub few_branches : (t : List ℕ) (n : Counts) → Some n ≡ answer (parsed t) → n.branches ≤ 64
+pub few_branches : (t : List ℕ) (n : InputCounts) → Some n ≡ answer (parsed t) → n.branches ≤ 64
 few_branches t n h = (few_read t n (sym h)).1
 
 pub ruleset read_laws = (few_buses, few_branches, length-take-le)

@@ -30,7 +30,8 @@ fn write_list<W: Sink>(text: &[u8], output: &mut W, out: &mut [u8; ROOM]) -> io:
 }
 
 /// Reads a text and writes what comes of it. Of a longer text the first 6,937 bytes are enough. No
-/// memory is asked for.
+/// memory is asked for. Of what `text` and `out` hold afterwards nothing is said: they are room for
+/// what is read and what is written, and their lender reads neither.
 #[tactic(auto, using(crate::proofs::Listed::enough))]
 pub fn run<R: Source, W: Sink>(
     input: &mut R,

@@ -17,7 +17,7 @@ fn options() -> Options
     ensures { result ≡ list_options }
 {
     let o = Options::default();
-    let gaps = o.gaps;
+    let block_options = o.block_options;
     Options {
         fill: 0.5,
         tier_radius: o.tier_radius,
@@ -27,7 +27,7 @@ fn options() -> Options
         tier_scale_2: o.tier_scale_2,
         search: o.search,
         route_iterations: 0,
-        gaps,
+        block_options,
     }
 }
 

@@ -4,6 +4,8 @@
 
 /// The audit call.
 pub mod auditing;
+/// The call of the largest fill.
+pub mod filling;
 /// The drawing call.
 pub mod plotting;
 

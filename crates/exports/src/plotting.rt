@@ -29,7 +29,7 @@ use records::plain::{Plotted, Settings};
 /// bits of a float. `from` and `to`, m: each branch's buses; one below 0 or from n on is unknown.
 /// `service`: 0 where a branch is open; one that is absent is live. `xy`: each bus's map
 /// point, x and y; (0, 0) where it is absent or not finite. `corners` and `twins`: the mesh over the
-/// occupied stations, for each half-edge the corner that it starts at and its twin, 4,294,967,295
+/// occupied stations, for each half-edge the vertex that it starts at and its twin, 4,294,967,295
 /// for none.
 ///
 /// The answer's number is 0, or the first that applies, and then its other numbers are zeros and no

@@ -12,7 +12,7 @@ use Rattle.std.proofs.lemmas.Result.{err_from_is_err_and}
 use Rattle.numbers.specs.Over.{over}
 use Rattle.numbers.proofs.order.Tables.{table_ext}
 use Rattle.plane.specs.declared.geometry.Box.{Box}
-use Rattle.network.specs.declared.options.Gaps.{Gaps}
+use Rattle.network.specs.declared.options.BlockOptions.{BlockOptions}
 use Rattle.network.specs.declared.options.Options.{Options}
 use Rattle.network.specs.declared.refusals.Refusal.{Refusal}
 use Rattle.network.proofs.refusals.Unless as Unless
@@ -29,10 +29,10 @@ use Rattle.results.specs.Stages.Pieces.{branch_of}
 use Rattle.results.specs.Stages.Runs.{runs_in}
 use Rattle.results.specs.Stages.Bars.{bars_in}
 use Rattle.results.specs.Bounds.{bounds_of}
-use Rattle.routing.specs.Gap.{gap_of}
+use Rattle.routing.specs.Clearance.{clearance_of}
 use Rattle.stations.specs.declared.measures.Measures.{Measures}
 use Rattle.drawing.specs.declared.answer.Plot.{Plot}
-use Rattle.drawing.specs.declared.room.Room.{Room}
+use Rattle.drawing.specs.declared.lengths.ListLengths.{ListLengths}
 use Rattle.drawing.specs.Network.{Network, Lists}
 use Rattle.drawing.proofs.Lent.{lists}
 use Rattle.drawing.specs.Drawing.{measures_of, drawing}
@@ -45,10 +45,10 @@ lists_eq : {a a' b b' c c' d d' : List Float} {e e' : List ℕ} {f f' : List Flo
     → a ≡ a' → b ≡ b' → c ≡ c' → d ≡ d' → e ≡ e' → f ≡ f' → g ≡ g' → lists a b c d e f g ≡ lists a' b' c' d' e' f' g'
 lists_eq p q r s t u w = rw (p, q, r, s, t, u, w)
 
-abbrev measure : Float → Gaps → Measures
-measure u g = record { unit = u; gaps = g }
+abbrev measure : Float → BlockOptions → Measures
+measure u g = record { unit = u; block_options = g }
 
-module _ (o : Options) (N : Network) (R : Room) where
+module _ (o : Options) (N : Network) (R : ListLengths) where
   -- Where a refusal decides the answer, no list is written.
   unwritten : (r : Refusal) (L : Lists) → Some r ≡ late (drawing o N) R → Drew o N (late (drawing o N) R) L (Err r) L
   unfolding answer_for lists_after after
@@ -58,18 +58,18 @@ module _ (o : Options) (N : Network) (R : Room) where
   unfolding answer_for
   refused r L e = unwritten r L (Unless.refused _ r _ e)
 
-module _ (o : Options) (N : Network) (k : ℕ) (R : Room) (stations buses ends : List ℕ) (blocks places frames path ways : List Float) where
+module _ (o : Options) (N : Network) (k : ℕ) (R : ListLengths) (stations buses ends : List ℕ) (blocks places frames path ways : List Float) where
   -- Where the chart is refused, so is the drawing.
   pub refused_before : (r : Refusal) (L : Lists) → Charted o N k (crossing_room R) (Err r) stations buses ends blocks places frames path ways → Drew o N (late (drawing o N) R) L (Err r) L
   unfolding late late_by routed_late
   refused_before r L C = let e = Unless.refused _ r _ C.course_is in unwritten o N R r L (rw (sym e))
 
-  module _ (M : Measures) (gaps : M.gaps ≡ o.gaps) (C : Charted o N k (crossing_room R) (Ok M.unit) stations buses ends blocks places frames path ways) where
+  module _ (M : Measures) (block_options : M.block_options ≡ o.block_options) (C : Charted o N k (crossing_room R) (Ok M.unit) stations buses ends blocks places frames path ways) where
     passed : (None ≡ routed_late o N (crossing_room R)) × (M.unit ≡ (drawing o N).unit)
     passed = accepted _ M.unit _ C.course_is
 
     measured : M ≡ measures_of o (drawing o N).unit
-    measured = ap (measure M.unit) gaps ∙ ap (measures_of o) passed.1
+    measured = ap (measure M.unit) block_options ∙ ap (measures_of o) passed.1
 
     bars_are : bars_in N.station M buses blocks frames ≡ (drawing o N).bars
     bars_are = ap (λ (m : Measures). bars_in N.station m buses blocks frames) measured ∙ C.bars
@@ -79,16 +79,16 @@ module _ (o : Options) (N : Network) (k : ℕ) (R : Room) (stations buses ends :
     unfolding late routed_late
     late_is pieces e = let z = passed.0 in cc
 
-    -- Where lines aren't led, no gap is read.
-    led_is : (b : Bool) → runs_in (held N.station M buses ends blocks places frames (lead_by (cond b (Some (gap_of M.unit)) None) k stations ways)) N.from N.to N.service
-        ≡ runs_in (held N.station M buses ends blocks places frames (lead b (gap_of M.unit) k stations ways)) N.from N.to N.service
+    -- Where lines aren't led, no clearance is read.
+    led_is : (b : Bool) → runs_in (held N.station M buses ends blocks places frames (lead_by (cond b (Some (clearance_of M.unit)) None) k stations ways)) N.from N.to N.service
+        ≡ runs_in (held N.station M buses ends blocks places frames (lead b (clearance_of M.unit) k stations ways)) N.from N.to N.service
     unfolding runs_in
     led_is true = refl
-    led_is false = table_ext _ _ (length N.from) (λ e h. run_unled N.station M buses ends blocks places frames k stations ways nan (gap_of M.unit) e (kind_of N.station N.from N.to N.service e))
+    led_is false = table_ext _ _ (length N.from) (λ e h. run_unled N.station M buses ends blocks places frames k stations ways nan (clearance_of M.unit) e (kind_of N.station N.from N.to N.service e))
 
-    module _ (gap : Option Float) (ge : gap ≡ cond (ltb 0 o.route_iterations) (Some (gap_of M.unit)) None) where
+    module _ (clearance : Option Float) (ge : clearance ≡ cond (ltb 0 o.route_iterations) (Some (clearance_of M.unit)) None) where
       abbrev held_by : RunLists
-      held_by = held N.station M buses ends blocks places frames (lead_by gap k stations ways)
+      held_by = held N.station M buses ends blocks places frames (lead_by clearance k stations ways)
 
       runs_are : runs_in held_by N.from N.to N.service ≡ (drawing o N).runs
       runs_are =

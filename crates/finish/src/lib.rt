@@ -13,22 +13,22 @@ ghost use Rattle.lent.specs.Held.{held_lists, held_work, held_crossings};
 ghost use Rattle.lent.specs.Held.{SameLists, SameWork, KeptWork};
 ghost use Rattle.chart.specs.Stages.Lengths.{DrawnRoom};
 ghost use Rattle.chart.specs.Stages.Charted.{ChartedIn, IndexedIn};
-ghost use Rattle.finish.specs.Stages.Draft.{DrewIn, ResultRoom, gap_led};
+ghost use Rattle.finish.specs.Stages.Draft.{DrewIn, ResultRoom, clearance_led};
 ghost use Rattle.finish.specs.Stages.Draft.{ChartedBy, ChartedOver};
 
-use crate::draft::{gap_led, plot_of};
+use crate::draft::{clearance_led, plot_of};
 use boxes::grid::grid_of;
 use boxes::grid::index::BoxIndex;
 use drawing::answer::Plot;
-use drawing::room::Room;
+use drawing::lengths::ListLengths;
 use lent::{Crossings, Lists, Work};
 use network::lists::{Bounded, FewPlaced, Placed};
 use network::options::Options;
 use network::refusals::Refusal;
 use results::buses::write_buses;
 use results::lists::{write_roles, write_stations};
-use results::survey::write_pieces;
-use runs::laid::{Guide, Laid};
+use results::piece_list::write_pieces;
+use runs::laid::{Laid, Obstacles};
 use stations::measures::Measures;
 
 // Judges a drawing that nothing refuses so far, and writes it where nothing does.
@@ -39,22 +39,22 @@ fn write(
     options: Options,
     net: &Bounded<'_>,
     laid: &Laid<'_>,
-    guide: &Guide<'_>,
-    room: Room,
+    obstacles: &Obstacles<'_>,
+    room: ListLengths,
 ) -> Result<Plot, Refusal>
-    requires measured { laid.now.measures.gaps ≡ options.gaps }
-    requires guided { guide.now.gap ≡ gap_led options laid.now.measures.unit }
-    requires block_room { 3 * guide.now.index.placed.k ≤ length laid.now.blocks.now }
-    requires result_room { ResultRoom (network_of net.now.lists) guide.now.index.placed.k room
+    requires measured { laid.now.measures.block_options ≡ options.block_options }
+    requires guided { obstacles.now.clearance ≡ clearance_led options laid.now.measures.unit }
+    requires block_room { 3 * obstacles.now.index.placed.k ≤ length laid.now.blocks.now }
+    requires result_room { ResultRoom (network_of net.now.lists) obstacles.now.index.placed.k room
         (held_lists lists.old) }
-    requires charted { ChartedBy options (network_of net.now.lists) room laid.now guide.now
+    requires charted { ChartedBy options (network_of net.now.lists) room laid.now obstacles.now
         path.old }
     ensures same { SameLists lists.new lists.old }
     ensures drew { DrewIn options (network_of net.now.lists) room (held_lists lists.old) result
         (held_lists lists.new) }
 {
-    let plot = plot_of(options, net, laid, guide, room, path)?;
-    let placed = guide.index.placed;
+    let plot = plot_of(options, net, laid, obstacles, room, path)?;
+    let placed = obstacles.index.placed;
     write_buses(
         net.lists.sub,
         laid.measures,
@@ -72,7 +72,7 @@ fn write(
         lists.scales,
     );
     write_roles(&net.lists, lists.roles);
-    write_pieces(net, laid, guide, path, lists.pieces, lists.branches);
+    write_pieces(net, laid, obstacles, path, lists.pieces, lists.branches);
     Ok(plot)
 }
 
@@ -87,9 +87,9 @@ fn write_led<'a>(
     few: &FewPlaced<'a>,
     cells: &'a [u32],
     ways: &'a [f64],
-    room: Room,
+    room: ListLengths,
 ) -> Result<Plot, Refusal>
-    requires measured { laid.now.measures.gaps ≡ options.gaps }
+    requires measured { laid.now.measures.block_options ≡ options.block_options }
     requires block_room { 3 * few.now.placed.k ≤ length laid.now.blocks.now }
     requires indexed { Indexed (boxes_in few.now.placed.k few.now.placed.frames.now)
         (occupied (counts_in few.now.placed.k few.now.placed.stations.now)) cells.now }
@@ -107,30 +107,31 @@ fn write_led<'a>(
         cells,
         grid: grid_of(placed.k, placed.frames, cells),
     };
-    let guide = Guide {
-        gap: gap_led(options, laid.measures.unit),
+    let obstacles = Obstacles {
+        clearance: clearance_led(options, laid.measures.unit),
         index,
         ways,
     };
-    write(lists, path, options, net, laid, &guide, room)
+    write(lists, path, options, net, laid, &obstacles, room)
 }
 
 /// Writes the charted drawing that the work lists hold into the result lists, where nothing refuses
 /// it.
 ///
-/// `stations` is the stations' number, `room` the lengths of the lent lists, and `course` what
-/// `chart` answered: a refusal of it is the answer. Otherwise answers the drawing's numbers, or
-/// refusal 11, which changes no result list (docs/RULES.md, 'After a refusal').
+/// `stations` is the stations' number, `room` the lengths of the lent lists, and `outcome` what
+/// `lay_out_and_route` or `route_laid_out` answered: a refusal of it is the answer. Otherwise
+/// answers the drawing's numbers, or refusal 11, which changes no result list (docs/RULES.md, 'After
+/// a refusal').
 #[tactic(auto, using(std::proofs::lemmas::Result::err_from_is_err_and))]
-pub fn finish(
+pub fn write_drawing(
     lists: &mut Lists<'_>,
     work: &mut Work<'_>,
     crossings: &Crossings<'_>,
     options: Options,
     net: &Bounded<'_>,
     stations: usize,
-    room: Room,
-    course: Result<f64, Refusal>,
+    room: ListLengths,
+    outcome: Result<f64, Refusal>,
 ) -> Result<Plot, Refusal>
     requires few_stations { stations ≤ 4096 }
     requires drawn_room { DrawnRoom stations (held_work work.old) }
@@ -138,16 +139,19 @@ pub fn finish(
     requires result_room { ResultRoom (network_of net.now.lists) stations room
         (held_lists lists.old) }
     requires charted { ChartedIn options (network_of net.now.lists) stations (crossing_room room)
-        course (held_work work.old) (held_crossings crossings.now) }
+        outcome (held_work work.old) (held_crossings crossings.now) }
     ensures same { SameLists lists.new lists.old × SameWork work.new work.old }
     ensures kept { KeptWork work.new work.old }
     ensures long { length work.new.path.now ≡ length work.old.path.now }
     ensures drew { DrewIn options (network_of net.now.lists) room (held_lists lists.old) result
         (held_lists lists.new) }
 {
-    let unit = course?;
-    let gaps = options.gaps;
-    let measures = Measures { unit, gaps };
+    let unit = outcome?;
+    let block_options = options.block_options;
+    let measures = Measures {
+        unit,
+        block_options,
+    };
     let buses = &mut *work.buses;
     let ends = &mut *work.ends;
     let blocks = &mut *work.blocks;

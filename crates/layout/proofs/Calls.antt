@@ -1,8 +1,6 @@
 -- The whole call from its parts: the answer and every lent list.
 -- Assumes nothing.
 use mathlib.Core.Path.{◌≡◌, sym, ◌∙◌}
-use Prim.Native.Nat.{ℕ, min}
-use native.Mathlib.Omega.{arith}
 use lib.ListN.{length}
 use Rattle.network.specs.declared.options.Options.{Options}
 use Rattle.std.specs.Prelude.{Some, None, Result, Err}
@@ -10,7 +8,7 @@ use Rattle.network.specs.declared.refusals.Refusal.{Refusal}
 use Rattle.drawing.specs.declared.answer.Plot.{Plot}
 use Rattle.drawing.specs.Network.{Network, Lists, Work, Crossings}
 use Rattle.drawing.specs.Drawing.{drawing}
-use Rattle.drawing.specs.Answer.{room_of, early, late, cleared_work, cleared_crossings, call, call_late, call_early, layout_of}
+use Rattle.drawing.specs.Answer.{room_of, early, late, zeroed_work, zeroed_crossings, call, call_late, call_early, layout_of}
 use Rattle.finish.specs.Stages.Draft.{Drew}
 use Rattle.drawing.specs.Number.{Answered}
 use Rattle.drawing.proofs.Number.{answered}
@@ -33,8 +31,8 @@ pub record Alike (U W : Work) : Type 0 where
   pub frames : length U.frames ≡ length W.frames
   pub path : length U.path ≡ length W.path
 
-cleared_alike : (U W : Work) → Alike U W → cleared_work U ≡ cleared_work W
-unfolding cleared_work
+pub cleared_alike : (U W : Work) → Alike U W → zeroed_work U ≡ zeroed_work W
+unfolding zeroed_work
 cleared_alike U W A =
     rw (A.stations, A.buses, A.ends, A.sorted, A.spare, A.keys, A.places, A.blocks, A.frames, A.path)
 
@@ -44,24 +42,17 @@ pub record Level (U X : Crossings) : Type 0 where
   pub places : length U.places ≡ length X.places
   pub ways : length U.ways ≡ length X.ways
 
-cleared_level : (U X : Crossings) → Level U X → cleared_crossings U ≡ cleared_crossings X
-unfolding cleared_crossings
+pub cleared_level : (U X : Crossings) → Level U X → zeroed_crossings U ≡ zeroed_crossings X
+unfolding zeroed_crossings
 cleared_level U X A = rw (A.numbers, A.places, A.ways)
 
 pub call_late_lem : (o : Options) (N : Network) (L L' : Lists) (W U W' : Work) (X Y X' : Crossings) (a : Result Plot Refusal)
     → None ≡ early o N (room_of L W X) → Drew o N (late (drawing o N) (room_of L W X)) L a L'
-    → W' ≡ cleared_work U → Alike U W → X' ≡ cleared_crossings Y → Level Y X
+    → W' ≡ zeroed_work U → Alike U W → X' ≡ zeroed_crossings Y → Level Y X
     → Answered o N L W X (call a L' W' X')
 unfolding layout_of call_early call_late
 call_late_lem o N L L' W U W' X Y X' a e D w A x B =
-    let v : W' ≡ cleared_work W = w ∙ cleared_alike U W A in
-    let y : X' ≡ cleared_crossings X = x ∙ cleared_level Y X B in
+    let v : W' ≡ zeroed_work W = w ∙ cleared_alike U W A in
+    let y : X' ≡ zeroed_crossings X = x ∙ cleared_level Y X B in
     let h : call a L' W' X' ≡ layout_of o N L W X = rw (sym e, D.answer_is, D.lists_are, v, y) in
     answered o N L W X (call a L' W' X') h
-
--- the least of six, by pairs
-pub six : (a b c d e f : ℕ) → min (min (min a b) c) (min (min d e) f) ≡ min a (min b (min c (min d (min e f))))
-six a b c d e f = simp assoc
-  where
-    assoc : (a b c : ℕ) → min (min a b) c ≡ min a (min b c)
-    assoc a b c = omega arith

@@ -1,34 +1,22 @@
 // The public call.
 ghost use Rattle.std.specs.Prelude.{◌≡◌};
 ghost use Rattle.drawing.specs.Network.{network_of};
-ghost use Rattle.drawing.specs.Answer.{call, crossing_room};
+ghost use Rattle.drawing.specs.Answer.{call};
 ghost use Rattle.drawing.specs.Number.{Answered};
 ghost use Rattle.lent.specs.Held.{held_lists, held_work, held_crossings};
 ghost use Rattle.lent.specs.Held.{SameLists, SameWork, SameCrossings};
 
-use chart::chart;
+use chart::lay_out_and_route;
 use drawing::answer::Plot;
-use drawing::room::Room;
-use finish::finish;
+use finish::write_drawing;
 use layout_limits::refuse::check_input;
-use lent::clear::{clear_crossings, clear_work};
+use lent::clear::{zero_crossings, zero_work};
+use lent::lengths::{crossing_room, room_of};
 use lent::{Crossings, Lists, Work};
 use network::lists::{Bounded, Network};
 use network::options::Options;
 use network::refusals::Refusal;
 use network::words::station_count;
-
-// How many crossings the crossing list holds: as many as each of its six lists.
-#[tactic(auto, using(crate::proofs::Calls::six), unfolding(drawing::specs::Answer::crossing_room))]
-fn crossing_room(room: Room) -> usize
-    ensures { result ≡ crossing_room room }
-{
-    let sorts = room.sorted.min(room.spare).min(room.keys);
-    (room.numbers / 3)
-        .min(room.crossings)
-        .min(room.ways / 2)
-        .min(sorts)
-}
 
 /// Draws the network into the lent lists: the call of layout.
 ///
@@ -49,37 +37,16 @@ pub fn tx_schematic_layout(
         (held_crossings crossings.old) (call result (held_lists lists.new) (held_work work.new)
         (held_crossings crossings.new)) }
 {
-    let room = Room {
-        positions: lists.positions.len(),
-        bars: lists.bars.len(),
-        boxes: lists.boxes.len(),
-        scales: lists.scales.len(),
-        roles: lists.roles.len(),
-        pieces: lists.pieces.len(),
-        branches: lists.branches.len(),
-        stations: work.stations.len(),
-        buses: work.buses.len(),
-        ends: work.ends.len(),
-        sorted: work.sorted.len(),
-        spare: work.spare.len(),
-        keys: work.keys.len(),
-        places: work.places.len(),
-        blocks: work.blocks.len(),
-        frames: work.frames.len(),
-        path: work.path.len(),
-        numbers: crossings.numbers.len(),
-        crossings: crossings.places.len(),
-        ways: crossings.ways.len(),
-    };
+    let room = room_of(lists, work, crossings);
     check_input(options, net, room)?;
     let net = Bounded { lists: *net };
     let stations = station_count(net.lists.sub);
     let fit = crossing_room(room);
-    let course = chart(work, crossings, options, &net, stations, fit);
-    let answer = finish(
-        lists, work, crossings, options, &net, stations, room, course,
+    let outcome = lay_out_and_route(work, crossings, options, &net, stations, fit);
+    let answer = write_drawing(
+        lists, work, crossings, options, &net, stations, room, outcome,
     );
-    clear_work(work);
-    clear_crossings(crossings);
+    zero_work(work);
+    zero_crossings(crossings);
     answer
 }

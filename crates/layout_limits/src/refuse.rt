@@ -5,7 +5,7 @@ ghost use Rattle.drawing.specs.Network.{network_of};
 ghost use Rattle.drawing.specs.Answer.{short_results, short_work, early};
 
 use boxes::box_cells::build::index_length;
-use drawing::room::Room;
+use drawing::lengths::ListLengths;
 use network::lists::Network;
 use network::options::Options;
 use network::refusals::{Refusal, check_shape, too_far};
@@ -13,7 +13,7 @@ use network::words::station_count;
 
 // Whether a result list of fixed length is too short.
 #[tactic(auto, unfolding(drawing::specs::Answer::short_results))]
-fn short_results(buses: usize, branches: usize, stations: usize, room: Room) -> bool
+fn short_results(buses: usize, branches: usize, stations: usize, room: ListLengths) -> bool
     requires few_buses { buses ≤ 4096 }
     requires few_stations { stations ≤ buses }
     ensures { result ≡ short_results buses branches stations room }
@@ -27,7 +27,7 @@ fn short_results(buses: usize, branches: usize, stations: usize, room: Room) -> 
 
 // Whether a work list is too short; `mesh` is the mesh length.
 #[tactic(auto, unfolding(drawing::specs::Answer::short_work))]
-fn short_work(buses: usize, branches: usize, mesh: usize, room: Room) -> bool
+fn short_work(buses: usize, branches: usize, mesh: usize, room: ListLengths) -> bool
     requires few_buses { buses ≤ 4096 }
     requires few_branches { branches ≤ 8192 }
     requires few_corners { mesh ≤ 24576 }
@@ -58,7 +58,7 @@ fn mesh_length(corners: &[u32]) -> usize
 /// The refusal of a layout's input that applies first: 1 to 4, 15, 5, 6 or 7, in this order
 /// (docs/RULES.md, 'Order of refusals'). `room` has the lengths of the lent lists.
 #[tactic(auto, using(crate::proofs::Inputs::laws), unfolding(drawing::specs::Answer::early))]
-pub fn check_input(options: Options, net: &Network<'_>, room: Room) -> Result<(), Refusal>
+pub fn check_input(options: Options, net: &Network<'_>, room: ListLengths) -> Result<(), Refusal>
     ensures { result_err result ≡ early options (network_of net.now) room }
 {
     check_shape(net.sub, net.kv, net.from, net.to)?;

@@ -3,6 +3,8 @@
 
 /// Work lists back to zeros.
 pub mod clear;
+/// The lengths of the lent lists.
+pub mod lengths;
 
 /// The result lists of a drawing, of n buses, m branches and k stations (docs/RULES.md, 'Lists').
 ///
@@ -31,8 +33,8 @@ pub struct Lists<'a> {
 /// Their content before a call doesn't matter; after one that passes its input they hold zeros.
 #[derive(Drop)]
 pub struct Work<'a> {
-    /// For each station its bus count, and beside it in turn a count of rows, a number of the order
-    /// of placement, and a number of an occupied station: 2n.
+    /// At 2s the bus count of station s; at 2s + 1 first its row count, then the station placed as
+    /// number s, in the end the station of vertex s: 2n.
     pub stations: &'a mut [u32],
     /// For each bus its column, its first row, and its last row + 1: 3n.
     pub buses: &'a mut [u32],
@@ -52,7 +54,8 @@ pub struct Work<'a> {
     pub blocks: &'a mut [f64],
     /// For each station its box, from when it is placed: 4n.
     pub frames: &'a mut [f64],
-    /// Points of the occupied stations and the range of each channel; a line's path: 2n + 3L + 16.
+    /// The seeds, then the places of the occupied stations, behind them low end, high end and least
+    /// step of each channel; in the end the points of one run: 2n + 3L + 16.
     pub path: &'a mut [f64],
 }
 
@@ -60,11 +63,11 @@ pub struct Work<'a> {
 /// each of the six lists has room for, or it is refusal 10. Any length (docs/WORK.md).
 #[derive(Drop)]
 pub struct Crossings<'a> {
-    /// For each crossing its channel and its branch, and at its place in the list the crossing
-    /// at that turn of the grouping by channel: three.
+    /// At 3x the channel of crossing x, at 3x + 1 its branch, at 3x + 2 the crossing with index x
+    /// among those grouped by channel: three.
     pub numbers: &'a mut [u32],
-    /// For each crossing its place on the channel: one number.
+    /// For each crossing its fraction on its channel: one number.
     pub places: &'a mut [f64],
-    /// For each crossing the place that it wishes for, then its point: two numbers.
+    /// The wishes of one channel's crossings; in the end for each crossing its point: two numbers.
     pub ways: &'a mut [f64],
 }

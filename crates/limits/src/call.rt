@@ -24,7 +24,7 @@ pub(crate) fn answer_of<'a>(
     let mut stations = [0; 8192];
     let mut buses = [0; 12288];
     let mut ends = [0; 4];
-    let mut sorted = [0; 20481];
+    let mut sorted = [0; 20480];
     let mut spare = [0; 4096];
     let mut keys = [0; 4096];
     let mut places = [0.0; 8192];

@@ -1,5 +1,5 @@
 //! The limits of a call, executed through the public one: how many buses, how wide a search, how
-//! large a number and which gaps pass (docs/RULES.md, 'Options' and 'Refusals').
+//! large a number and which block options pass (docs/RULES.md, 'Options' and 'Refusals').
 //!
 //! A line for each: what is tried, and the answer's number, 0 where it is drawn.
 #![tactic(auto)]
@@ -9,7 +9,7 @@ ghost use Rattle.std.specs.Prelude.{◌≤◌};
 mod call;
 
 use call::answer_of;
-use network::options::{Gaps, Options};
+use network::options::{BlockOptions, Options};
 use network::refusals::Refusal;
 use std::io;
 
@@ -37,12 +37,19 @@ fn of_two(options: Options, distance: f64) -> Result<(), Refusal> {
 // That of two stations on one seed, by their search, bar gap and buffer.
 fn of_settings(search: i32, bar_gap: f64, buffer: f64) -> Result<(), Refusal> {
     let d = Options::default();
-    let gaps = Gaps {
+    let block_options = BlockOptions {
         bar_gap,
         buffer,
-        ..d.gaps
+        ..d.block_options
     };
-    of_two(Options { search, gaps, ..d }, 0.0)
+    of_two(
+        Options {
+            search,
+            block_options,
+            ..d
+        },
+        0.0,
+    )
 }
 
 // That of two stations so far apart.

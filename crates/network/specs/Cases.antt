@@ -26,13 +26,13 @@ cases =
     ∷ record { corners = kite; twins = kite_twins; stations = 4 }
     -- both sides of one triangle, odd but accepted
     ∷ record { corners = 0 ∷ 1 ∷ 2 ∷ 1 ∷ 0 ∷ 2 ∷ []; twins = 3 ∷ 5 ∷ 4 ∷ 0 ∷ 2 ∷ 1 ∷ []; stations = 3 }
-    -- a corner past the stations
+    -- a vertex past the stations
     ∷ record { corners = kite; twins = kite_twins; stations = 3 }
     -- lists of two lengths
     ∷ record { corners = kite; twins = none ∷ none ∷ none ∷ []; stations = 4 }
     -- no multiple of 3
     ∷ record { corners = 0 ∷ 1 ∷ []; twins = none ∷ none ∷ []; stations = 4 }
-    -- two corners of a triangle are one
+    -- two vertices of a triangle are one
     ∷ record { corners = 0 ∷ 1 ∷ 0 ∷ []; twins = none ∷ none ∷ none ∷ []; stations = 4 }
     -- a twin that does not point back, one with other ends, one past the mesh
     ∷ record { corners = kite; twins = none ∷ 3 ∷ none ∷ none ∷ none ∷ none ∷ []; stations = 4 }

@@ -7,16 +7,16 @@ use Rattle.numbers.specs.Order.{all_to}
 unfoldable pub next : ℕ → ℕ
 next h = cond (eqb (h % 3) 2) (h - 2) (h + 1)
 
--- what stands at a place: a half-edge's first corner in `corners`, its twin in `twins`
+-- what stands at a place: a half-edge's first vertex in `corners`, its twin in `twins`
 abbrev pub at : List ℕ → ℕ → ℕ
 at l h = get_or l h 0
 
--- the corner that a half-edge runs to
+-- the vertex that a half-edge runs to
 unfoldable pub end_at : List ℕ → ℕ → ℕ
 unfolding next
 end_at corners h = at corners (next h)
 
--- its two corners without direction, the lower and the higher
+-- its two vertices without direction, the lower and the higher
 unfoldable pub low_at : List ℕ → ℕ → ℕ
 unfolding end_at
 low_at corners h = min (at corners h) (end_at corners h)
@@ -29,7 +29,7 @@ high_at corners h = max (at corners h) (end_at corners h)
 abbrev pub no_twin : ℕ
 no_twin = 4294967295
 
--- corners are below the occupied count n and distinct in each triangle: each is another than the next
+-- vertices are below the occupied count n and distinct in each triangle: each is another than the next
 unfoldable pub corner_ok : List ℕ → ℕ → ℕ → Bool
 unfolding end_at
 corner_ok corners n h = ltb (at corners h) n && not (eqb (at corners h) (end_at corners h))
@@ -49,19 +49,19 @@ unfoldable pub twin_ok : List ℕ → List ℕ → ℕ → Bool
 unfolding pairs
 twin_ok corners twins h = eqb (at twins h) no_twin || pairs corners twins h (at twins h)
 
--- a half-edge's corner and twin are in order
-abbrev pub edge_ok : List ℕ → List ℕ → ℕ → ℕ → Bool
-edge_ok corners twins n h = corner_ok corners n h && twin_ok corners twins h
+-- a half-edge's vertex and twin are in order
+abbrev pub half_edge_ok : List ℕ → List ℕ → ℕ → ℕ → Bool
+half_edge_ok corners twins n h = corner_ok corners n h && twin_ok corners twins h
 
--- every corner and every twin is in order
-unfoldable pub edges_ok : List ℕ → List ℕ → ℕ → Bool
+-- every vertex and every twin is in order
+unfoldable pub half_edges_ok : List ℕ → List ℕ → ℕ → Bool
 unfolding all_to corner_ok twin_ok
-edges_ok corners twins n = all_to (edge_ok corners twins n) (length corners)
+half_edges_ok corners twins n = all_to (half_edge_ok corners twins n) (length corners)
 
--- a mesh over n occupied stations is two lists of one length, a multiple of 3 and at most 24,576, of such corners and
+-- a mesh over n occupied stations is two lists of one length, a multiple of 3 and at most 24,576, of such vertices and
 -- twins
 unfoldable pub mesh_ok : List ℕ → List ℕ → ℕ → Bool
-unfolding edges_ok
+unfolding half_edges_ok
 mesh_ok corners twins n =
     eqb (length twins) (length corners)
-    && (eqb (length corners % 3) 0 && (leb (length corners) 24576 && edges_ok corners twins n))
+    && (eqb (length corners % 3) 0 && (leb (length corners) 24576 && half_edges_ok corners twins n))

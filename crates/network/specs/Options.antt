@@ -3,12 +3,12 @@ use Rattle.std.specs.Prelude.{ℕ, Bool, false, ◌&&◌, leb, ℤ, pos, negsuc,
 use Rattle.std.specs.Float.{binary64}
 use Rattle.std.specs.Float.Ieee.{lt, le, of_bits}
 use Rattle.numbers.specs.Ops.{f0, f1, f2, f3}
-use Rattle.network.specs.declared.options.Gaps.{Gaps}
+use Rattle.network.specs.declared.options.BlockOptions.{BlockOptions}
 use Rattle.network.specs.declared.options.Options.{Options}
 
 -- The default bar gap, padding, shortest bar and buffer, in blocks: 2, 1, 2 and 1.
-abbrev pub default_gaps : Gaps
-default_gaps = record { bar_gap = f2; pad = f1; min_bar = f2; buffer = f1 }
+abbrev pub default_block_options : BlockOptions
+default_block_options = record { bar_gap = f2; pad = f1; min_bar = f2; buffer = f1 }
 
 -- The default options: fill 0.45, tier radius 3, tier counts 12 and 30, tier scales 2/3 and 4/9, search 10,
 -- 10 iterations.
@@ -22,7 +22,7 @@ defaults = record {
   tier_scale_2 = of_bits binary64 0x3FDC_71C7_1C71_C71C;
   search = pos 10;
   route_iterations = 10;
-  gaps = default_gaps;
+  block_options = default_block_options;
 }
 
 -- x is from lo to hi
@@ -35,21 +35,22 @@ search_fits (pos s) = leb s 20
 search_fits (negsuc s) = false
 
 -- Bar gap, padding, shortest bar and buffer are each from 0.5 to 8.
-unfoldable pub gap_fits : Float → Bool
-gap_fits x = between (of_bits binary64 0x3FE0_0000_0000_0000) x (of_bits binary64 0x4020_0000_0000_0000)
+unfoldable pub block_option_fits : Float → Bool
+block_option_fits x = between (of_bits binary64 0x3FE0_0000_0000_0000) x (of_bits binary64 0x4020_0000_0000_0000)
 
-unfoldable pub gaps_fit : Gaps → Bool
-gaps_fit G = gap_fits G.bar_gap && (gap_fits G.pad && (gap_fits G.min_bar && gap_fits G.buffer))
+unfoldable pub block_options_fit : BlockOptions → Bool
+block_options_fit G =
+    block_option_fits G.bar_gap && (block_option_fits G.pad && (block_option_fits G.min_bar && block_option_fits G.buffer))
 
--- Fill above 0 and at most 16; tier radius 0 to 1,000; tier counts any; tier scales 1/64 to 1; search 0 to 20; the gaps
--- as above; route iterations 0 to 100.
+-- Fill above 0 and at most 16; tier radius 0 to 1,000; tier counts any; tier scales 1/64 to 1; search 0 to 20; the
+-- block options as above; route iterations 0 to 100.
 unfoldable pub in_range : Options → Bool
 in_range O =
     lt f0 O.fill && (le O.fill (of_bits binary64 0x4030_0000_0000_0000)
     && (between f0 O.tier_radius (of_bits binary64 0x408F_4000_0000_0000)
     && (between (of_bits binary64 0x3F90_0000_0000_0000) O.tier_scale_1 f1
     && (between (of_bits binary64 0x3F90_0000_0000_0000) O.tier_scale_2 f1
-    && (search_fits O.search && (gaps_fit O.gaps && leb O.route_iterations 100))))))
+    && (search_fits O.search && (block_options_fit O.block_options && leb O.route_iterations 100))))))
 
 -- the search as a number of offsets, 0 where it is below 0
 unfoldable pub search_of : ℤ → ℕ

@@ -11,7 +11,7 @@ use Rattle.network.specs.Words.{station_count}
 use Rattle.network.specs.declared.refusals.Refusal.{Refusal}
 use Rattle.network.specs.declared.refusals.Refusal.TheVariants.{TooMany, KvLength, ToLength, StationNumber}
 use Rattle.network.specs.declared.refusals.Refusal.TheVariants.{OptionRange, TooFar, ListTooShort, IllSized, Mesh}
-use Rattle.network.specs.declared.refusals.Refusal.TheVariants.{Crossings, Pieces, NoFit, Malformed, Voltage}
+use Rattle.network.specs.declared.refusals.Refusal.TheVariants.{Crossings, Pieces, NoFit, Malformed, Voltage, NoFill}
 
 -- the number of a refusal; 12 is no refusal's
 abbrev pub number : Refusal → ℕ
@@ -29,6 +29,7 @@ number Pieces = 11
 number NoFit = 13
 number Malformed = 14
 number Voltage = 15
+number NoFill = 18
 
 -- Refusal 1: more than 4,096 buses or 8,192 branches
 abbrev pub too_many : List ℕ → List ℤ → Bool

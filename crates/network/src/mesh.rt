@@ -2,7 +2,7 @@
 //! (docs/RULES.md, 'Mesh').
 ghost use Rattle.std.specs.Prelude.{◌≡◌, ◌+◌, ◌≤◌, ◌<◌, length};
 ghost use Rattle.network.specs.Mesh.{next, end_at, corner_ok, reversed, pairs, twin_ok};
-ghost use Rattle.network.specs.Mesh.{edge_ok, edges_ok, mesh_ok};
+ghost use Rattle.network.specs.Mesh.{half_edge_ok, half_edges_ok, mesh_ok};
 
 use numbers::order::at;
 
@@ -10,7 +10,7 @@ use numbers::order::at;
 /// triangle.
 #[derive(Clone, Copy)]
 pub struct Mesh<'a> {
-    /// The corner at which a half-edge starts: the number of an occupied station among them.
+    /// The vertex at which a half-edge starts: the number of an occupied station among them.
     pub corners: &'a [u32],
     /// The half-edge that runs the other way, `u32::MAX` where there is none.
     pub twins: &'a [u32],
@@ -30,7 +30,7 @@ pub fn next(half_edge: usize) -> usize
     }
 }
 
-/// The corner to which a half-edge runs.
+/// The vertex to which a half-edge runs.
 #[tactic(auto, unfolding(crate::specs::Mesh::end_at))]
 pub fn end_at(corners: &[u32], half_edge: usize) -> u32
     requires { half_edge < 0x1_0000_0002 }
@@ -39,15 +39,15 @@ pub fn end_at(corners: &[u32], half_edge: usize) -> u32
     at(corners, next(half_edge))
 }
 
-// Whether a half-edge starts at a corner below the number of occupied stations, and ends at
+// Whether a half-edge starts at a vertex below the number of occupied stations, and ends at
 // another one.
 #[tactic(auto, unfolding(crate::specs::Mesh::corner_ok))]
 fn corner_ok(corners: &[u32], occupied: usize, half_edge: u32) -> bool
     ensures { result ≡ corner_ok corners.now occupied half_edge }
 {
-    let corner = at(corners, half_edge as usize);
-    if (corner as usize) < occupied {
-        return corner != end_at(corners, half_edge as usize);
+    let vertex = at(corners, half_edge as usize);
+    if (vertex as usize) < occupied {
+        return vertex != end_at(corners, half_edge as usize);
     }
     false
 }
@@ -89,19 +89,19 @@ fn twin_ok(mesh: &Mesh<'_>, half_edge: u32) -> bool
     pairs(mesh, half_edge, twin)
 }
 
-// Whether a half-edge's corner and twin are in order.
-fn edge_ok(mesh: &Mesh<'_>, occupied: usize, half_edge: u32) -> bool
-    ensures { result ≡ edge_ok mesh.now.corners.now mesh.now.twins.now occupied half_edge }
+// Whether a half-edge's vertex and twin are in order.
+fn half_edge_ok(mesh: &Mesh<'_>, occupied: usize, half_edge: u32) -> bool
+    ensures { result ≡ half_edge_ok mesh.now.corners.now mesh.now.twins.now occupied half_edge }
 {
     corner_ok(mesh.corners, occupied, half_edge) && twin_ok(mesh, half_edge)
 }
 
-// Whether every half-edge's corner and twin are in order.
-fn edges_ok(mesh: &Mesh<'_>, occupied: usize) -> bool
+// Whether every half-edge's vertex and twin are in order.
+fn half_edges_ok(mesh: &Mesh<'_>, occupied: usize) -> bool
     requires { length mesh.now.corners.now ≤ 24576 }
-    ensures { result ≡ edges_ok mesh.now.corners.now mesh.now.twins.now occupied }
+    ensures { result ≡ half_edges_ok mesh.now.corners.now mesh.now.twins.now occupied }
 {
-    (0..mesh.corners.len() as u32).all(|half_edge| edge_ok(mesh, occupied, half_edge))
+    (0..mesh.corners.len() as u32).all(|half_edge| half_edge_ok(mesh, occupied, half_edge))
 }
 
 /// Whether the two lists are a mesh over so many occupied stations: else refusal 9 stands.
@@ -118,5 +118,5 @@ pub fn mesh_ok(mesh: &Mesh<'_>, occupied: usize) -> bool
     if mesh.corners.len() > 24576 {
         return false;
     }
-    edges_ok(mesh, occupied)
+    half_edges_ok(mesh, occupied)
 }

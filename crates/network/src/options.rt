@@ -1,12 +1,14 @@
 //! The options of a drawing (docs/RULES.md, 'Options').
 ghost use Rattle.std.specs.Prelude.{◌≡◌};
-ghost use Rattle.network.specs.Options.{defaults, between, search_fits, gap_fits, gaps_fit};
+ghost use Rattle.network.specs.Options.{defaults, between, search_fits, block_option_fits};
+ghost use Rattle.network.specs.Options.{block_options_fit};
 ghost use Rattle.network.specs.Options.{in_range, search_of};
-ghost use Rattle.network.specs.declared.options.TheConstants.Gaps.{BAR_GAP, PAD, MIN_BAR, BUFFER};
+ghost use Rattle.network.specs.declared.options.TheConstants.BlockOptions.{BAR_GAP, PAD, MIN_BAR};
+ghost use Rattle.network.specs.declared.options.TheConstants.BlockOptions.{BUFFER};
 
 /// The interior grid, in blocks, and what is kept free around each box.
 #[derive(Clone, Copy)]
-pub struct Gaps {
+pub struct BlockOptions {
     /// From one bar to the next.
     pub bar_gap: f64,
     /// Inside each side of a box.
@@ -17,8 +19,8 @@ pub struct Gaps {
     pub buffer: f64,
 }
 
-/// The options of a drawing whose buses have points: those of the original's `TxLayoutOptions` that
-/// such a drawing reads.
+/// The options of a drawing: those of the original's `TxLayoutOptions` that it reads, and the four
+/// block options, which are constants in the original.
 #[derive(Clone, Copy)]
 pub struct Options {
     /// The typical box's larger side, as a share of the median distance between neighbouring
@@ -39,13 +41,14 @@ pub struct Options {
     /// Rounds of channel spacing; 0 draws lines straight.
     pub route_iterations: u32,
     /// Bar gap, padding, shortest bar and buffer.
-    pub gaps: Gaps,
+    pub block_options: BlockOptions,
 }
 
 /// The default options.
 impl Default for Options {
     ghost is_default = { λ o. (o ≡ defaults)
-        × (o.gaps ≡ record { bar_gap = BAR_GAP; pad = PAD; min_bar = MIN_BAR; buffer = BUFFER }) };
+        × (o.block_options
+        ≡ record { bar_gap = BAR_GAP; pad = PAD; min_bar = MIN_BAR; buffer = BUFFER }) };
 
     fn default() -> Options {
         Options {
@@ -57,17 +60,17 @@ impl Default for Options {
             tier_scale_2: 4.0 / 9.0,
             search: 10,
             route_iterations: 10,
-            gaps: Gaps {
-                bar_gap: Gaps::BAR_GAP,
-                pad: Gaps::PAD,
-                min_bar: Gaps::MIN_BAR,
-                buffer: Gaps::BUFFER,
+            block_options: BlockOptions {
+                bar_gap: BlockOptions::BAR_GAP,
+                pad: BlockOptions::PAD,
+                min_bar: BlockOptions::MIN_BAR,
+                buffer: BlockOptions::BUFFER,
             },
         }
     }
 }
 
-impl Gaps {
+impl BlockOptions {
     /// The default bar gap.
     pub const BAR_GAP: f64 = 2.0;
 
@@ -100,11 +103,11 @@ impl Options {
     /// The most route iterations; the least is 0.
     pub const ITERATIONS_MOST: u32 = 100;
 
-    /// The least of each of the four gaps, in blocks.
-    pub const GAP_LEAST: f64 = 0.5;
+    /// The least of each of the four block options, in blocks.
+    pub const BLOCK_OPTION_LEAST: f64 = 0.5;
 
-    /// The greatest of each of the four gaps, in blocks.
-    pub const GAP_MOST: f64 = 8.0;
+    /// The greatest of each of the four block options, in blocks.
+    pub const BLOCK_OPTION_MOST: f64 = 8.0;
 
     /// Whether every option is in its range: else refusal 5 stands.
     #[tactic(auto, unfolding(crate::specs::Options::in_range))]
@@ -117,7 +120,7 @@ impl Options {
             && between(Options::SCALE_LEAST, self.tier_scale_1, Options::SCALE_MOST)
             && between(Options::SCALE_LEAST, self.tier_scale_2, Options::SCALE_MOST)
             && search_fits(self.search)
-            && gaps_fit(self.gaps)
+            && block_options_fit(self.block_options)
             && self.route_iterations <= Options::ITERATIONS_MOST
     }
 }
@@ -138,20 +141,27 @@ fn search_fits(search: i32) -> bool
     0 <= search && search <= Options::SEARCH_MOST
 }
 
-// Whether a gap is in its range.
-#[tactic(auto, unfolding(crate::specs::Options::gap_fits))]
-fn gap_fits(gap: f64) -> bool
-    ensures { result ≡ gap_fits gap }
+// Whether a block option is in its range.
+#[tactic(auto, unfolding(crate::specs::Options::block_option_fits))]
+fn block_option_fits(option: f64) -> bool
+    ensures { result ≡ block_option_fits option }
 {
-    between(Options::GAP_LEAST, gap, Options::GAP_MOST)
+    between(
+        Options::BLOCK_OPTION_LEAST,
+        option,
+        Options::BLOCK_OPTION_MOST,
+    )
 }
 
-// Whether each of the four gaps is in its range.
-#[tactic(auto, unfolding(crate::specs::Options::gaps_fit))]
-fn gaps_fit(gaps: Gaps) -> bool
-    ensures { result ≡ gaps_fit gaps }
+// Whether each of the four block options is in its range.
+#[tactic(auto, unfolding(crate::specs::Options::block_options_fit))]
+fn block_options_fit(block_options: BlockOptions) -> bool
+    ensures { result ≡ block_options_fit block_options }
 {
-    gap_fits(gaps.bar_gap) && gap_fits(gaps.pad) && gap_fits(gaps.min_bar) && gap_fits(gaps.buffer)
+    block_option_fits(block_options.bar_gap)
+        && block_option_fits(block_options.pad)
+        && block_option_fits(block_options.min_bar)
+        && block_option_fits(block_options.buffer)
 }
 
 /// A search as a number of offsets, 0 where it is below 0.

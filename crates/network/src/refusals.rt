@@ -33,7 +33,7 @@ pub enum Refusal {
     IllSized = 8,
     /// The mesh is ill-formed.
     Mesh = 9,
-    /// Crossings, those of cleared paths included, outnumber the lent crossing list.
+    /// Crossings, those of cleared walks included, outnumber the lent crossing list.
     Crossings = 10,
     /// Pieces outnumber the lent piece lists.
     Pieces = 11,
@@ -43,6 +43,8 @@ pub enum Refusal {
     Malformed = 14,
     /// A `kv` isn't finite and above zero.
     Voltage = 15,
+    /// No fill of 1/64 to 64/64 is accepted and leaves each station a free place.
+    NoFill = 18,
 }
 
 impl Refusal {

@@ -14,12 +14,12 @@ pub record Value (v q k : ℕ) : Type 0 where
   pub range : k ≤ 2045
 
 -- the distance of two whole numbers
-abbrev pub gap : ℕ → ℕ → ℕ
-gap a b = a - b + (b - a)
+abbrev pub distance_between : ℕ → ℕ → ℕ
+distance_between a b = a - b + (b - a)
 
 -- the distance of v grains from num / den, times den * 2 ^ 1074
 abbrev pub far : ℕ → ℕ → ℕ → ℕ
-far num den v = gap (num * 2 ^ 1074) (v * den)
+far num den v = distance_between (num * 2 ^ 1074) (v * den)
 
 -- x is finite, with the sign s and a size of v / 2 ^ 1074, a value of the format. None lies nearer to num / den, and
 -- where another lies as near, x is the one with an even least significant digit. A value of the other sign lies no

@@ -1,5 +1,7 @@
 //! Laws of the arithmetic of a drawing. A function here does nothing: its contract is the law.
-ghost use Rattle.numbers.specs.Laws.{Rounds, RoundsToOne, AddsOnce, SubtractsOnce, MultipliesOnce, DividesOnce, ConvertsOnce, RootsToOne, FloorIsGreatest, FloorOfInfinity, FloorOfNan, KeysAreTotalOrder};
+ghost use Rattle.numbers.specs.Laws.{Rounds, RoundsToOne, AddsOnce, SubtractsOnce, MultipliesOnce};
+ghost use Rattle.numbers.specs.Laws.{DividesOnce, ConvertsOnce, RootsToOne, FloorIsGreatest};
+ghost use Rattle.numbers.specs.Laws.{FloorOfInfinity, FloorOfNan, KeysAreTotalOrder};
 
 /// A fraction has one nearest binary64 number, ties to even, and rounding gives it
 /// (docs/RULES.md, 'Rounding').

@@ -13,7 +13,8 @@ use std::io;
 use streams::sink::{Sink, Writer};
 use table::print_table;
 
-/// Writes the text of the table. No memory is asked for.
+/// Writes the text of the table. No memory is asked for. Of what `out` holds afterwards nothing is
+/// said: it is room for the text, and its lender doesn't read it.
 #[tactic(auto, using(text::proofs::listing::Writing::front_laws))]
 pub fn run<W: Sink>(output: &mut W, out: &mut [u8; 40348]) -> io::Result<()>
     ensures written { OnOk result

@@ -213,8 +213,8 @@ module _ (search : ℕ) (S : search ≤ 20) where
     abbrev place : ℕ
     place = q * side + r
 
-    place_in : place < c
-    place_in = let m : (q + 1) * side ≤ side * side = mul-le-mul_right side (omega arith) in omega arith
+    rank_in : place < c
+    rank_in = let m : (q + 1) * side ≤ side * side = mul-le-mul_right side (omega arith) in omega arith
 
     split : side * (place / side) + place % side ≡ side * q + r
     split = omega (arith, div-add-mod' place side)
@@ -232,7 +232,7 @@ module _ (search : ℕ) (S : search ≤ 20) where
       let hu = up_in o.a w.0 in
       let hv = up_in o.b w.1 in
       let i = (u - first) * side + (v - first) in
-      let f = rank_found (grid_number search) c i (place_in (u - first) (v - first) hu.1 hv.1) in
+      let f = rank_found (grid_number search) c i (rank_in (u - first) (v - first) hu.1 hv.1) in
       let j = rank (grid_number search) c i in
       let a : row i ≡ u = back u (i / side) hu.0 (quotient (u - first) (v - first) hu.1 hv.1) in
       let b : col i ≡ v = back v (i % side) hv.0 (remainder (u - first) (v - first) hu.1 hv.1) in (
@@ -287,7 +287,7 @@ module _ (search : ℕ) (S : search ≤ 20) where
       let r : i % side ≡ v - first = remainder (u - first) (v - first) hu.1 hv.1 in
       let x : row i ≡ u = omega (arith, hu.0) in
       let y : col i ≡ v = omega (arith, hv.0) in
-      (i, place_in (u - first) (v - first) hu.1 hv.1, number i ∙ ap (λ (n : ℕ). offset_number n (col i)) x ∙ ap (offset_number u) y)
+      (i, rank_in (u - first) (v - first) hu.1 hv.1, number i ∙ ap (λ (n : ℕ). offset_number n (col i)) x ∙ ap (offset_number u) y)
 
   -- a number of the grid is that of a pair within the search
   pub number_in : (i : ℕ) → i < suc (2 * search) * suc (2 * search)

@@ -12,22 +12,22 @@ use Rattle.numbers.specs.Small.{is_finite}
 use Rattle.numbers.specs.Ops.{◌⊕◌, ◌⊖◌, ◌⊗◌}
 use Rattle.plane.specs.declared.geometry.Point.{Point}
 use Rattle.plane.specs.declared.geometry.Box.{Box}
-use Rattle.plane.specs.Plane.{edge, shrunk}
+use Rattle.plane.specs.Plane.{shrinking, shrunk}
 use Rattle.plane.specs.Overlap.{meet, overlap}
-use Rattle.placement.specs.Search.{Frame, box_on, buffered}
+use Rattle.placement.specs.Search.{HalfSides, box_on, buffered}
 use Rattle.placement.proofs.Rank.{rank, Number, Plus, lt_rank, add_up, sub_down, add_number, sub_number, finite_number}
 
 -- a finite float of the format
 abbrev pub Good : Float → Type 0
 Good x = T (fits binary64 x) × T (is_finite x)
 
-edge_plus : Plus edge
+shrinking_plus : Plus shrinking
 unfolding of_bits of_fields odd count_trailing_zeros
-edge_plus = tt
+shrinking_plus = tt
 
-edge_finite : T (is_finite edge)
+shrinking_finite : T (is_finite shrinking)
 unfolding of_bits of_fields odd count_trailing_zeros is_finite
-edge_finite = tt
+shrinking_finite = tt
 
 plus_finite : (x : Float) → Plus x → T (is_finite x)
 unfolding is_finite
@@ -43,33 +43,33 @@ step x x' y y' f f' g g' p p' q q' h k t =
 
 -- a side b of the one box, a side q of the other; the one is moved out by g, one of them in by 1e-9
 module _ (b q g : Float) (B : Good b) (Q : Good q) (G : Plus g) where
-  low : T (lt (b ⊕ edge) q) → T (lt (b ⊖ g) q)
+  low : T (lt (b ⊕ shrinking) q) → T (lt (b ⊖ g) q)
   low =
       let u : rank (b ⊖ g) ≤ rank b = sub_down b g B.0 B.1 G in
-      let v : rank b ≤ rank (b ⊕ edge) = add_up b edge B.0 B.1 edge_plus in
-      step (b ⊖ g) (b ⊕ edge) q q (sub-fits binary64 b g) (add-fits binary64 b edge) Q.0 Q.0
-      (sub_number b g B.1 (plus_finite g G)) (add_number b edge B.1 edge_finite) (finite_number q Q.1) (finite_number q Q.1) (omega arith) (omega arith)
+      let v : rank b ≤ rank (b ⊕ shrinking) = add_up b shrinking B.0 B.1 shrinking_plus in
+      step (b ⊖ g) (b ⊕ shrinking) q q (sub-fits binary64 b g) (add-fits binary64 b shrinking) Q.0 Q.0
+      (sub_number b g B.1 (plus_finite g G)) (add_number b shrinking B.1 shrinking_finite) (finite_number q Q.1) (finite_number q Q.1) (omega arith) (omega arith)
 
-  high : T (lt q (b ⊖ edge)) → T (lt q (b ⊕ g))
+  high : T (lt q (b ⊖ shrinking)) → T (lt q (b ⊕ g))
   high =
       let u : rank b ≤ rank (b ⊕ g) = add_up b g B.0 B.1 G in
-      let v : rank (b ⊖ edge) ≤ rank b = sub_down b edge B.0 B.1 edge_plus in
-      step q q (b ⊕ g) (b ⊖ edge) Q.0 Q.0 (add-fits binary64 b g) (sub-fits binary64 b edge)
-      (finite_number q Q.1) (finite_number q Q.1) (add_number b g B.1 (plus_finite g G)) (sub_number b edge B.1 edge_finite) (omega arith) (omega arith)
+      let v : rank (b ⊖ shrinking) ≤ rank b = sub_down b shrinking B.0 B.1 shrinking_plus in
+      step q q (b ⊕ g) (b ⊖ shrinking) Q.0 Q.0 (add-fits binary64 b g) (sub-fits binary64 b shrinking)
+      (finite_number q Q.1) (finite_number q Q.1) (add_number b g B.1 (plus_finite g G)) (sub_number b shrinking B.1 shrinking_finite) (omega arith) (omega arith)
 
-  low_other : T (lt b (q ⊖ edge)) → T (lt (b ⊖ g) q)
+  low_other : T (lt b (q ⊖ shrinking)) → T (lt (b ⊖ g) q)
   low_other =
       let u : rank (b ⊖ g) ≤ rank b = sub_down b g B.0 B.1 G in
-      let v : rank (q ⊖ edge) ≤ rank q = sub_down q edge Q.0 Q.1 edge_plus in
-      step (b ⊖ g) b q (q ⊖ edge) (sub-fits binary64 b g) B.0 Q.0 (sub-fits binary64 q edge)
-      (sub_number b g B.1 (plus_finite g G)) (finite_number b B.1) (finite_number q Q.1) (sub_number q edge Q.1 edge_finite) u v
+      let v : rank (q ⊖ shrinking) ≤ rank q = sub_down q shrinking Q.0 Q.1 shrinking_plus in
+      step (b ⊖ g) b q (q ⊖ shrinking) (sub-fits binary64 b g) B.0 Q.0 (sub-fits binary64 q shrinking)
+      (sub_number b g B.1 (plus_finite g G)) (finite_number b B.1) (finite_number q Q.1) (sub_number q shrinking Q.1 shrinking_finite) u v
 
-  high_other : T (lt (q ⊕ edge) b) → T (lt q (b ⊕ g))
+  high_other : T (lt (q ⊕ shrinking) b) → T (lt q (b ⊕ g))
   high_other =
       let u : rank b ≤ rank (b ⊕ g) = add_up b g B.0 B.1 G in
-      let v : rank q ≤ rank (q ⊕ edge) = add_up q edge Q.0 Q.1 edge_plus in
-      step q (q ⊕ edge) (b ⊕ g) b Q.0 (add-fits binary64 q edge) (add-fits binary64 b g) B.0
-      (finite_number q Q.1) (add_number q edge Q.1 edge_finite) (add_number b g B.1 (plus_finite g G)) (finite_number b B.1) v u
+      let v : rank q ≤ rank (q ⊕ shrinking) = add_up q shrinking Q.0 Q.1 shrinking_plus in
+      step q (q ⊕ shrinking) (b ⊕ g) b Q.0 (add-fits binary64 q shrinking) (add-fits binary64 b g) B.0
+      (finite_number q Q.1) (add_number q shrinking Q.1 shrinking_finite) (add_number b g B.1 (plus_finite g G)) (finite_number b B.1) v u
 
 -- a number that isn't negative, infinity among them
 abbrev pub Outward : Float → Type 0
@@ -116,16 +116,16 @@ module _ (b q g : Float) (B : Good b) (Q : Good q) (G : Outward g) where
       go (inl p) = f p a
       go (inr e) = subst (λ (x : Float). T (lt q (b ⊕ x))) (sym e) (far_high b q B Q)
 
-  low_out : T (lt (b ⊕ edge) q) → T (lt (b ⊖ g) q)
+  low_out : T (lt (b ⊕ shrinking) q) → T (lt (b ⊖ g) q)
   low_out = out_low (λ p. low b q g B Q p)
 
-  high_out : T (lt q (b ⊖ edge)) → T (lt q (b ⊕ g))
+  high_out : T (lt q (b ⊖ shrinking)) → T (lt q (b ⊕ g))
   high_out = out_high (λ p. high b q g B Q p)
 
-  low_other_out : T (lt b (q ⊖ edge)) → T (lt (b ⊖ g) q)
+  low_other_out : T (lt b (q ⊖ shrinking)) → T (lt (b ⊖ g) q)
   low_other_out = out_low (λ p. low_other b q g B Q p)
 
-  high_other_out : T (lt (q ⊕ edge) b) → T (lt q (b ⊕ g))
+  high_other_out : T (lt (q ⊕ shrinking) b) → T (lt q (b ⊕ g))
   high_other_out = out_high (λ p. high_other b q g B Q p)
 
 -- four finite sides
@@ -147,7 +147,7 @@ turned a b c d a' b' c' d' f g h k t =
     let y = and_r (a && b) (c && d) t in
     and_i (a' && b') (c' && d') (and_i a' b' (f (and_r a b x)) (g (and_l a b x))) (and_i c' d' (h (and_r c d y)) (k (and_l c d y)))
 
-module _ (c : Point) (r : Frame) (G : Outward (r.f ⊗ r.buffer)) (W : Whole (box_on c r.half)) (q : Box) (Q : Whole q) where
+module _ (c : Point) (r : HalfSides) (G : Outward (r.f ⊗ r.buffer)) (W : Whole (box_on c r.half)) (q : Box) (Q : Whole q) where
   abbrev b : Box
   b = box_on c r.half
 
@@ -158,7 +158,7 @@ module _ (c : Point) (r : Frame) (G : Outward (r.f ⊗ r.buffer)) (W : Whole (bo
   pub over_own : T (overlap (shrunk (box_on c r.half)) q) → T (overlap (buffered c r) q)
   unfolding overlap meet buffered box_on
   over_own =
-      four (lt (b.left ⊕ edge) q.right) (lt q.left (b.right ⊖ edge)) (lt (b.top ⊕ edge) q.bottom) (lt q.top (b.bottom ⊖ edge))
+      four (lt (b.left ⊕ shrinking) q.right) (lt q.left (b.right ⊖ shrinking)) (lt (b.top ⊕ shrinking) q.bottom) (lt q.top (b.bottom ⊖ shrinking))
       (lt (b.left ⊖ g) q.right) (lt q.left (b.right ⊕ g)) (lt (b.top ⊖ g) q.bottom) (lt q.top (b.bottom ⊕ g))
       (low_out b.left q.right g W.left Q.right G) (high_out b.right q.left g W.right Q.left G)
       (low_out b.top q.bottom g W.top Q.bottom G) (high_out b.bottom q.top g W.bottom Q.top G)
@@ -167,7 +167,7 @@ module _ (c : Point) (r : Frame) (G : Outward (r.f ⊗ r.buffer)) (W : Whole (bo
   pub over_other : T (overlap (shrunk q) (box_on c r.half)) → T (overlap (buffered c r) q)
   unfolding overlap meet buffered box_on
   over_other =
-      turned (lt (q.left ⊕ edge) b.right) (lt b.left (q.right ⊖ edge)) (lt (q.top ⊕ edge) b.bottom) (lt b.top (q.bottom ⊖ edge))
+      turned (lt (q.left ⊕ shrinking) b.right) (lt b.left (q.right ⊖ shrinking)) (lt (q.top ⊕ shrinking) b.bottom) (lt b.top (q.bottom ⊖ shrinking))
       (lt (b.left ⊖ g) q.right) (lt q.left (b.right ⊕ g)) (lt (b.top ⊖ g) q.bottom) (lt q.top (b.bottom ⊕ g))
       (low_other_out b.left q.right g W.left Q.right G) (high_other_out b.right q.left g W.right Q.left G)
       (low_other_out b.top q.bottom g W.top Q.bottom G) (high_other_out b.bottom q.top g W.bottom Q.top G)

@@ -27,7 +27,7 @@ use Rattle.stations.specs.Column.{falling}
 use Rattle.stations.specs.Size.{Size}
 use Rattle.offsets.specs.declared.offset.Offset.{Offset}
 use Rattle.placement.specs.Place.{box_of, places, found_free, boxes}
-use Rattle.placement.specs.Search.{Frame, frame_at, box_on, buffered}
+use Rattle.placement.specs.Search.{HalfSides, half_sides_at, box_on, buffered}
 use Rattle.placement.specs.Turns.{top_to, placement_order}
 use Rattle.placement.specs.Stages.Listed.{Turns}
 use Rattle.placement.proofs.turns.Queue.{order_turns}
@@ -83,7 +83,7 @@ refuted : (a b : Bool) → (T a → T b) → b ≡ false → a ≡ false
 refuted a b f e = none a (λ (t : T a). subst T e (f t))
 
 -- ---- the law
-module _ (sub kv counts : List ℕ) (fs : List Frame) (os : List Offset) (seeds : List Point) (L : length counts ≡ length seeds) where
+module _ (sub kv counts : List ℕ) (fs : List HalfSides) (os : List Offset) (seeds : List Point) (L : length counts ≡ length seeds) where
   abbrev order : List ℕ
   order = placement_order sub kv counts
 
@@ -102,17 +102,17 @@ module _ (sub kv counts : List ℕ) (fs : List Frame) (os : List Offset) (seeds 
 
   -- Every station found a free place, buffers are not negative and boxes finite: no two boxes overlap, one of them shrunk.
   module _ (found : (i : ℕ) → i < length (placement_order sub kv counts) → found_free fs os seeds (placement_order sub kv counts) i ≡ true)
-      (plus : (s : ℕ) → is_occupied counts s ≡ true → Outward ((frame_at fs s).f ⊗ (frame_at fs s).buffer))
+      (plus : (s : ℕ) → is_occupied counts s ≡ true → Outward ((half_sides_at fs s).f ⊗ (half_sides_at fs s).buffer))
       (finite : (s : ℕ) → is_occupied counts s ≡ true → Finite (box_of fs (places fs os seeds (placement_order sub kv counts)) s)) where
     full : (s : ℕ) → is_occupied counts s ≡ true → Whole (box_of fs end s)
     unfolding box_of
-    full s o = whole (place_at end s) (frame_at fs s).half (finite s o)
+    full s o = whole (place_at end s) (half_sides_at fs s).half (finite s o)
 
     later : (s t : ℕ) → is_occupied counts s ≡ true → is_occupied counts t ≡ true → (i j : ℕ) → i < j → j < length order → get_or order i 0 ≡ s → get_or order j 0 ≡ t
-        → overlap (buffered (place_at end t) (frame_at fs t)) (box_of fs end s) ≡ false
+        → overlap (buffered (place_at end t) (half_sides_at fs t)) (box_of fs end s) ≡ false
     later s t o p i j h k e f =
-        subst (λ (x : ℕ). overlap (buffered (place_at end t) (frame_at fs t)) (box_of fs end x) ≡ false) e
-        (subst (λ (x : ℕ). overlap (buffered (place_at end x) (frame_at fs x)) (box_of fs end (get_or order i 0)) ≡ false) f
+        subst (λ (x : ℕ). overlap (buffered (place_at end t) (half_sides_at fs t)) (box_of fs end x) ≡ false) e
+        (subst (λ (x : ℕ). overlap (buffered (place_at end x) (half_sides_at fs x)) (box_of fs end (get_or order i 0)) ≡ false) f
         (clear_of fs os seeds order turns i j h k (found j k)))
 
     apart : (s t : ℕ) → s ≢ t → is_occupied counts s ≡ true → is_occupied counts t ≡ true → overlap (shrunk (box_of fs end t)) (box_of fs end s) ≡ false
@@ -127,12 +127,12 @@ module _ (sub kv counts : List ℕ) (fs : List Frame) (os : List Offset) (seeds 
             (λ (l : i ≤ j). ⊎_elim
             (λ (m : j ≤ i). absurd (n (sym e ∙ ap (λ (x : ℕ). get_or order x 0) (both i j l m) ∙ f)))
             (λ (m : i < j).
-            refuted (overlap (shrunk (box_of fs end t)) (box_of fs end s)) (overlap (buffered (place_at end t) (frame_at fs t)) (box_of fs end s))
-            (over_own (place_at end t) (frame_at fs t) (plus t p) (full t p) (box_of fs end s) (full s o)) (later s t o p i j m k e f))
+            refuted (overlap (shrunk (box_of fs end t)) (box_of fs end s)) (overlap (buffered (place_at end t) (half_sides_at fs t)) (box_of fs end s))
+            (over_own (place_at end t) (half_sides_at fs t) (plus t p) (full t p) (box_of fs end s) (full s o)) (later s t o p i j m k e f))
             (le_or_lt j i))
             (λ (l : j < i).
-            refuted (overlap (shrunk (box_of fs end t)) (box_of fs end s)) (overlap (buffered (place_at end s) (frame_at fs s)) (box_of fs end t))
-            (over_other (place_at end s) (frame_at fs s) (plus s o) (full s o) (box_of fs end t) (full t p)) (later t s p o j i l h f e))
+            refuted (overlap (shrunk (box_of fs end t)) (box_of fs end s)) (overlap (buffered (place_at end s) (half_sides_at fs s)) (box_of fs end t))
+            (over_other (place_at end s) (half_sides_at fs s) (plus s o) (full s o) (box_of fs end t) (full t p)) (later t s p o j i l h f e))
             (le_or_lt i j)
 
     pub no_overlap : (s t : ℕ) → s ≢ t → is_occupied counts s ≡ true → is_occupied counts t ≡ true

@@ -1,4 +1,4 @@
--- All stations' places and boxes in two drawings, the second one's seeds and frames doubled: every place and every box is the doubled one. Assumes nothing.
+-- All stations' places and boxes in two drawings, the second one's seeds and half sides doubled: every place and every box is the doubled one. Assumes nothing.
 use mathlib.Core.Path.{◌≡◌, sym, ◌∙◌, subst}
 use mathlib.Core.Bool.{Bool, true, false, cond}
 use mathlib.Core.List.{List, [], ◌∷◌, map}
@@ -26,9 +26,9 @@ use Rattle.stations.specs.Doubles.{DoublesPoint, Paired}
 use Rattle.offsets.specs.declared.offset.Offset.{Offset}
 use Rattle.offsets.specs.Offset.{offset_of, offset_grid, offsets}
 use Rattle.placement.specs.Place.{box_of, next_place, places_to, places, boxes}
-use Rattle.placement.specs.Search.{Frame, frame_at, place_for, box_on}
+use Rattle.placement.specs.Search.{HalfSides, half_sides_at, place_for, box_on}
 use Rattle.placement.specs.Stages.Listed.{Turns}
-use Rattle.placement.specs.Doubles.{DoublesBox, DoublesFrame, Small, Reach}
+use Rattle.placement.specs.Doubles.{DoublesBox, DoublesHalfSides, Small, SearchLimits}
 use Rattle.placement.proofs.free_places.SearchDoubles.{box_doubles, search_doubles}
 
 -- ---- offsets are at most 20 either way
@@ -86,13 +86,13 @@ put_doubles {lo} {top} ps ps' s c c' b b' h z k = go (ℕ_discrete z s)
 no_box_lem : (lo top : ℕ) → DoublesBox lo top no_box no_box
 no_box_lem lo top = record { left = zero_doubles lo top; top_side = zero_doubles lo top; right = zero_doubles lo top; bottom = zero_doubles lo top }
 
-module _ {lo t u : ℕ} (fs fs' : List Frame) (os : List Offset) (seeds seeds' : List Point) (order : List ℕ)
-    (F : (s : ℕ) → DoublesFrame lo u (frame_at fs s) (frame_at fs' s)) (S : (s : ℕ) → DoublesPoint lo t (place_at seeds s) (place_at seeds' s))
-    (k : ℕ) (n : length seeds ≡ k) (n' : length seeds' ≡ k) (turns : Turns k order) (small : Small os) (R : Reach lo t u) where
+module _ {lo t u : ℕ} (fs fs' : List HalfSides) (os : List Offset) (seeds seeds' : List Point) (order : List ℕ)
+    (F : (s : ℕ) → DoublesHalfSides lo u (half_sides_at fs s) (half_sides_at fs' s)) (S : (s : ℕ) → DoublesPoint lo t (place_at seeds s) (place_at seeds' s))
+    (k : ℕ) (n : length seeds ≡ k) (n' : length seeds' ≡ k) (turns : Turns k order) (small : Small os) (R : SearchLimits lo t u) where
   boxes_paired : (ps ps' : List Point) → ((s : ℕ) → DoublesPoint lo (t + 80 * u) (place_at ps s) (place_at ps' s)) → (done : List ℕ) → Paired (DoublesBox lo (t + 80 * u + u)) (map (box_of fs ps) done) (map (box_of fs' ps') done)
   unfolding box_of
   boxes_paired ps ps' h [] = tt
-  boxes_paired ps ps' h (s ∷ ss) = (box_doubles (place_at ps s) (place_at ps' s) (frame_at fs s).half (frame_at fs' s).half (h s) (F s).half R.box, boxes_paired ps ps' h ss)
+  boxes_paired ps ps' h (s ∷ ss) = (box_doubles (place_at ps s) (place_at ps' s) (half_sides_at fs s).half (half_sides_at fs' s).half (h s) (F s).half R.box, boxes_paired ps ps' h ss)
 
   -- after j turns: all places double, and those not yet chosen are still the seeds
   record Turn (j : ℕ) : Type 0 where
@@ -113,10 +113,10 @@ module _ {lo t u : ℕ} (fs fs' : List Frame) (os : List Offset) (seeds seeds' :
       let s = get_or order j 0 in
       let e = map (box_of fs ps) (take j order) in
       let e' = map (box_of fs' ps') (take j order) in
-      let c = place_for (place_at ps s) (frame_at fs s) e os in
-      let c' = place_for (place_at ps' s) (frame_at fs' s) e' os in
+      let c = place_for (place_at ps s) (half_sides_at fs s) e os in
+      let c' = place_for (place_at ps' s) (half_sides_at fs' s) e' os in
       let fresh : (m : ℕ) → m < j → get_or order m 0 ≡ get_or order j 0 → ⊥ = (λ m l q. apart m j l (turns.once m j (through m j (length order) l h) h q)) in
-      let new : DoublesPoint lo (t + 80 * u) c c' = search_doubles lo (t + 80 * u + u) (place_at ps s) (place_at ps' s) (frame_at fs s) (frame_at fs' s) e e' (T.rest s fresh) (F s) (boxes_paired ps ps' T.all (take j order)) R os small in
+      let new : DoublesPoint lo (t + 80 * u) c c' = search_doubles lo (t + 80 * u + u) (place_at ps s) (place_at ps' s) (half_sides_at fs s) (half_sides_at fs' s) e e' (T.rest s fresh) (F s) (boxes_paired ps ps' T.all (take j order)) R os small in
       let b : s < length ps = subst (λ (z : ℕ). s < z) (sym T.length_is) (turns.below j h) in
       let b' : s < length ps' = subst (λ (z : ℕ). s < z) (sym T.length_is') (turns.below j h) in
       record {
@@ -151,13 +151,13 @@ pick_box : {lo top : ℕ} (b : Bool) (p p' : Box) → DoublesBox lo top p p' →
 pick_box true p p' h = h
 pick_box {lo} {top} false p p' h = no_box_lem lo top
 
-pub boxes_doubles : {lo t u : ℕ} (fs fs' : List Frame) (counts : List ℕ) (ps ps' : List Point) → ((s : ℕ) → DoublesFrame lo u (frame_at fs s) (frame_at fs' s)) → ((s : ℕ) → DoublesPoint lo t (place_at ps s) (place_at ps' s)) → Limit (t + u)
+pub boxes_doubles : {lo t u : ℕ} (fs fs' : List HalfSides) (counts : List ℕ) (ps ps' : List Point) → ((s : ℕ) → DoublesHalfSides lo u (half_sides_at fs s) (half_sides_at fs' s)) → ((s : ℕ) → DoublesPoint lo t (place_at ps s) (place_at ps' s)) → Limit (t + u)
     → (s : ℕ) → DoublesBox lo (t + u) (box_in (boxes fs counts ps) s) (box_in (boxes fs' counts ps') s)
 unfolding boxes box_of
 boxes_doubles {lo} {t} {u} fs fs' counts ps ps' F S l s = go (dec_le (length counts) s)
   where
-    at : (r : List Frame) (q : List Point) → ℕ → Box
-    at r q s = pick (is_occupied counts s) (box_on (place_at q s) (frame_at r s).half) no_box
+    at : (r : List HalfSides) (q : List Point) → ℕ → Box
+    at r q s = pick (is_occupied counts s) (box_on (place_at q s) (half_sides_at r s).half) no_box
 
     go : Dec (length counts ≤ s) → DoublesBox lo (t + u) (get_or (table (at fs ps) (length counts)) s no_box) (get_or (table (at fs' ps') (length counts)) s no_box)
     go (yes h) =
@@ -170,4 +170,4 @@ boxes_doubles {lo} {t} {u} fs fs' counts ps ps' F S l s = go (dec_le (length cou
         let h : s < length counts = lt_of_not-le f in
         subst (λ (b : Box). DoublesBox lo (t + u) b (get_or (table (at fs' ps') (length counts)) s no_box)) (sym (get_d_table (at fs ps) (length counts) s no_box h))
         (subst (λ (b : Box). DoublesBox lo (t + u) (at fs ps s) b) (sym (get_d_table (at fs' ps') (length counts) s no_box h))
-        (pick_box (is_occupied counts s) (box_on (place_at ps s) (frame_at fs s).half) (box_on (place_at ps' s) (frame_at fs' s).half) (box_doubles (place_at ps s) (place_at ps' s) (frame_at fs s).half (frame_at fs' s).half (S s) (F s).half l)))
+        (pick_box (is_occupied counts s) (box_on (place_at ps s) (half_sides_at fs s).half) (box_on (place_at ps' s) (half_sides_at fs' s).half) (box_doubles (place_at ps s) (place_at ps' s) (half_sides_at fs s).half (half_sides_at fs' s).half (S s) (F s).half l)))

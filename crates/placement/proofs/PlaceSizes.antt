@@ -27,16 +27,16 @@ use Rattle.offsets.specs.Offset.{offsets}
 use Rattle.placement.specs.Stages.Listed.{Turns}
 use Rattle.std.specs.Prelude.{Some, unwrap_or}
 use Rattle.placement.specs.Place.{box_of, next_place, places_to, places, boxes}
-use Rattle.placement.specs.Search.{Frame, frame_for, frames, frame_at, box_on, buffered, free, place, first_free, place_for}
+use Rattle.placement.specs.Search.{HalfSides, half_sides_for, half_sides, half_sides_at, box_on, buffered, free, place, first_free, place_for}
 use Rattle.placement.proofs.PlaceLaw.{waits}
 use Rattle.offsets.specs.Complete.{Within}
 use Rattle.offsets.proofs.OffsetLaw.{offsets_within}
 
 -- ---- half sides: a unit, a scale of at most 1, sides in blocks
 module _ (u b g : ℕ) (l : u + b ≤ g + 1075) (L : u ≤ 2097) (G : g + 1 ≤ 2097) where
-  pub frame_most : (M : Measures) (scale : Float) (z : Size) → AtMost u M.unit → AtMost 1074 scale → Sides b z → Sides g (frame_for M scale z).half × AtMost u (frame_for M scale z).f
-  unfolding frame_for
-  frame_most M scale z h s Z = (record { w = half z.w Z.w; h = half z.h Z.h }, block)
+  pub half_sides_most : (M : Measures) (scale : Float) (z : Size) → AtMost u M.unit → AtMost 1074 scale → Sides b z → Sides g (half_sides_for M scale z).half × AtMost u (half_sides_for M scale z).f
+  unfolding half_sides_for
+  half_sides_most M scale z h s Z = (record { w = half z.w Z.w; h = half z.h Z.h }, block)
     where
       block : AtMost u (M.unit ⊗ scale)
       block = mul_most u 1074 u M.unit scale (omega arith) L h s
@@ -44,12 +44,12 @@ module _ (u b g : ℕ) (l : u + b ≤ g + 1075) (L : u ≤ 2097) (G : g + 1 ≤ 
       half : (x : Float) → AtMost b x → AtMost g (x ⊗ (M.unit ⊗ scale) ⊘ f2)
       half x k = div_most (g + 1) (1074 + 1) g (x ⊗ (M.unit ⊗ scale)) f2 (omega arith) (omega arith) (mul_most b u (g + 1) x (M.unit ⊗ scale) (omega arith) G k block) f2_least
 
-  pub frames_most : (M : Measures) (scales : List Float) (zs : List Size) → AtMost u M.unit → ((s : ℕ) → AtMost 1074 (get_or scales s f1)) → ((s : ℕ) → Sides b (size_at zs s))
-      → (s : ℕ) → Sides g (frame_at (frames M scales zs) s).half × AtMost u (frame_at (frames M scales zs) s).f
-  unfolding frames
-  frames_most M scales zs h S Z s =
-      table_at (λ (r : Frame). Sides g r.half × AtMost u r.f) (λ i. frame_for M (get_or scales i f1) (size_at zs i)) (length zs) s (record { half = record { w = f0; h = f0 }; f = f0; buffer = f0 })
-      (λ i k. frame_most M (get_or scales i f1) (size_at zs i) h (S i) (Z i)) (record { w = f0_most g; h = f0_most g }, f0_most u)
+  pub each_half_sides_most : (M : Measures) (scales : List Float) (zs : List Size) → AtMost u M.unit → ((s : ℕ) → AtMost 1074 (get_or scales s f1)) → ((s : ℕ) → Sides b (size_at zs s))
+      → (s : ℕ) → Sides g (half_sides_at (half_sides M scales zs) s).half × AtMost u (half_sides_at (half_sides M scales zs) s).f
+  unfolding half_sides
+  each_half_sides_most M scales zs h S Z s =
+      table_at (λ (r : HalfSides). Sides g r.half × AtMost u r.f) (λ i. half_sides_for M (get_or scales i f1) (size_at zs i)) (length zs) s (record { half = record { w = f0; h = f0 }; f = f0; buffer = f0 })
+      (λ i k. half_sides_most M (get_or scales i f1) (size_at zs i) h (S i) (Z i)) (record { w = f0_most g; h = f0_most g }, f0_most u)
 
 -- ---- places: seeds of at most m, half sides of at most g
 module _ (m g : ℕ) (M : m + 8 ≤ 2097) (G : g + 8 ≤ 2097) (H : m ≤ g) (seed : Point) (z : Size) (S : Near m seed) (Z : Sides g z) where
@@ -70,7 +70,7 @@ abbrev pub Offsets : List Offset → Type 0
 Offsets [] = Unit {0}
 Offsets (o ∷ os) = Within 20 o × Offsets os
 
-module _ (m g : ℕ) (M : m + 8 ≤ 2097) (G : g + 8 ≤ 2097) (H : m ≤ g) (seed : Point) (r : Frame) (earlier : List Box) (S : Near m seed) (Z : Sides g r.half) where
+module _ (m g : ℕ) (M : m + 8 ≤ 2097) (G : g + 8 ≤ 2097) (H : m ≤ g) (seed : Point) (r : HalfSides) (earlier : List Box) (S : Near m seed) (Z : Sides g r.half) where
   first_near : (w : Float) (os : List Offset) (p : Point) → AtMost (1074 + 2) w → Offsets os → Near (g + 8) p → Near (g + 8) (unwrap_or (first_free seed r earlier w os) p)
   unfolding first_free
   first_near w [] p k O P = P
@@ -95,8 +95,8 @@ set_at_any P (y ∷ ys) zero (suc j) x d p h = h
 set_at_any P (y ∷ ys) (suc i) zero x d p h = h
 set_at_any P (y ∷ ys) (suc i) (suc j) x d p h = set_at_any P ys i j x d p h
 
-module _ (m g : ℕ) (M : m + 8 ≤ 2097) (G : g + 8 ≤ 2097) (H : m ≤ g) (fs : List Frame) (os : List Offset) (seeds : List Point) (order : List ℕ) (T : Turns (length seeds) order)
-    (S : (s : ℕ) → Near m (place_at seeds s)) (F : (s : ℕ) → Sides g (frame_at fs s).half) (O : Offsets os) where
+module _ (m g : ℕ) (M : m + 8 ≤ 2097) (G : g + 8 ≤ 2097) (H : m ≤ g) (fs : List HalfSides) (os : List Offset) (seeds : List Point) (order : List ℕ) (T : Turns (length seeds) order)
+    (S : (s : ℕ) → Near m (place_at seeds s)) (F : (s : ℕ) → Sides g (half_sides_at fs s).half) (O : Offsets os) where
   to_near : (i : ℕ) → i ≤ length order → (s : ℕ) → Near (g + 8) (place_at (places_to fs os seeds order i) s)
   unfolding places_to next_place
   to_near zero l s = record { x = most_weaken m (g + 8) (place_at seeds s).x (omega arith) (S s).x; y = most_weaken m (g + 8) (place_at seeds s).y (omega arith) (S s).y }
@@ -104,8 +104,8 @@ module _ (m g : ℕ) (M : m + 8 ≤ 2097) (G : g + 8 ≤ 2097) (H : m ≤ g) (fs
       let t = get_or order i 0 in
       let places = places_to fs os seeds order i in
       let seed : Near m (place_at places t) = subst (Near m) (sym (waits fs os seeds order T i i (omega arith) l)) (S t) in
-      set_at_any (Near (g + 8)) places t s (place_for (place_at places t) (frame_at fs t) (map (box_of fs places) (take i order)) os) origin
-      (place_for_near m g M G H (place_at places t) (frame_at fs t) (map (box_of fs places) (take i order)) seed (F t) os O) (to_near i (omega arith) s)
+      set_at_any (Near (g + 8)) places t s (place_for (place_at places t) (half_sides_at fs t) (map (box_of fs places) (take i order)) os) origin
+      (place_for_near m g M G H (place_at places t) (half_sides_at fs t) (map (box_of fs places) (take i order)) seed (F t) os O) (to_near i (omega arith) s)
 
   pub places_near : (s : ℕ) → Near (g + 8) (place_at (places fs os seeds order) s)
   unfolding places
@@ -130,12 +130,12 @@ box_most k g c z K G C Z = (
   add_under k g (k + 1) c.y z.h (omega arith) (omega arith) K C.y Z.h,
 )
 
-pub boxes_most : (k g : ℕ) (fs : List Frame) (counts : List ℕ) (ps : List Point) → k + 1 ≤ 2097 → g ≤ k → ((s : ℕ) → Near k (place_at ps s)) → ((s : ℕ) → Sides g (frame_at fs s).half)
+pub boxes_most : (k g : ℕ) (fs : List HalfSides) (counts : List ℕ) (ps : List Point) → k + 1 ≤ 2097 → g ≤ k → ((s : ℕ) → Near k (place_at ps s)) → ((s : ℕ) → Sides g (half_sides_at fs s).half)
     → (s : ℕ) → Edges (k + 1) (box_in (boxes fs counts ps) s)
 unfolding boxes box_of
 boxes_most k g fs counts ps K G P F s =
     table_at (Edges (k + 1)) (λ i. pick (is_occupied counts i) (box_of fs ps i) no_box) (length counts) s no_box
-    (λ i l. go (is_occupied counts i) (box_of fs ps i) (box_most k g (place_at ps i) (frame_at fs i).half K G (P i) (F i))) none
+    (λ i l. go (is_occupied counts i) (box_of fs ps i) (box_most k g (place_at ps i) (half_sides_at fs i).half K G (P i) (F i))) none
   where
     none : Edges (k + 1) no_box
     none = (f0_most (k + 1), f0_most (k + 1), f0_most (k + 1), f0_most (k + 1))

@@ -1,9 +1,10 @@
 -- Stations placed one after the other, and their boxes by number. Assumes nothing.
 use mathlib.Core.Path.{◌≡◌, refl, sym, ap, ◌∙◌, subst}
-use mathlib.Core.Logic.{◌≢◌}
-use mathlib.Core.Bool.{Bool, false}
+use mathlib.Core.Logic.{◌≢◌, ⊎_elim}
+use mathlib.Core.Bool.{Bool, true, false, not, ◌&&◌}
 use mathlib.Core.List.{List, [], ◌∷◌, ◌++◌, map}
 use Prim.Native.Nat.{ℕ, zero, suc, ◌+◌, ◌*◌, ◌≤◌, ◌<◌, zero-le, suc-le-suc}
+use native.Mathlib.Nat.{not-suc-le-zero, le_of_suc-le-suc, eq-or-lt_of_le}
 use native.Mathlib.Omega.{arith}
 use native.Mathlib.Numerals.{add-one}
 use lib.Dec.{leb, eqb}
@@ -34,13 +35,14 @@ use Rattle.stations.specs.Size.{Size, size_at}
 use Rattle.stations.specs.Stages.Views.{size_in, sizes_in, scales_in}
 use Rattle.network.proofs.Occupied.{is_occupied_lem, not_occupied}
 use Rattle.offsets.specs.declared.offset.Offset.{Offset}
-use Rattle.placement.specs.Place.{box_of, next_place, places_to, places, boxes}
-use Rattle.placement.specs.Search.{Frame, frame_for, frames, frame_at, box_on, free, place_for}
-use Rattle.placement.specs.Stages.Views.{frame_in, frames_in, put_box, PlacedAs}
+use Rattle.std.specs.Prelude.{is_some}
+use Rattle.placement.specs.Place.{box_of, next_place, places_to, places, finds_free, find_free_to, all_find_free, boxes}
+use Rattle.placement.specs.Search.{HalfSides, half_sides_for, half_sides, half_sides_at, box_on, free, place_for, found_place}
+use Rattle.placement.specs.Stages.Views.{half_sides_in, half_sides_listed, put_box, PlacedAs}
 use Rattle.placement.specs.Stages.Among.{kept_boxes, Holds}
 use Rattle.placement.specs.Stages.Listed.{Turns}
 use Rattle.numbers.proofs.order.Sorting.{map_agree}
-use Rattle.placement.proofs.free_places.Searching.{free_count, place_same}
+use Rattle.placement.proofs.free_places.Searching.{free_count, place_same, found_same}
 
 pub all_of_lem : (P : ℕ → Type 0) (l : List ℕ) → ((i : ℕ) → i < length l → P (get_or l i 0)) → All P l
 all_of_lem P [] h = tt
@@ -48,26 +50,27 @@ all_of_lem P (x ∷ xs) h = (h zero (suc-le-suc zero-le), all_of_lem P xs (λ i 
 
 -- ---- what station s's interior is drawn in
 module _ (M : Measures) (k : ℕ) (blocks : List Float) where
-  pub frame_at_lem : (s : ℕ) → s < k → frame_at (frames_in M k blocks) s ≡ frame_in M blocks s
-  unfolding frames sizes_in
-  frame_at_lem s h =
+  pub half_sides_at_lem : (s : ℕ) → s < k → half_sides_at (half_sides_listed M k blocks) s ≡ half_sides_in M blocks s
+  unfolding half_sides sizes_in
+  half_sides_at_lem s h =
       let zs : List Size = sizes_in k blocks in
       let l : s < length zs = rw (length_table (size_in blocks) k) h in
-      get_d_table (λ i. frame_for M (get_or (scales_in k blocks) i f1) (size_at zs i)) (length zs) s (record { half = record { w = f0; h = f0 }; f = f0; buffer = f0 }) l
-      ∙ ap (λ (x : Float). frame_for M x (size_at zs s)) (get_d_strided 3 2 nan k s blocks f1 h)
-      ∙ ap (frame_for M (get_or blocks (3 * s + 2) nan)) (get_d_table (size_in blocks) k s (record { w = f0; h = f0 }) h)
+      get_d_table (λ i. half_sides_for M (get_or (scales_in k blocks) i f1) (size_at zs i)) (length zs) s (record { half = record { w = f0; h = f0 }; f = f0; buffer = f0 }) l
+      ∙ ap (λ (x : Float). half_sides_for M x (size_at zs s)) (get_d_strided 3 2 nan k s blocks f1 h)
+      ∙ ap (half_sides_for M (get_or blocks (3 * s + 2) nan)) (get_d_table (size_in blocks) k s (record { w = f0; h = f0 }) h)
 
 -- ---- the first p stations of the order are placed, and their boxes are kept
-pub record Placed (unit : Float) (fs : List Frame) (os : List Offset) (seeds : List Point) (order : List ℕ) (k p most : ℕ) (ps bs : List Float) (keys sorted : List ℕ) : Type 0 where
+pub record Placed (unit : Float) (fs : List HalfSides) (os : List Offset) (seeds : List Point) (order : List ℕ) (k p most : ℕ) (all_free : Bool) (ps bs : List Float) (keys sorted : List ℕ) : Type 0 where
   pub points : points_in k ps ≡ places_to fs os seeds order p
   pub boxes : All (λ t. box_at bs t ≡ box_of fs (places_to fs os seeds order p) t) (take p order)
   pub kept : Kept unit bs most (take p keys) (take p sorted)
   pub same : (t : ℕ → Bool) → count t (take p sorted) ≡ count t (take p order)
+  pub free : all_free ≡ find_free_to fs os seeds order p
 
-pub placed_none : (unit : Float) (fs : List Frame) (os : List Offset) (order : List ℕ) (k : ℕ) (ps bs : List Float) (keys sorted : List ℕ)
-    → Placed unit fs os (points_in k ps) order k 0 0 ps bs keys sorted
-unfolding places_to
-placed_none unit fs os order k ps bs keys sorted = record { points = refl; boxes = tt; kept = kept_none unit bs; same = λ t. refl }
+pub placed_none : (unit : Float) (fs : List HalfSides) (os : List Offset) (order : List ℕ) (k : ℕ) (ps bs : List Float) (keys sorted : List ℕ)
+    → Placed unit fs os (points_in k ps) order k 0 0 true ps bs keys sorted
+unfolding places_to find_free_to
+placed_none unit fs os order k ps bs keys sorted = record { points = refl; boxes = tt; kept = kept_none unit bs; same = λ t. refl; free = refl }
 
 all_two : (P Q R : ℕ → Type 0) → ((x : ℕ) → P x → Q x → R x) → (l : List ℕ) → All P l → All Q l → All R l
 all_two P Q R f [] a b = tt
@@ -84,8 +87,8 @@ kept_on unit bs bs' most keys sorted s b e f K =
     kept_ext unit bs bs' most keys sorted
     (all_map (λ y. s ≡ y → ⊥) (λ y. box_at bs y ≡ box_at bs' y) (λ y n. sym (ap (λ (x : List Float). box_at x y) e ∙ box_other bs s y b (λ z. n (sym z)))) sorted f) K
 
-module _ (unit : Float) (fs : List Frame) (os : List Offset) (seeds : List Point) (order : List ℕ) (k p most : ℕ) (ps bs : List Float) (keys sorted : List ℕ)
-    (T : Turns k order) (D : Placed unit fs os seeds order k p most ps bs keys sorted) (h : p ≤ length order) where
+module _ (unit : Float) (fs : List HalfSides) (os : List Offset) (seeds : List Point) (order : List ℕ) (k p most : ℕ) (all_free : Bool) (ps bs : List Float) (keys sorted : List ℕ)
+    (T : Turns k order) (D : Placed unit fs os seeds order k p most all_free ps bs keys sorted) (h : p ≤ length order) where
   -- what is so of every station placed is so of every station kept
   kept_all : (t : ℕ → Bool) → ((i : ℕ) → i < p → t (get_or order i 0) ≡ false) → All (λ y. t y ≡ false) (take p sorted)
   kept_all t f =
@@ -115,12 +118,31 @@ module _ (unit : Float) (fs : List Frame) (os : List Offset) (seeds : List Point
       ∙ sym (free_count (box_at bs) q (take p order))
       ∙ ap (free q) (map_agree (box_at bs) (box_of fs (places_to fs os seeds order p)) (take p order) D.boxes)
 
+pub not_true : (b : Bool) → not b ≡ true → b ≡ false
+not_true true e = sym e
+not_true false e = refl
+
+and_false : (a b : Bool) → b ≡ false → (a && b) ≡ false
+and_false true b e = e
+and_false false b e = refl
+
+-- Where one of the order finds no free place, not all do.
+none_after : (fs : List HalfSides) (os : List Offset) (seeds : List Point) (order : List ℕ) (p : ℕ) → finds_free fs os seeds order p ≡ false
+    → (n : ℕ) → p < n → find_free_to fs os seeds order n ≡ false
+unfolding find_free_to
+none_after fs os seeds order p e zero h = absurd (not-suc-le-zero h)
+none_after fs os seeds order p e (suc n) h = ⊎_elim
+    (λ (q : p ≡ n). and_false (find_free_to fs os seeds order n) (finds_free fs os seeds order n) (subst (λ (i : ℕ). finds_free fs os seeds order i ≡ false) q e))
+    (λ (q : p < n). ap (λ (b : Bool). b && finds_free fs os seeds order n) (none_after fs os seeds order p e n q))
+    (eq-or-lt_of_le (le_of_suc-le-suc h))
+
 module _ (M : Measures) (k : ℕ) (blocks : List Float) (os : List Offset) (seeds : List Point) (order : List ℕ) (T : Turns k order) (p s : ℕ) (h : p < length order) (e : s ≡ get_or order p 0)
-    (most wider : ℕ) (ps bs ps' bs' : List Float) (keys sorted keys' sorted' : List ℕ) (l : 2 * k ≤ length ps) (m : 4 * k ≤ length bs)
+    (most wider : ℕ) (all_free : Bool) (ps bs ps' bs' : List Float) (keys sorted keys' sorted' : List ℕ) (l : 2 * k ≤ length ps) (m : 4 * k ≤ length bs)
     (S : PlacedAs M blocks os s p wider ps bs sorted ps' bs' keys' sorted')
-    (D : Placed M.unit (frames_in M k blocks) os seeds order k p most ps bs keys sorted) where
-  abbrev fs : List Frame
-  fs = frames_in M k blocks
+    (D : Placed M.unit (half_sides_listed M k blocks) os seeds order k p most all_free ps bs keys sorted) (free : Bool)
+    (F : free ≡ is_some (found_place (point_at ps s) (half_sides_in M blocks s) (kept_boxes bs (take p sorted)) os)) where
+  abbrev fs : List HalfSides
+  fs = half_sides_listed M k blocks
 
   abbrev before : List Point
   before = places_to fs os seeds order p
@@ -137,10 +159,25 @@ module _ (M : Measures) (k : ℕ) (blocks : List Float) (os : List Offset) (seed
   chosen_is : S.at ≡ next_place fs os before (take p order) s
   unfolding next_place
   chosen_is =
-      S.chosen ∙ ap (λ (c : Point). place_for c (frame_in M blocks s) (kept_boxes bs (take p sorted)) os) seed_is
-      ∙ ap (λ (r : Frame). place_for (place_at before s) r (kept_boxes bs (take p sorted)) os) (sym (frame_at_lem M k blocks s below))
-      ∙ place_same (place_at before s) (frame_at fs s) (kept_boxes bs (take p sorted)) (map (box_of fs before) (take p order))
-      (free_same M.unit fs os seeds order k p most ps bs keys sorted T D (omega arith)) os
+      S.chosen ∙ ap (λ (c : Point). place_for c (half_sides_in M blocks s) (kept_boxes bs (take p sorted)) os) seed_is
+      ∙ ap (λ (r : HalfSides). place_for (place_at before s) r (kept_boxes bs (take p sorted)) os) (sym (half_sides_at_lem M k blocks s below))
+      ∙ place_same (place_at before s) (half_sides_at fs s) (kept_boxes bs (take p sorted)) (map (box_of fs before) (take p order))
+      (free_same M.unit fs os seeds order k p most all_free ps bs keys sorted T D (omega arith)) os
+
+  -- whether it finds a free place
+  free_is : free ≡ finds_free fs os seeds order p
+  unfolding finds_free
+  free_is =
+      F ∙ ap (λ (c : Point). is_some (found_place c (half_sides_in M blocks s) (kept_boxes bs (take p sorted)) os)) seed_is
+      ∙ ap (λ (r : HalfSides). is_some (found_place (place_at before s) r (kept_boxes bs (take p sorted)) os)) (sym (half_sides_at_lem M k blocks s below))
+      ∙ ap is_some
+      (found_same (place_at before s) (half_sides_at fs s) (kept_boxes bs (take p sorted)) (map (box_of fs before) (take p order))
+      (free_same M.unit fs os seeds order k p most all_free ps bs keys sorted T D (omega arith)) os)
+      ∙ ap (λ (t : ℕ). is_some (found_place (place_at before t) (half_sides_at fs t) (map (box_of fs before) (take p order)) os)) e
+
+  -- Where it finds none, not all do.
+  pub gives_up : free ≡ false → false ≡ all_find_free fs os seeds order
+  gives_up f = sym (none_after fs os seeds order p (sym free_is ∙ f) (length order) h)
 
   to_next : after ≡ places_to fs os seeds order (suc p)
   unfolding places_to
@@ -163,16 +200,16 @@ module _ (M : Measures) (k : ℕ) (blocks : List Float) (os : List Offset) (seed
   kept_box : (t : ℕ) → box_at bs t ≡ box_of fs before t → t ≢ s → box_at bs' t ≡ box_of fs after t
   unfolding box_of
   kept_box t b n =
-      ap (λ (x : List Float). box_at x t) S.boxed ∙ box_other bs s t (box_on S.at (frame_in M blocks s).half) n ∙ b
-      ∙ ap (λ (c : Point). box_on c (frame_at fs t).half) (sym (get_or-set_other before s t S.at origin n))
+      ap (λ (x : List Float). box_at x t) S.boxed ∙ box_other bs s t (box_on S.at (half_sides_in M blocks s).half) n ∙ b
+      ∙ ap (λ (c : Point). box_on c (half_sides_at fs t).half) (sym (get_or-set_other before s t S.at origin n))
 
   own_box : box_at bs' s ≡ box_of fs after s
   unfolding box_of
   own_box =
       let n : s < length before = subst (λ (q : List Point). s < length q) D.points (rw (length_points k ps) below) in
-      ap (λ (x : List Float). box_at x s) S.boxed ∙ box_same bs s (box_on S.at (frame_in M blocks s).half) (omega (arith, below))
-      ∙ ap (λ (r : Frame). box_on S.at r.half) (sym (frame_at_lem M k blocks s below))
-      ∙ ap (λ (c : Point). box_on c (frame_at fs s).half) (sym (get_or-set_same before s S.at origin n))
+      ap (λ (x : List Float). box_at x s) S.boxed ∙ box_same bs s (box_on S.at (half_sides_in M blocks s).half) (omega (arith, below))
+      ∙ ap (λ (r : HalfSides). box_on S.at r.half) (sym (half_sides_at_lem M k blocks s below))
+      ∙ ap (λ (c : Point). box_on c (half_sides_at fs s).half) (sym (get_or-set_same before s S.at origin n))
 
   order_next : take (suc p) order ≡ take p order ++ (s ∷ [])
   order_next = take-suc order p 0 h ∙ ap (λ (t : ℕ). take p order ++ (t ∷ [])) (sym e)
@@ -191,21 +228,29 @@ module _ (M : Measures) (k : ℕ) (blocks : List Float) (os : List Offset) (seed
       ∙ count_cons t s (take p sorted) (take p order) (D.same t)
       ∙ sym (count_end t s (take p order)) ∙ ap (count t) (sym order_next)
 
-  pub placed_more : Placed M.unit fs os seeds order k (p + 1) wider ps' bs' keys' sorted'
-  placed_more = rw (add-one p) (record { points = points_next; boxes = boxes_next; kept = S.kept; same = same_next })
+  free_next : (all_free && free) ≡ find_free_to fs os seeds order (suc p)
+  unfolding find_free_to
+  free_next = ap (λ (b : Bool). b && free) D.free ∙ ap (λ (b : Bool). find_free_to fs os seeds order p && b) free_is
 
-pub placed_end : (unit : Float) (fs : List Frame) (os : List Offset) (seeds : List Point) (r : ℕ) (st : List ℕ) (k p most : ℕ) (ps bs : List Float) (keys sorted : List ℕ) → p ≡ r
-    → Placed unit fs os seeds (order_in r st) k p most ps bs keys sorted → points_in k ps ≡ places fs os seeds (order_in r st)
-unfolding places
-placed_end unit fs os seeds r st k p most ps bs keys sorted e D = D.points ∙ ap (places_to fs os seeds (order_in r st)) (e ∙ sym (length_strided 2 1 0 r st))
+  pub placed_more : Placed M.unit fs os seeds order k (p + 1) wider (all_free && free) ps' bs' keys' sorted'
+  placed_more = rw (add-one p) (record { points = points_next; boxes = boxes_next; kept = S.kept; same = same_next; free = free_next })
+
+module _ (unit : Float) (fs : List HalfSides) (os : List Offset) (seeds : List Point) (r : ℕ) (st : List ℕ) (k p most : ℕ) (all_free : Bool) (ps bs : List Float) (keys sorted : List ℕ) (e : p ≡ r)
+    (D : Placed unit fs os seeds (order_in r st) k p most all_free ps bs keys sorted) where
+  pub placed_end : points_in k ps ≡ places fs os seeds (order_in r st)
+  unfolding places
+  placed_end = D.points ∙ ap (places_to fs os seeds (order_in r st)) (e ∙ sym (length_strided 2 1 0 r st))
+
+  pub free_end : all_free ≡ all_find_free fs os seeds (order_in r st)
+  free_end = D.free ∙ ap (find_free_to fs os seeds (order_in r st)) (e ∙ sym (length_strided 2 1 0 r st))
 
 -- ---- the box list
 module _ (M : Measures) (k : ℕ) (st : List ℕ) (blocks ps : List Float) where
-  abbrev all_frames : List Frame
-  all_frames = frames_in M k blocks
+  abbrev all_half_sides : List HalfSides
+  all_half_sides = half_sides_listed M k blocks
 
   abbrev pub box_for : ℕ → Box
-  box_for s = pick (is_occupied (counts_in k st) s) (box_of (frames_in M k blocks) (points_in k ps) s) no_box
+  box_for s = pick (is_occupied (counts_in k st) s) (box_of (half_sides_listed M k blocks) (points_in k ps) s) no_box
 
   pub boxes_none : (bs : List Float) → boxes_in 0 bs ≡ table box_for 0
   boxes_none bs = boxes_zero bs ∙ sym (table_zero box_for)
@@ -215,20 +260,20 @@ module _ (M : Measures) (k : ℕ) (st : List ℕ) (blocks ps : List Float) where
       rw (add-one s)
       (boxes_push s bs b h ∙ ap (λ (q : List Box). q ++ (b ∷ [])) i ∙ ap (λ (x : Box). table box_for s ++ (x ∷ [])) e ∙ sym (table_suc box_for s))
 
-  pub boxes_yes : (s : ℕ) (bs : List Float) (b : Box) → s < k → 4 * s + 3 < length bs → 0 < get_or st (2 * s) 0 → b ≡ box_on (point_at ps s) (frame_in M blocks s).half
+  pub boxes_yes : (s : ℕ) (bs : List Float) (b : Box) → s < k → 4 * s + 3 < length bs → 0 < get_or st (2 * s) 0 → b ≡ box_on (point_at ps s) (half_sides_in M blocks s).half
       → boxes_in s bs ≡ table box_for s → boxes_in (s + 1) (put_box bs s b) ≡ table box_for (s + 1)
   unfolding box_of
   boxes_yes s bs b h l p e i =
       put_more s bs b l
-      (e ∙ ap (λ (r : Frame). box_on (point_at ps s) r.half) (sym (frame_at_lem M k blocks s h))
-      ∙ ap (λ (c : Point). box_on c (frame_at all_frames s).half) (sym (get_d_points k s ps origin h))
-      ∙ ap (λ (x : Bool). pick x (box_of all_frames (points_in k ps) s) no_box) (sym (is_occupied_lem k s st h p))) i
+      (e ∙ ap (λ (r : HalfSides). box_on (point_at ps s) r.half) (sym (half_sides_at_lem M k blocks s h))
+      ∙ ap (λ (c : Point). box_on c (half_sides_at all_half_sides s).half) (sym (get_d_points k s ps origin h))
+      ∙ ap (λ (x : Bool). pick x (box_of all_half_sides (points_in k ps) s) no_box) (sym (is_occupied_lem k s st h p))) i
 
   pub boxes_no : (s : ℕ) (bs : List Float) → s < k → 4 * s + 3 < length bs → get_or st (2 * s) 0 ≤ 0 → boxes_in s bs ≡ table box_for s → boxes_in (s + 1) (put_box bs s no_box) ≡ table box_for (s + 1)
   boxes_no s bs h l p i =
-      put_more s bs no_box l (ap (λ (x : Bool). pick x (box_of all_frames (points_in k ps) s) no_box) (sym (not_occupied k s st h p))) i
+      put_more s bs no_box l (ap (λ (x : Bool). pick x (box_of all_half_sides (points_in k ps) s) no_box) (sym (not_occupied k s st h p))) i
 
-  pub boxes_end : (s : ℕ) (bs : List Float) → s ≡ k → boxes_in s bs ≡ table box_for s → boxes_in k bs ≡ boxes all_frames (counts_in k st) (points_in k ps)
+  pub boxes_end : (s : ℕ) (bs : List Float) → s ≡ k → boxes_in s bs ≡ table box_for s → boxes_in k bs ≡ boxes all_half_sides (counts_in k st) (points_in k ps)
   unfolding boxes
   boxes_end s bs e i = ap (λ (n : ℕ). boxes_in n bs) (sym e) ∙ i ∙ ap (table box_for) (e ∙ sym (length_strided 2 0 0 k st))
 

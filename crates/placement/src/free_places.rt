@@ -3,8 +3,8 @@
 ghost use Rattle.std.specs.Prelude.{◌≡◌, ◌+◌, ◌*◌, ◌≤◌, ◌<◌, nat_abs, length, take};
 ghost use Rattle.numbers.specs.Lists.{All};
 ghost use Rattle.placement.specs.Search as Place;
-ghost use Rattle.placement.specs.Search.{free, box_on, buffered, first_free, place_for};
-ghost use Rattle.placement.specs.Stages.Among.{half, frame_of, kept_boxes, boxes_among};
+ghost use Rattle.placement.specs.Search.{free, box_on, buffered, first_free, found_place};
+ghost use Rattle.placement.specs.Stages.Among.{half, half_sides_of, kept_boxes, boxes_among};
 ghost use Rattle.placement.specs.Stages.Among.{column_of, Holds};
 ghost use Rattle.offset_table.specs.Table.{skipped};
 ghost use Rattle.placement.specs.Stages.OneProof.{holds_prop};
@@ -12,7 +12,7 @@ ghost use Rattle.placement.specs.Stages.OneProof.{holds_prop};
 use numbers::float::small::max;
 use offset_table::{is_inside, pair_at};
 use offsets::offset::Offset;
-use plane::box_order::{Stretch, stretch_of};
+use plane::box_order::{TestedPart, tested_part};
 use plane::cells::shifted;
 use plane::geometry::{Box, Point, box_at};
 use plane::proximity::overlaps;
@@ -47,15 +47,15 @@ pub(crate) struct Earlier<'a> {
         unit boxes.now most keys.now sorted.now },
 }
 
-// Whether a box strictly overlaps none of the boxes of a stretch of the kept stations.
-fn is_free(wanted: Box, boxes: &[f64], sorted: &[u32], stretch: Stretch) -> bool
-    requires stretch_inside { stretch.end ≤ length sorted.now }
-    requires boxes_inside { All (λ s. 4 * s + 3 < length boxes.now) (take stretch.end sorted.now) }
+// Whether a box strictly overlaps none of the boxes of a tested part of the kept stations.
+fn is_free(wanted: Box, boxes: &[f64], sorted: &[u32], part: TestedPart) -> bool
+    requires part_inside { part.end ≤ length sorted.now }
+    requires boxes_inside { All (λ s. 4 * s + 3 < length boxes.now) (take part.end sorted.now) }
     ensures { result
-        ≡ free wanted (boxes_among boxes.now stretch.first stretch.end sorted.now) }
+        ≡ free wanted (boxes_among boxes.now part.first part.end sorted.now) }
 {
-    let end = stretch.end;
-    for j in stretch.first..end {
+    let end = part.end;
+    for j in part.first..end {
         if overlaps(wanted, box_at(boxes, sorted[j] as usize)) {
             return false;
         }
@@ -63,9 +63,9 @@ fn is_free(wanted: Box, boxes: &[f64], sorted: &[u32], stretch: Stretch) -> bool
     true
 }
 
-/// The box of these half sides at a place.
+// The box of these half sides at a place.
 #[tactic(auto, unfolding(crate::specs::Search::box_on))]
-pub fn box_on(centre: Point, half_width: f64, half_height: f64) -> Box
+pub(crate) fn box_on(centre: Point, half_width: f64, half_height: f64) -> Box
     ensures { result ≡ box_on centre (half half_width half_height) }
 {
     Box {
@@ -79,7 +79,7 @@ pub fn box_on(centre: Point, half_width: f64, half_height: f64) -> Box
 // That box with its buffer.
 #[tactic(auto, unfolding(crate::specs::Search::buffered))]
 fn buffered(centre: Point, outline: Outline) -> Box
-    ensures { result ≡ buffered centre (frame_of outline) }
+    ensures { result ≡ buffered centre (half_sides_of outline) }
 {
     let g = outline.block * outline.buffer;
     Box {
@@ -130,11 +130,11 @@ fn first_free(
     earlier: &Earlier<'_>,
 ) -> Option<Point>
     ensures { result
-        ≡ first_free seed (frame_of outline)
+        ≡ first_free seed (half_sides_of outline)
         (kept_boxes earlier.now.boxes.now earlier.now.sorted.now) widening
         (skipped tried.now.search tried.now.pairs.now) }
 {
-    // the stretch of each column; its end is 0 where none is known yet
+    // the tested part of each column; its end is 0 where none is known yet
     let mut firsts = [0; 41];
     let mut ends = [0; 41];
     for j in 0..tried.pairs.len() {
@@ -143,11 +143,11 @@ fn first_free(
             let c = place(seed, outline.w, outline.h, widening, o);
             let p = buffered(c, outline);
             let i = column(o);
-            let known = Stretch {
+            let known = TestedPart {
                 first: firsts[i],
                 end: ends[i],
             };
-            let t = stretch_of(
+            let t = tested_part(
                 known,
                 earlier.unit,
                 p.left,
@@ -165,18 +165,23 @@ fn first_free(
     None
 }
 
-/// The first free place at widening 1, 2, 4, else the seed.
-pub fn place_for(seed: Point, outline: Outline, tried: &Tried<'_>, earlier: &Earlier<'_>) -> Point
+/// The first free place at widening 1, 2, 4, none where none is free.
+pub fn find_place(
+    seed: Point,
+    outline: Outline,
+    tried: &Tried<'_>,
+    earlier: &Earlier<'_>,
+) -> Option<Point>
     ensures { result
-        ≡ place_for seed (frame_of outline)
+        ≡ found_place seed (half_sides_of outline)
         (kept_boxes earlier.now.boxes.now earlier.now.sorted.now)
         (skipped tried.now.search tried.now.pairs.now) }
 {
     if let Some(c) = first_free(seed, outline, 1.0, tried, earlier) {
-        return c;
+        return Some(c);
     }
     if let Some(c) = first_free(seed, outline, 2.0, tried, earlier) {
-        return c;
+        return Some(c);
     }
-    first_free(seed, outline, 4.0, tried, earlier).unwrap_or(seed)
+    first_free(seed, outline, 4.0, tried, earlier)
 }

@@ -1,8 +1,13 @@
 //! The stages of a drawing, joined: interiors, then places.
-ghost use Rattle.std.specs.Prelude.{◌≡◌, ◌+◌, ◌*◌, ◌≤◌, length};
+ghost use Rattle.std.specs.Prelude.{◌≡◌, ◌+◌, ◌*◌, ◌≤◌, false, not, ◌&&◌, length};
 ghost use Rattle.network.specs.Words.{station_count, bus_counts};
 ghost use Rattle.network.specs.Views.{counts_in, points_in};
+ghost use Rattle.network.specs.Seed as Seed;
 ghost use Rattle.network.specs.Lent.{bus_total, branch_total};
+ghost use Rattle.offsets.specs.Offset.{offsets};
+ghost use Rattle.placement.specs.Turns.{placement_order};
+ghost use Rattle.placement.specs.Place.{all_find_free};
+ghost use Rattle.placement.specs.Stages.Views.{half_sides_listed};
 ghost use Rattle.placement.specs.Stages.Plan.{InteriorsOf, Settled};
 
 use crate::search::{place_by_table, station_boxes};
@@ -12,14 +17,15 @@ use network::options::Options;
 use network::seeds::seeds;
 use network::words::bus_counts;
 use stations::columns::columns;
-use stations::measures::{Measures, units};
+use stations::measures::{Measures, Typical, sizes_and_scales};
 use stations::rows::rows;
 use stations::sizes::Measured;
 
 /// The bus counts of the stations, their seeds, the buses' columns, the branches' rows, and the
-/// stations' sizes and scales. Answers the unit. The caller has counted the stations. `sorted`,
-/// `spare`, `keys`, `frames` and `path` are work lists.
-pub fn interiors(
+/// stations' sizes and scales: all that is the same at every fill. Answers what the unit follows
+/// from. The caller has counted the stations. `sorted`, `spare`, `keys`, `frames` and `path` are
+/// work lists.
+pub fn measure_stations(
     options: Options,
     net: &Bounded<'_>,
     station_total: usize,
@@ -33,7 +39,7 @@ pub fn interiors(
     blocks: &mut [f64],
     frames: &mut [f64],
     path: &mut [f64],
-) -> f64
+) -> Typical
     requires counted { station_total ≡ station_count net.now.lists.sub.now }
     requires kv_length { length net.now.lists.kv.now ≡ bus_total net.now.lists }
     requires at_most_buses { station_total ≤ bus_total net.now.lists }
@@ -50,8 +56,10 @@ pub fn interiors(
     requires blocks_room { 3 * station_total ≤ length blocks.old }
     requires frames_room { 4 * station_total ≤ length frames.old }
     requires path_room { 2 * station_total ≤ length path.old }
-    ensures { InteriorsOf options net.now.lists station_total result stations.new buses.new
-        ends.new places.new blocks.new }
+    ensures measured { InteriorsOf options net.now.lists station_total result stations.new
+        buses.new ends.new blocks.new }
+    ensures seeded { points_in station_total places.new
+        ≡ Seed.seeds net.now.lists.sub.now net.now.lists.xy.now }
 {
     bus_counts(net.lists.sub, station_total, stations);
     seeds(
@@ -85,7 +93,7 @@ pub fn interiors(
         sorted,
         spare,
     );
-    units(
+    sizes_and_scales(
         options,
         &Stations {
             k: station_total,
@@ -103,13 +111,15 @@ pub fn interiors(
 
 /// The places of the stations, from their seeds in `places`, and their boxes, in `frames`; the
 /// order of placement is left in every second number of `stations`, beside the bus counts.
-/// `blocks` has sizes and scales, three numbers of each station. `sorted`, `spare` and `keys` are
-/// work lists.
-pub fn settle(
+/// Answers whether each station found a free place. With `only_free` it gives up at the first that
+/// finds none; `places` and `frames` then hold no drawing. `blocks` has sizes and scales, three
+/// numbers of each station. `sorted`, `spare` and `keys` are work lists.
+pub fn place_stations(
     lent: &Buses<'_>,
     station_total: usize,
     measures: Measures,
     search: usize,
+    only_free: bool,
     stations: &mut [u32],
     sorted: &mut [u32],
     spare: &mut [u32],
@@ -117,7 +127,7 @@ pub fn settle(
     blocks: &[f64],
     places: &mut [f64],
     frames: &mut [f64],
-)
+) -> bool
     requires search_fits { search ≤ 20 }
     requires few_stations { station_total ≤ 4096 }
     requires bus_counts { counts_in station_total stations.old ≡ bus_counts lent.now.sub.now }
@@ -128,7 +138,13 @@ pub fn settle(
     requires blocks_room { 3 * station_total ≤ length blocks.now }
     requires places_room { 2 * station_total ≤ length places.old }
     requires frames_room { 4 * station_total ≤ length frames.old }
-    ensures { Settled lent.now.sub.now lent.now.kv.now station_total measures search blocks.now
+    ensures counts { counts_in station_total stations.new ≡ bus_counts lent.now.sub.now }
+    ensures free { result
+        ≡ all_find_free (half_sides_listed measures station_total blocks.now) (offsets search)
+        (points_in station_total places.old)
+        (placement_order lent.now.sub.now lent.now.kv.now (bus_counts lent.now.sub.now)) }
+    ensures settled { only_free && not result ≡ false
+        → Settled lent.now.sub.now lent.now.kv.now station_total measures search blocks.now
         (points_in station_total places.old) stations.new places.new frames.new }
 {
     let r = placement_order(lent, station_total, stations, keys, sorted, spare);
@@ -137,6 +153,9 @@ pub fn settle(
         counts: stations,
         blocks,
     };
-    place_by_table(&measured, r, measures, search, places, frames, keys, sorted);
+    let all_free = place_by_table(
+        &measured, r, measures, search, only_free, places, frames, keys, sorted,
+    );
     station_boxes(&measured, measures, places, frames);
+    all_free
 }

@@ -1,5 +1,5 @@
-//! Refusal 8: whether the occupied stations' boxes are all of size 0, or one lies too far out for
-//! its size (docs/RULES.md, 'Refusals').
+//! Refusal 8: whether the greatest side of the occupied stations' boxes is 0, or an edge of one of
+//! them is above 2^40 times that side in magnitude (docs/RULES.md, 'Refusals').
 ghost use Rattle.std.specs.Prelude.{◌≡◌, ◌+◌, ◌*◌, ◌≤◌, ◌<◌, ltb, length};
 ghost use Rattle.numbers.specs.Ops.{f0};
 ghost use Rattle.network.specs.Words.{occupied};
@@ -13,12 +13,12 @@ use numbers::float::small::{abs, max};
 use plane::geometry::{Box, box_at};
 
 // The largest of a side and a box's two sides.
-fn larger_side(side: f64, frame: Box) -> f64
-    ensures { result ≡ larger_side side frame }
+fn larger_side(side: f64, outer: Box) -> f64
+    ensures { result ≡ larger_side side outer }
 {
     max(
-        max(side, frame.right - frame.left),
-        frame.bottom - frame.top,
+        max(side, outer.right - outer.left),
+        outer.bottom - outer.top,
     )
 }
 
@@ -47,13 +47,13 @@ pub fn sized(side: f64, coordinate: f64) -> bool
 
 // Whether each coordinate of a box's corners, divided by the largest side, is at most 2^40 in size.
 #[tactic(auto, unfolding(crate::specs::Sized::sized_box))]
-fn sized_box(side: f64, frame: Box) -> bool
-    ensures { result ≡ sized_box side frame }
+fn sized_box(side: f64, outer: Box) -> bool
+    ensures { result ≡ sized_box side outer }
 {
-    sized(side, frame.left)
-        && sized(side, frame.top)
-        && sized(side, frame.right)
-        && sized(side, frame.bottom)
+    sized(side, outer.left)
+        && sized(side, outer.top)
+        && sized(side, outer.right)
+        && sized(side, outer.bottom)
 }
 
 // Whether that holds of all occupied stations' boxes.

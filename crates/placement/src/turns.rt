@@ -78,9 +78,9 @@ fn put_order(sorted: &[u32], stations: &mut [u32])
     }
 }
 
-/// The order of placement, in every second number of `stations`, beside the bus counts; and how
-/// many stations are placed. `keys`, `sorted` and `spare` are work lists.
-pub fn placement_order(
+// The order of placement, in every second number of `stations`, beside the bus counts; and how
+// many stations are placed. `keys`, `sorted` and `spare` are work lists.
+pub(crate) fn placement_order(
     lent: &Buses<'_>,
     station_total: usize,
     stations: &mut [u32],

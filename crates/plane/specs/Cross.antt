@@ -37,6 +37,6 @@ param p q u w =
     cond (parallel denom r s) Parallel (At (clamp_of t f0 f1))
 
 -- the value of each case: the place itself, another where the lines are parallel
-unfoldable pub place_or : Param → Float → Float
-place_or (At t) other = t
-place_or Parallel other = other
+unfoldable pub fraction_or : Param → Float → Float
+fraction_or (At t) other = t
+fraction_or Parallel other = other

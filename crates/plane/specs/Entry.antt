@@ -1,4 +1,4 @@
--- The clip test with its place: where a piece enters a box, or a miss (docs/RULES.md, 'Where a piece enters a box').
+-- The clip test with its entry: where a piece enters a box, or a miss (docs/RULES.md, 'Where a piece enters a box').
 -- Definitions only.
 use Rattle.std.specs.Prelude.{cond, Float, Option, option_map}
 use Rattle.std.specs.Float.Ieee.{lt}
@@ -21,5 +21,5 @@ along_side low high start d t =
     (cond (lt d f0) (max_of t ((high ⊖ start) ⊘ d)) t)
 
 -- the largest of 0 and these in both directions
-unfoldable pub place_of : Point → Point → Box → Float
-place_of p q b = along_side b.top b.bottom p.y (q.y ⊖ p.y) (along_side b.left b.right p.x (q.x ⊖ p.x) f0)
+unfoldable pub entry_of : Point → Point → Box → Float
+entry_of p q b = along_side b.top b.bottom p.y (q.y ⊖ p.y) (along_side b.left b.right p.x (q.x ⊖ p.x) f0)

@@ -40,14 +40,14 @@ nearest ps n i = nearest_to ps i n
 -- point j is another than i and at most so far away
 unfoldable pub near : List Float → Float → ℕ → ℕ → Bool
 unfolding distance
-near ps reach i j = not (eqb j i) && le (distance (point_at ps i) (point_at ps j)) reach
+near ps radius i j = not (eqb j i) && le (distance (point_at ps i) (point_at ps j)) radius
 
 -- how many of the first n points are near point i
 unfoldable pub within : List Float → ℕ → Float → ℕ → ℕ
 unfolding near
-within ps n reach i = how_many (near ps reach i) n
+within ps n radius i = how_many (near ps radius i) n
 
--- none where the reach is 0, negative or a NaN
+-- none where the radius is 0, negative or a NaN
 unfoldable pub neighbours : List Float → ℕ → Float → ℕ → ℕ
 unfolding within
-neighbours ps n reach i = pick (lt f0 reach) (within ps n reach i) 0
+neighbours ps n radius i = pick (lt f0 radius) (within ps n radius i) 0

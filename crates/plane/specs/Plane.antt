@@ -34,9 +34,9 @@ abbrev pub box_in : List Box → ℕ → Box
 box_in bs s = get_or bs s no_box
 
 -- 1e-9
-abbrev pub edge : Float
-edge = of_bits binary64 0x3E11_2E0B_E826_D695
+abbrev pub shrinking : Float
+shrinking = of_bits binary64 0x3E11_2E0B_E826_D695
 
 -- a box with its sides moved in by 1e-9
 abbrev pub shrunk : Box → Box
-shrunk b = record { left = b.left ⊕ edge; top = b.top ⊕ edge; right = b.right ⊖ edge; bottom = b.bottom ⊖ edge }
+shrunk b = record { left = b.left ⊕ shrinking; top = b.top ⊕ shrinking; right = b.right ⊖ shrinking; bottom = b.bottom ⊖ shrinking }

@@ -28,8 +28,8 @@ fn number_key(number: f64) -> u64
     4503599627370496
 }
 
-/// The cell of an edge as it is stored: the floor of edge / unit, held to ±2^52, or 0 where the
-/// unit is 0; plus 2^52.
+/// The cell of an edge as it is stored, plus 2^52: the floor of edge / unit, held to ±2^52; 0 where
+/// the unit isn't above 0, and where the quotient is a NaN.
 #[tactic(auto, using(crate::proofs::cells::CellCode::cell_laws))]
 pub fn cell_key(unit: f64, edge: f64) -> u64
     ensures { result ≡ cell_key unit edge }

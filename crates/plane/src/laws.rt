@@ -1,15 +1,15 @@
 //! Laws of pieces and boxes. A function here does nothing: its contract is the law.
-ghost use Rattle.plane.specs.Laws.{EntersWhatItHits, EntersAtPlace, StretchAsStored};
+ghost use Rattle.plane.specs.Laws.{EntersWhatItHits, EntersAtEntry, TestedPartAsStored};
 
-/// A piece enters a box just where the clip test hits it, and at the place that the rule names
+/// A piece enters a box just where the clip test hits it, and with the entry that the rule names
 /// (docs/RULES.md, 'Where a piece enters a box').
 pub fn entries()
     ensures hit { EntersWhatItHits }
-    ensures place { EntersAtPlace }
+    ensures entry { EntersAtEntry }
 {}
 
-/// Cells in signs and cells as they are stored give one stretch
+/// Cells in signs and cells as they are stored give one tested part
 /// (docs/RULES.md, 'Boxes in cell order').
-pub fn stretches()
-    ensures { StretchAsStored }
+pub fn tested_parts()
+    ensures { TestedPartAsStored }
 {}

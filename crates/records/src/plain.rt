@@ -1,10 +1,11 @@
 // Options and answers as structs of plain numbers, laid out as in C.
 ghost use Rattle.std.specs.Prelude.{◌≡◌};
-ghost use Rattle.records.specs.Plain.{options_of, plotted, audited};
+ghost use Rattle.records.specs.Plain.{options_of, plotted, filled, audited};
 
 use audit::findings::answer::Figures;
 use drawing::answer::Plot;
-use network::options::{Gaps, Options};
+use fill::answer::Largest;
+use network::options::{BlockOptions, Options};
 use network::refusals::Refusal;
 
 /// The options of a drawing (docs/RULES.md, 'Options'), `tansygate_settings` of the header.
@@ -55,6 +56,26 @@ pub struct Plotted {
     pub bottom: f64,
 }
 
+/// The answer of the largest fill: number 0 with the fill, and the unit, the bounds and the count of
+/// pieces of its drawing, or a refusal's number and zeros.
+#[repr(C)]
+#[derive(Clone, Copy)]
+pub struct Filled {
+    /// 0, or a refusal's number (docs/RULES.md, 'Refusals').
+    pub number: u32,
+    /// The fill, in sixty-fourths.
+    pub sixty_fourths: u32,
+    /// So many pieces stand in the lent piece lists.
+    pub pieces: usize,
+    /// Drawing units a block.
+    pub unit: f64,
+    /// The bounds, as the three below.
+    pub left: f64,
+    pub top: f64,
+    pub right: f64,
+    pub bottom: f64,
+}
+
 /// An audit's answer: number 0 with the four counts, or a refusal's number and zeros.
 #[repr(C)]
 #[derive(Clone, Copy)]
@@ -86,7 +107,7 @@ impl From<Settings> for Options {
             tier_scale_2: settings.tier_scale_2,
             search: settings.search,
             route_iterations: settings.route_iterations,
-            gaps: Gaps {
+            block_options: BlockOptions {
                 bar_gap: settings.bar_gap,
                 pad: settings.pad,
                 min_bar: settings.min_bar,
@@ -114,6 +135,37 @@ impl From<Result<Plot, Refusal>> for Plotted {
             },
             Err(r) => Plotted {
                 number: r.number(),
+                pieces: 0,
+                unit: 0.0,
+                left: 0.0,
+                top: 0.0,
+                right: 0.0,
+                bottom: 0.0,
+            },
+        }
+    }
+}
+
+// The answer of the largest fill as numbers.
+impl From<Result<Largest, Refusal>> for Filled {
+    ghost from_gives = { λ a p. p ≡ filled a };
+
+    #[tactic(auto, unfolding(crate::specs::Plain::filled))]
+    fn from(answer: Result<Largest, Refusal>) -> Filled {
+        match answer {
+            Ok(l) => Filled {
+                number: 0,
+                sixty_fourths: l.sixty_fourths,
+                pieces: l.plot.pieces,
+                unit: l.plot.unit,
+                left: l.plot.bounds.left,
+                top: l.plot.bounds.top,
+                right: l.plot.bounds.right,
+                bottom: l.plot.bounds.bottom,
+            },
+            Err(r) => Filled {
+                number: r.number(),
+                sixty_fourths: 0,
                 pieces: 0,
                 unit: 0.0,
                 left: 0.0,

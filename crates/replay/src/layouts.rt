@@ -1,23 +1,35 @@
-// A stored layout call, made again and compared (docs/RULES.md, 'Stored calls').
+// A stored call of layout or of the largest fill, made again and compared (docs/RULES.md, 'Stored
+// calls').
 //
 // Its words, by number:
-//   0 fill, radius, two tier counts, two tier scales, search, iterations; the gaps are the default
-//   8 lengths of sub, kv, from, to, service, xy, corners, twins
+//   0 fill, radius, two tier counts, two tier scales, search, iterations; the block options are the
+// default   8 lengths of sub, kv, from, to, service, xy, corners, twins
 //   16 lent lengths of positions, bars, boxes, scales, roles, pieces, branches, the crossing list,
 //      stations
 //   25 the answer's number
 //   26 how many buses, branches, half-edges, stations and pieces follow
 //   31 unit, bounds
-//   36 buses, branches, half-edges; positions, bars, boxes, scales, roles, pieces
+//   36 of the largest fill: the fill in sixty-fourths
+//   36 (37) buses, branches, half-edges; positions, bars, boxes, scales, roles, pieces
+use crate::fills::largest_small;
 use crate::lists::{fill_branches, fill_buses, fill_mesh, floats_same, pieces_same, roles_same};
 use crate::words::{Words, lent, same, search_at, u32_at};
 use drawing::answer::Plot;
+use fill::answer::Largest;
 use lent::Lists;
 use network::lists::Network;
 use network::mesh::Mesh;
 use network::options::Options;
+use network::refusals::Refusal;
 use small::draw::draw_small;
 use text::stored::{float_at, length_at};
+
+// Which call a line stores.
+#[derive(Clone, Copy)]
+pub(crate) enum Call {
+    Layout,
+    LargestFill,
+}
 
 // The options of words 0 to 7.
 fn options(words: &[u64]) -> Options {
@@ -68,9 +80,39 @@ fn lists_same(
         && pieces_same(pieces, &branches[..length_at(words, 30, 256)], &mut left)
 }
 
+// The call made again; a layout call has no fill.
+fn answer(
+    call: Call,
+    drawn: &mut Lists<'_>,
+    words: &[u64; 1024],
+    network: &Network<'_>,
+) -> Result<Largest, Refusal> {
+    let options = options(words);
+    let stations = length_at(words, 24, 128);
+    let crossings = length_at(words, 23, 128);
+    match call {
+        Call::Layout => {
+            let plot = draw_small(drawn, options, stations, crossings, network)?;
+            Ok(Largest {
+                sixty_fourths: 0,
+                plot,
+            })
+        }
+        Call::LargestFill => largest_small(drawn, options, stations, crossings, network),
+    }
+}
+
+// Whether the fill is that of word 36, where a line stores one.
+fn fill_same(call: Call, sixty_fourths: u32, words: &[u64; 1024]) -> bool {
+    match call {
+        Call::Layout => true,
+        Call::LargestFill => u64::from(sixty_fourths) == words[36],
+    }
+}
+
 // Draws the network in the lengths of words 16 to 24; whether all is as stored, the lists in the
 // words that are left.
-fn drawn_agrees(words: &[u64; 1024], left: Words, network: &Network<'_>) -> bool {
+fn drawn_agrees(call: Call, words: &[u64; 1024], left: Words, network: &Network<'_>) -> bool {
     let mut positions = [0.0; 32];
     let mut bars = [0.0; 64];
     let mut boxes = [0.0; 64];
@@ -87,14 +129,9 @@ fn drawn_agrees(words: &[u64; 1024], left: Words, network: &Network<'_>) -> bool
         pieces: &mut pieces[..length_at(words, 21, 1024)],
         branches: &mut branches[..length_at(words, 22, 256)],
     };
-    match draw_small(
-        &mut drawn,
-        options(words),
-        length_at(words, 24, 128),
-        length_at(words, 23, 128),
-        network,
-    ) {
-        Ok(p) => plot_same(p, words)
+    match answer(call, &mut drawn, words, network) {
+        Ok(l) => plot_same(l.plot, words)
+            && fill_same(call, l.sixty_fourths, words)
             && lists_same(
                 words, left, &positions, &bars, &boxes, &scales, &roles, &pieces, &branches,
             ),
@@ -103,7 +140,7 @@ fn drawn_agrees(words: &[u64; 1024], left: Words, network: &Network<'_>) -> bool
 }
 
 // Lends the lists in the lengths of words 8 to 15.
-pub(crate) fn agrees(words: &[u64; 1024]) -> bool {
+pub(crate) fn agrees(call: Call, words: &[u64; 1024]) -> bool {
     let mut sub = [0; 4097];
     let mut kv = [0; 32];
     let mut from = [0; 8193];
@@ -112,7 +149,10 @@ pub(crate) fn agrees(words: &[u64; 1024]) -> bool {
     let mut xy = [0.0; 64];
     let mut corners = [0; 64];
     let mut twins = [0; 64];
-    let mut left = Words(&words[36..]);
+    let mut left = match call {
+        Call::Layout => Words(&words[36..]),
+        Call::LargestFill => Words(&words[37..]),
+    };
     fill_buses(
         &mut left,
         length_at(words, 26, 64),
@@ -146,5 +186,5 @@ pub(crate) fn agrees(words: &[u64; 1024]) -> bool {
         xy: lent(&xy, words, 13),
         mesh,
     };
-    drawn_agrees(words, left, &network)
+    drawn_agrees(call, words, left, &network)
 }

@@ -9,4 +9,4 @@ pub mod buses;
 pub mod lists;
 pub(crate) mod pieces;
 /// The pieces of all runs: counted, then written.
-pub mod survey;
+pub mod piece_list;

@@ -83,7 +83,7 @@ fn put_pieces(
 
 /// Counts a branch's pieces through the first `count` points of a path from number `first` on,
 /// writes them if it is to write, and answers the number after the last.
-pub(crate) fn tally(
+pub(crate) fn count_or_write(
     write: bool,
     first: usize,
     branch: usize,

@@ -1,5 +1,6 @@
 pub mod Route
-pub mod Gap
+pub mod Clearance
 pub mod Cases
+pub mod Laws
 pub mod Routes
 pub mod Stages

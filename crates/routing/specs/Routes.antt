@@ -4,7 +4,7 @@ use Rattle.network.specs.declared.refusals.Refusal.{Refusal}
 use Rattle.network.specs.declared.refusals.Refusal.TheVariants as Refusals
 use Rattle.network.specs.Refusal.{refuse}
 use Rattle.network.specs.Mesh.{mesh_ok}
-use Rattle.routing.specs.Route.{Scene, routing, rounds_to}
+use Rattle.routing.specs.Route.{MeshScene, routing, rounds_to}
 
 -- The mesh is looked at only with three occupied stations or more and at least one iteration.
 unfoldable pub mesh_used : ℕ → ℕ → Bool
@@ -15,7 +15,7 @@ unfoldable pub mesh_fits : List ℕ → List ℕ → ℕ → ℕ → Bool
 mesh_fits corners twins stations iterations = not (mesh_used stations iterations) || mesh_ok corners twins stations
 
 -- the places of a scene's crossings after the iterations
-unfoldable pub crossings_of : Scene → ℕ → List Float
+unfoldable pub crossings_of : MeshScene → ℕ → List Float
 crossings_of S iterations = rounds_to S (routing S) iterations
 
 -- 9 or 10, none where neither applies, where the crossing list holds so many

@@ -1,8 +1,8 @@
 // Channels and crossings of one line through the mesh, stored in lent lists.
-pub(crate) mod corners;
+pub(crate) mod vertices;
 /// The crossings of one walk, stored one after another.
 pub mod crossings;
-pub(crate) mod edge_channels;
-/// The gap between lines.
-pub mod gap;
-pub(crate) mod ways;
+pub(crate) mod half_edge_channels;
+/// The clearance.
+pub mod clearance;
+pub(crate) mod line_vertices;

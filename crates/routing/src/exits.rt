@@ -15,9 +15,9 @@ use runs::run::{box_at, exit_of};
 use stations::bars::{Interior, row_y};
 use stations::measures::Measures;
 
-/// The two exits of a line: from its first station's box and from its second's.
+// The two exits of a line: from its first station's box and from its second's.
 #[derive(Clone, Copy)]
-pub struct Exits {
+pub(crate) struct Exits {
     pub first: Point,
     pub second: Point,
 }
@@ -39,8 +39,8 @@ fn exit_at(
 {
     let y = row_y(
         Interior {
-            gaps: measures.gaps,
-            frame: box_at(frames, station),
+            block_options: measures.block_options,
+            outer: box_at(frames, station),
             block: measures.unit * number_at(blocks, 3 * station + 2),
         },
         row,

@@ -6,6 +6,8 @@
 pub mod crossings;
 /// The exits of lines from their stations' boxes.
 pub mod exits;
+/// Laws of crossings.
+pub mod laws;
 /// The rounds of spacing.
 pub mod rounds;
 /// All lines routed through the mesh.

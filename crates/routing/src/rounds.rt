@@ -3,22 +3,20 @@
 pub(crate) mod space;
 
 ghost use Rattle.std.specs.Prelude.{◌≡◌, ◌+◌, ◌*◌, ◌^◌, ◌≤◌, ◌<◌, length};
-ghost use Rattle.numbers.specs.Table.{table};
 ghost use Rattle.network.specs.Views.{points_in};
-ghost use Rattle.routing.specs.Route.{point_of, rounds_to, routing};
 ghost use Rattle.routing.specs.Stages.RoundLists.{Entered};
-ghost use Rattle.routing.specs.Stages.Lent.{grid_among, scene_among, SameEnds};
+ghost use Rattle.routing.specs.Stages.Lent.{grid_among, scene_among, spaced_points, SameEnds};
 
-use crate::crossings::corners::Vertices;
-use crate::rounds::space::{Stretches, put_points, rounds, write_ranges};
+use crate::crossings::vertices::Vertices;
+use crate::rounds::space::{RoundInput, put_points, rounds, write_channels};
 use crate::surroundings::Surroundings;
-use crate::tracing::lines::Counts;
+use crate::tracing::lines::TraceCounts;
 use crate::wishes::fixed::{Crossed, Fixed};
 use channels::grouping::group;
 use network::lists::Bounded;
 
 /// Spaces all crossings of the routing that the lists hold, so many rounds, and puts their points
-/// into `ways`. The channels' ranges are written behind the mesh's points in `centres`; `sorted`,
+/// into `ways`. The channels are written behind the mesh's points in `centres`; `sorted`,
 /// `spare` and `keys` are work lists.
 pub(crate) fn space_all_rounds<'a>(
     network: &Bounded<'a>,
@@ -26,7 +24,7 @@ pub(crate) fn space_all_rounds<'a>(
     vertices: &Vertices<'_>,
     ends: &mut [u32],
     centres: &mut [f64],
-    counts: Counts,
+    counts: TraceCounts,
     numbers: &mut [u32],
     along: &mut [f64],
     ways: &mut [f64],
@@ -51,16 +49,9 @@ pub(crate) fn space_all_rounds<'a>(
         network.now.lists.mesh.twins.now
         numbers.old along.old counts.channels counts.crossings }
     ensures ways_after { points_in counts.crossings ways.new
-        ≡ table (point_of
-        (scene_among network.now.lists surroundings.now vertices.now.c vertices.now.stations.now
-        ends.old centres.old)
-        (routing (scene_among network.now.lists surroundings.now vertices.now.c vertices.now.stations.now
-        ends.old centres.old))
-        (rounds_to
-        (scene_among network.now.lists surroundings.now vertices.now.c vertices.now.stations.now
-        ends.old centres.old)
-        (routing (scene_among network.now.lists surroundings.now vertices.now.c vertices.now.stations.now
-        ends.old centres.old)) surroundings.now.iterations)) counts.crossings }
+        ≡ spaced_points (scene_among network.now.lists surroundings.now vertices.now.c
+        vertices.now.stations.now ends.old centres.old) surroundings.now.iterations
+        counts.crossings }
     ensures ends_unchanged { SameEnds (length network.now.lists.from.now)
         ends.old ends.new }
 {
@@ -74,7 +65,7 @@ pub(crate) fn space_all_rounds<'a>(
         spare,
         &mut keys[..counts.crossings],
     );
-    write_ranges(
+    write_channels(
         m,
         surroundings.measures.unit,
         ends,
@@ -98,14 +89,14 @@ pub(crate) fn space_all_rounds<'a>(
         base: network.lists.sub.len(),
         places: surroundings.places,
     };
-    let stretches = Stretches {
+    let input = RoundInput {
         fixed,
         occupied: vertices.c,
         channels: counts.channels,
         most: counts.crossings,
     };
     rounds(
-        &stretches,
+        &input,
         surroundings.iterations,
         along,
         ways,

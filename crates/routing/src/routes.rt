@@ -10,10 +10,10 @@ ghost use Rattle.routing.specs.Stages.Led.{Led};
 ghost use Rattle.routing.specs.Stages.Lent.{grid_among, scene_among, half_edges};
 ghost use Rattle.routing.specs.Stages.Lent.{HoldsCrossings, HoldsHalfEdges};
 
-use crate::crossings::corners::{Vertices, occupied_corners};
+use crate::crossings::vertices::{Vertices, occupied_vertices};
 use crate::rounds::space_all_rounds;
 use crate::surroundings::Surroundings;
-use crate::tracing::routes::{clear_paths, trace_all};
+use crate::tracing::routes::{clear_walks, trace_all};
 use network::lists::Bounded;
 use network::mesh::mesh_ok;
 use network::refusals::Refusal;
@@ -27,7 +27,7 @@ fn mesh_used(stations: usize, iterations: u32) -> bool
 }
 
 // Routes the lines through the mesh over the occupied stations, whose places are at the front of
-// `path`; the channels' ranges are written behind them.
+// `path`; the channels are written behind them.
 #[tactic(auto, using(crate::proofs::routes::Leading::mesh_room))]
 fn route_used(
     room: usize,
@@ -103,7 +103,9 @@ fn route_used(
 /// lines' exits stand behind the stations' places, as `write_exits` puts them. The occupied
 /// stations become the second of two numbers each of `stations`; a branch's last two numbers of
 /// `ends` become its first waypoint in `ways` and how many it has. `numbers` and `along` hold
-/// `room` crossings; `sorted`, `spare`, `keys` and `path` are work lists.
+/// `room` crossings; `sorted`, `spare`, `keys` and `path` are work lists. Of what these six hold
+/// afterwards nothing is said: the steps that follow read the waypoints in `ways`, and the call
+/// clears the six when it ends.
 ///
 /// Refusal 9 where the mesh doesn't pass its test, refusal 10 where there are more crossings than
 /// `room`.
@@ -141,14 +143,14 @@ pub fn route_lines(
         network.now.lists.mesh.twins.now
         surroundings.now.iterations room (result_err result) stations.new ends.new ways.new }
 {
-    let c = occupied_corners(
+    let c = occupied_vertices(
         surroundings.station_count,
         stations,
         surroundings.places,
         path,
     );
     if !mesh_used(c, surroundings.iterations) {
-        clear_paths(network.lists.from.len(), ends);
+        clear_walks(network.lists.from.len(), ends);
         return Ok(());
     }
     let vertices = Vertices { c, stations };

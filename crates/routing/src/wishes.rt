@@ -3,7 +3,7 @@
 pub(crate) mod fixed;
 
 ghost use Rattle.std.specs.Prelude.{◌≡◌, ◌+◌, ◌-◌, ◌*◌, ◌^◌, ◌≤◌, ◌<◌};
-ghost use Rattle.routing.specs.Stages.RoundLists.{edge_in, low_in, high_in, between};
+ghost use Rattle.routing.specs.Stages.RoundLists.{half_edge_in, low_in, high_in, between};
 ghost use Rattle.routing.specs.Stages.RoundLists.{before_in, behind_in, wish_in};
 ghost use Rattle.routing.specs.Stages.Lent.{fixed_lists, crossing_point};
 
@@ -15,29 +15,29 @@ use plane::geometry::{Point, number_at, point_at};
 use runs::run::{first_exit, second_exit};
 
 /// A half-edge of a channel.
-#[tactic(auto, unfolding(crate::specs::Stages::RoundLists::edge_in))]
+#[tactic(auto, unfolding(crate::specs::Stages::RoundLists::half_edge_in))]
 pub(crate) fn edge_of(branch_count: usize, ends: &[u32], channel: usize) -> u32
     requires few_branches { branch_count ≤ 2 ^ 32 }
     requires few_channels { channel < 2 ^ 32 }
-    ensures { result ≡ edge_in branch_count ends.now channel }
+    ensures { result ≡ half_edge_in branch_count ends.now channel }
 {
     at(ends, 4 * (branch_count + channel) + 2)
 }
 
-// The place of the lower corner of a half-edge.
+// The place of the lower vertex of a half-edge.
 #[tactic(auto, unfolding(crate::specs::Stages::RoundLists::low_in))]
-fn low_of(corners: &[u32], centres: &[f64], edge: u32) -> Point
-    ensures { result ≡ low_in corners.now centres.now edge }
+fn low_of(corners: &[u32], centres: &[f64], half_edge: u32) -> Point
+    ensures { result ≡ low_in corners.now centres.now half_edge }
 {
-    point_at(centres, low_at(corners, edge) as usize)
+    point_at(centres, low_at(corners, half_edge) as usize)
 }
 
-// The place of the higher corner of a half-edge.
+// The place of the higher vertex of a half-edge.
 #[tactic(auto, unfolding(crate::specs::Stages::RoundLists::high_in))]
-fn high_of(corners: &[u32], centres: &[f64], edge: u32) -> Point
-    ensures { result ≡ high_in corners.now centres.now edge }
+fn high_of(corners: &[u32], centres: &[f64], half_edge: u32) -> Point
+    ensures { result ≡ high_in corners.now centres.now half_edge }
 {
-    point_at(centres, high_at(corners, edge) as usize)
+    point_at(centres, high_at(corners, half_edge) as usize)
 }
 
 // The point `part` of the way from one point to another.
@@ -92,9 +92,9 @@ fn behind_of(fixed: &Fixed<'_>, along: &[f64], branch: u32, past: usize, crossin
 }
 
 /// Where a crossing wishes to be on its channel: where the line through the points before and
-/// behind it crosses that; a cleared path's crossing, and one whose line is parallel to its
-/// channel, wishes for its place (docs/RULES.md, 'Wishes').
-#[tactic(auto, unfolding(crate::specs::Stages::RoundLists::wish_in, plane::specs::Cross::place_or))]
+/// behind it crosses that; a cleared walk's crossing, and one whose line is parallel to its
+/// channel, wishes for its fraction (docs/RULES.md, 'Wishes').
+#[tactic(auto, unfolding(crate::specs::Stages::RoundLists::wish_in, plane::specs::Cross::fraction_or))]
 pub(crate) fn wish_of(fixed: &Fixed<'_>, along: &[f64], crossing: u32) -> f64
     ensures { result ≡ wish_in (fixed_lists fixed.now) along.now crossing }
 {

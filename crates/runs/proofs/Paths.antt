@@ -23,7 +23,7 @@ use Rattle.boxes.proofs.detour.Detours.{length_detour, led_short}
 use Rattle.network.specs.declared.words.Kind.{Kind}
 use Rattle.network.specs.declared.words.Kind.TheVariants.{Undrawn, Open, Internal, Line}
 use Rattle.runs.specs.Run.{is_line}
-use Rattle.runs.specs.Stages.Views.{Lead, RunLists, lead, held, open_from, internal_from, led_in, led_run, line_from, run_from, way_of, way_count, run_in, other_run}
+use Rattle.runs.specs.Stages.Views.{Lead, RunLists, lead, held, open_from, internal_from, led_in, led_run, line_from, run_from, first_waypoint, waypoint_count, run_in, other_run}
 
 -- two points at the front of a list
 pub two_put : (l : List Float) (p q : Point) → 8 ≤ length l → points_in 2 (put_point (put_point l 0 p.x p.y) 1 q.x q.y) ≡ p ∷ q ∷ []
@@ -117,13 +117,13 @@ pub ends_count : (i r : ℕ) (q : Point) (l : List Float) → length (path_in i 
 ends_count i r q l = length-append (path_in i r l) (q ∷ []) ∙ ap (λ (n : ℕ). n + 1) (length_path i r l)
 
 -- a path led round boxes, and how many points it has then
-module _ (gap : Float) (k : ℕ) (stations : List ℕ) (frames : List Float) (s t r count : ℕ) (was now : List Float)
-    (L : Led 1 r (detour (boxes_in k frames) (occupied (counts_in k stations)) gap s t (path_in 1 count was)) was now) where
-  pub led_round : path_in 1 r now ≡ detour (boxes_in k frames) (occupied (counts_in k stations)) gap s t (path_in 1 count was)
+module _ (clearance : Float) (k : ℕ) (stations : List ℕ) (frames : List Float) (s t r count : ℕ) (was now : List Float)
+    (L : Led 1 r (detour (boxes_in k frames) (occupied (counts_in k stations)) clearance s t (path_in 1 count was)) was now) where
+  pub led_round : path_in 1 r now ≡ detour (boxes_in k frames) (occupied (counts_in k stations)) clearance s t (path_in 1 count was)
   led_round = L.path
 
   pub led_more : r ≤ count + 4
-  led_more = led_short (boxes_in k frames) (occupied (counts_in k stations)) gap s t 1 r count was now L
+  led_more = led_short (boxes_in k frames) (occupied (counts_in k stations)) clearance s t 1 r count was now L
 
 pub ruleset leads = (led_round, led_more)
 
@@ -136,11 +136,11 @@ other_is H e (Internal a b) = refl
 other_is H e (Line a b) = refl
 
 -- a run has at most eight points more than waypoints
-led_few : (led : Bool) (gap : Float) (k : ℕ) (stations : List ℕ) (frames : List Float) (s t : ℕ) (path : List Point)
-    → length (led_in led gap k stations frames s t path) ≤ 4 + length path
+led_few : (led : Bool) (clearance : Float) (k : ℕ) (stations : List ℕ) (frames : List Float) (s t : ℕ) (path : List Point)
+    → length (led_in led clearance k stations frames s t path) ≤ 4 + length path
 unfolding led_in
-led_few true gap k stations frames s t path = length_detour (boxes_in k frames) (occupied (counts_in k stations)) gap s t path
-led_few false gap k stations frames s t path = omega arith
+led_few true clearance k stations frames s t path = length_detour (boxes_in k frames) (occupied (counts_in k stations)) clearance s t path
+led_few false clearance k stations frames s t path = omega arith
 
 ends_few : (w n : ℕ) (ways : List Float) (p q x y : Point) (after : List Point) → length after ≤ 4 + length (x ∷ (path_in w n ways ++ (y ∷ [])))
     → length (p ∷ (after ++ (q ∷ []))) ≤ n + 8
@@ -150,17 +150,17 @@ pub line_few : (L : Lead) (frames : List Float) (s t w n : ℕ) (p q x y : Point
 unfolding led_run
 line_few L frames s t w n p q x y =
     let path : List Point = x ∷ (path_in w n L.ways ++ (y ∷ [])) in
-    ends_few w n L.ways p q x y (led_in L.led L.gap L.k L.stations frames s t path)
-    (led_few L.led L.gap L.k L.stations frames s t path)
+    ends_few w n L.ways p q x y (led_in L.led L.clearance L.k L.stations frames s t path)
+    (led_few L.led L.clearance L.k L.stations frames s t path)
 
-pub run_few : (H : RunLists) (e : ℕ) (K : Kind) → length (run_in H e K) ≤ way_count H.ends e + 8
+pub run_few : (H : RunLists) (e : ℕ) (K : Kind) → length (run_in H e K) ≤ waypoint_count H.ends e + 8
 unfolding run_in run_from open_from internal_from line_from
 run_few H e Undrawn = omega arith
 run_few H e (Open a b) = omega arith
 run_few H e (Internal a b) = omega arith
-run_few H e (Line a b) = line_few H.lead H.frames (station_of H.sub a) (station_of H.sub b) (way_of H.ends e) (way_count H.ends e) _ _ _ _
+run_few H e (Line a b) = line_few H.lead H.frames (station_of H.sub a) (station_of H.sub b) (first_waypoint H.ends e) (waypoint_count H.ends e) _ _ _ _
 
--- where lines aren't led, no gap is read
+-- where lines aren't led, no clearance is read
 module _ (sub : List ℕ) (M : Measures) (buses ends : List ℕ) (blocks places frames : List Float) (k : ℕ) (stations : List ℕ) (ways : List Float) (g h : Float) where
   pub run_unled : (e : ℕ) (K : Kind)
       → run_in (held sub M buses ends blocks places frames (lead false g k stations ways)) e K ≡ run_in (held sub M buses ends blocks places frames (lead false h k stations ways)) e K

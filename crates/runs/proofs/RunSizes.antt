@@ -26,7 +26,7 @@ use Rattle.stations.specs.declared.bars.Bar.{Bar}
 use Rattle.stations.specs.Bar.{block_at, bar_at, position}
 use Rattle.stations.specs.Exit.{exit}
 use Rattle.stations.proofs.bars.BarSizes.{Barred, position_near, row_end_near, exit_near}
-use Rattle.runs.specs.Run.{Scene, slot, led_path, line_points, run_for, run_of, runs}
+use Rattle.runs.specs.Run.{RunScene, row_end_at, led_path, line_points, run_for, run_of, runs}
 use Rattle.runs.specs.Finite.{all_of, finite_point, finite_box, finite_bar}
 
 -- ---- finite, by a bound
@@ -79,26 +79,26 @@ points_finite k [] h = refl
 points_finite k (p ∷ ps) h = both_true (finite_point p) (all_of finite_point ps) (near_finite k p h.0) (points_finite k ps h.1)
 
 -- ---- a scene whose parts have bounds
-pub record Bounded (k : ℕ) (S : Scene) : Type 0 where
+pub record Bounded (k : ℕ) (S : RunScene) : Type 0 where
   pub from_rows : (e : ℕ) → get_or S.from_rows e 0 ≤ 2 ^ 13
   pub to_rows : (e : ℕ) → get_or S.to_rows e 0 ≤ 2 ^ 13
-  pub gaps : Narrow S.gaps
+  pub block_options : Narrow S.block_options
   pub blocks : (s : ℕ) → AtMost (1074 + 46) (block_at S.blocks s)
   pub boxes : (s : ℕ) → Edges (1074 + 70) (box_in S.boxes s)
   pub bars : (i : ℕ) → Barred (1074 + 73) (bar_at S.bars i)
-  pub gap : AtMost (1074 + 46) S.gap
+  pub clearance : AtMost (1074 + 46) S.clearance
   pub ways : (e : ℕ) → Points k (get_or S.ways e [])
 
-pub slot_near : (S : Scene) (i row : ℕ) → row ≤ 2 ^ 13 → Narrow S.gaps → ((s : ℕ) → Edges (1074 + 70) (box_in S.boxes s)) → ((s : ℕ) → AtMost (1074 + 46) (block_at S.blocks s)) → ((i : ℕ) → Barred (1074 + 73) (bar_at S.bars i)) → Near (1074 + 73) (slot S i row)
-unfolding slot
-slot_near S i row l G B F R = row_end_near S.gaps G S.sub S.blocks S.boxes S.bars i row l (B (station_of S.sub i)) (F (station_of S.sub i)) (R i)
+pub row_end_at_near : (S : RunScene) (i row : ℕ) → row ≤ 2 ^ 13 → Narrow S.block_options → ((s : ℕ) → Edges (1074 + 70) (box_in S.boxes s)) → ((s : ℕ) → AtMost (1074 + 46) (block_at S.blocks s)) → ((i : ℕ) → Barred (1074 + 73) (bar_at S.bars i)) → Near (1074 + 73) (row_end_at S i row)
+unfolding row_end_at
+row_end_at_near S i row l G B F R = row_end_near S.block_options G S.sub S.blocks S.boxes S.bars i row l (B (station_of S.sub i)) (F (station_of S.sub i)) (R i)
 
-module _ (k : ℕ) (K : 1074 + 74 ≤ k) (L : k ≤ 2096) (S : Scene) (B : Bounded k S) where
+module _ (k : ℕ) (K : 1074 + 74 ≤ k) (L : k ≤ 2096) (S : RunScene) (B : Bounded k S) where
   wider : (p : Point) → Near (1074 + 73) p → Near k p
   wider p h = record { x = most_weaken (1074 + 73) k p.x (omega arith) h.x; y = most_weaken (1074 + 73) k p.y (omega arith) h.y }
 
-  slot_at : (i row : ℕ) → row ≤ 2 ^ 13 → Near k (slot S i row)
-  slot_at i row l = wider (slot S i row) (slot_near S i row l B.gaps B.boxes B.blocks B.bars)
+  row_end_point : (i row : ℕ) → row ≤ 2 ^ 13 → Near k (row_end_at S i row)
+  row_end_point i row l = wider (row_end_at S i row) (row_end_at_near S i row l B.block_options B.boxes B.blocks B.bars)
 
   position_at : (i : ℕ) → Near k (position (bar_at S.bars i))
   position_at i = wider (position (bar_at S.bars i)) (position_near (1074 + 73) (bar_at S.bars i) (lit≤ tt) (B.bars i))
@@ -107,8 +107,8 @@ module _ (k : ℕ) (K : 1074 + 74 ≤ k) (L : k ≤ 2096) (S : Scene) (B : Bound
   unfolding led_path
   led_near s t path h = go S.led
     where
-      go : (b : Bool) → Points k (cond b (detour S.boxes S.occupied S.gap s t path) path)
-      go true = detour_near k (omega arith) (omega arith) S.boxes S.occupied S.gap s t B.boxes B.gap path h
+      go : (b : Bool) → Points k (cond b (detour S.boxes S.occupied S.clearance s t path) path)
+      go true = detour_near k (omega arith) (omega arith) S.boxes S.occupied S.clearance s t B.boxes B.clearance path h
       go false = h
 
   line_near : (s t : ℕ) (via : List Point) (p q : Point) → Points k via → Near k p → Near k q → Points k (line_points S s t via p q)
@@ -124,10 +124,10 @@ module _ (k : ℕ) (K : 1074 + 74 ≤ k) (L : k ≤ 2096) (S : Scene) (B : Bound
   unfolding run_for
   for_near ra rb via Undrawn h i W = tt
   for_near ra rb via (Open a b) h i W = (position_at a, (position_at b, tt))
-  for_near ra rb via (Internal a b) h i W = (slot_at a ra h, (slot_at b rb i, tt))
-  for_near ra rb via (Line a b) h i W = line_near (station_of S.sub a) (station_of S.sub b) via (slot S a ra) (slot S b rb) W (slot_at a ra h) (slot_at b rb i)
+  for_near ra rb via (Internal a b) h i W = (row_end_point a ra h, (row_end_point b rb i, tt))
+  for_near ra rb via (Line a b) h i W = line_near (station_of S.sub a) (station_of S.sub b) via (row_end_at S a ra) (row_end_at S b rb) W (row_end_point a ra h) (row_end_point b rb i)
 
-  run_near : (e : ℕ) → Points k (run_of S e)
+  pub run_near : (e : ℕ) → Points k (run_of S e)
   unfolding run_of
   run_near e = for_near (get_or S.from_rows e 0) (get_or S.to_rows e 0) (get_or S.ways e []) (kind_at S.kinds e) (B.from_rows e) (B.to_rows e) (B.ways e)
 

@@ -2,7 +2,7 @@
 use boxes::grid::index::BoxIndex;
 use stations::measures::Measures;
 
-/// A drawing that is laid out, without its boxes, which a guide's index has.
+/// A drawing that is laid out, without its boxes, which the obstacles' index has.
 #[derive(Clone, Copy)]
 pub struct Laid<'a> {
     /// What the interiors of stations are measured by.
@@ -21,9 +21,9 @@ pub struct Laid<'a> {
 
 /// What lines are led by.
 #[derive(Clone, Copy)]
-pub struct Guide<'a> {
-    /// The gap that lines keep where they are led round boxes, none where they aren't.
-    pub gap: Option<f64>,
+pub struct Obstacles<'a> {
+    /// The clearance that lines keep where they are led round boxes, none where they aren't.
+    pub clearance: Option<f64>,
     /// The boxes of stations, entered by cell.
     pub index: BoxIndex<'a>,
     /// The waypoints of all lines, two coordinates each.

@@ -4,21 +4,21 @@ ghost use Rattle.runs.specs.Stages.Requests.{nothing_at, line_request, request_o
 ghost use Rattle.runs.specs.Stages.Lent.{kind_in, request_lists};
 
 use crate::laid::Laid;
-use crate::run::{first_exit, second_exit, slot_of};
+use crate::run::{first_exit, row_end_of, second_exit};
 use network::lists::Network;
 use network::words::{Kind, kind_of, station_of};
 use numbers::order::at;
 use plane::geometry::Point;
 
-/// What a line asks for: its branch, its two stations, and its row end (slot) and exit at each of
+/// What a line asks for: its branch, its two stations, and its row end and exit at each of
 /// them. The two stations are one where the branch is no line.
 #[derive(Clone, Copy)]
 pub struct LineRequest {
     pub e: usize,
     pub sa: usize,
     pub sb: usize,
-    pub slot_a: Point,
-    pub slot_b: Point,
+    pub row_end_a: Point,
+    pub row_end_b: Point,
     pub exit_a: Point,
     pub exit_b: Point,
 }
@@ -33,8 +33,8 @@ fn nothing_at(branch: usize) -> LineRequest
         e: branch,
         sa: 0,
         sb: 0,
-        slot_a: p,
-        slot_b: p,
+        row_end_a: p,
+        row_end_b: p,
         exit_a: p,
         exit_b: p,
     }
@@ -62,16 +62,16 @@ fn line_request(
 {
     let sa = station_of(sub, from_bus);
     let sb = station_of(sub, to_bus);
-    let p = slot_of(laid, frames, sa, from_bus, from_row);
-    let q = slot_of(laid, frames, sb, to_bus, to_row);
+    let p = row_end_of(laid, frames, sa, from_bus, from_row);
+    let q = row_end_of(laid, frames, sb, to_bus, to_row);
     let x = first_exit(sub.len(), laid.places, branch);
     let y = second_exit(sub.len(), laid.places, branch);
     LineRequest {
         e: branch,
         sa,
         sb,
-        slot_a: p,
-        slot_b: q,
+        row_end_a: p,
+        row_end_b: q,
         exit_a: x,
         exit_b: y,
     }

@@ -4,12 +4,12 @@ ghost use Rattle.std.specs.Prelude.{unwrap_or};
 ghost use Rattle.std.specs.Float.{nan};
 ghost use Rattle.plane.specs.Plane.{box_at};
 ghost use Rattle.boxes.specs.Stages.Paths.{path_in, Led};
-ghost use Rattle.runs.specs.Stages.Views.{block_of, bar_of, slot_of, exit_of, first_exit};
+ghost use Rattle.runs.specs.Stages.Views.{block_of, bar_of, row_end_of, exit_of, first_exit};
 ghost use Rattle.runs.specs.Stages.Views.{second_exit, open_from, internal_from, led_in, led_run};
 ghost use Rattle.runs.specs.Stages.Views.{other_run, HasRoom, Ran};
 ghost use Rattle.runs.specs.Stages.Lent.{kind_in, lead_of};
 
-use crate::laid::{Guide, Laid};
+use crate::laid::{Laid, Obstacles};
 use boxes::detour::detour;
 use network::lists::Network;
 use network::seeds::put_point;
@@ -58,8 +58,8 @@ pub fn bar_of(
 {
     bar_for(
         Interior {
-            gaps: measures.gaps,
-            frame: box_at(frames, station),
+            block_options: measures.block_options,
+            outer: box_at(frames, station),
             block: block_of(measures.unit, blocks, station),
         },
         at(buses, 3 * bus),
@@ -68,14 +68,20 @@ pub fn bar_of(
     )
 }
 
-/// The row end of a bus in its station's box: on its bar, at the height of a row
-/// (docs/RULES.md, 'Bars and row ends').
-#[tactic(auto, unfolding(crate::specs::Stages::Views::slot_of))]
-pub fn slot_of(laid: &Laid<'_>, frames: &[f64], station: usize, bus: usize, row: u32) -> Point
+// The row end of a bus in its station's box: on its bar, at the height of a row
+// (docs/RULES.md, 'Bars and row ends').
+#[tactic(auto, unfolding(crate::specs::Stages::Views::row_end_of))]
+pub(crate) fn row_end_of(
+    laid: &Laid<'_>,
+    frames: &[f64],
+    station: usize,
+    bus: usize,
+    row: u32,
+) -> Point
     requires station_bound { station < 2 ^ 32 }
     requires bus_bound { bus < 2 ^ 32 }
     ensures { result
-        ≡ slot_of laid.now.measures laid.now.buses.now laid.now.blocks.now frames.now
+        ≡ row_end_of laid.now.measures laid.now.buses.now laid.now.blocks.now frames.now
         station bus row }
 {
     let bar = bar_of(laid.measures, laid.buses, laid.blocks, frames, station, bus);
@@ -83,8 +89,8 @@ pub fn slot_of(laid: &Laid<'_>, frames: &[f64], station: usize, bus: usize, row:
         x: bar.x,
         y: row_y(
             Interior {
-                gaps: laid.measures.gaps,
-                frame: box_at(frames, station),
+                block_options: laid.measures.block_options,
+                outer: box_at(frames, station),
                 block: block_of(laid.measures.unit, laid.blocks, station),
             },
             row,
@@ -198,8 +204,8 @@ fn run_internal(
         (internal_from sub.now laid.now.measures laid.now.buses.now laid.now.blocks.now frames.now
         from_bus to_bus from_row to_row) }
 {
-    let p = slot_of(laid, frames, station_of(sub, from_bus), from_bus, from_row);
-    let q = slot_of(laid, frames, station_of(sub, to_bus), to_bus, to_row);
+    let p = row_end_of(laid, frames, station_of(sub, from_bus), from_bus, from_row);
+    let q = row_end_of(laid, frames, station_of(sub, to_bus), to_bus, to_row);
     put_two(path, p, q)
 }
 
@@ -238,11 +244,11 @@ fn put_middle(
     put_point(path, count + 2, behind);
 }
 
-// Leads the path of `count` points behind the first point of a list round boxes, where a gap is
-// given, and answers how many points it has then.
+// Leads the path of `count` points behind the first point of a list round boxes, where a clearance
+// is given, and answers how many points it has then.
 #[tactic(auto, unfolding(crate::specs::Stages::Views::led_in), using(crate::proofs::Paths::leads))]
 fn lead_round_boxes(
-    guide: &Guide<'_>,
+    obstacles: &Obstacles<'_>,
     from_station: usize,
     to_station: usize,
     path: &mut [f64],
@@ -250,13 +256,22 @@ fn lead_round_boxes(
 ) -> usize
     requires has_room { 2 * (count + 5) ≤ length path.old }
     ensures path_led { path_in 1 result path.new
-        ≡ led_in (is_some guide.now.gap) (unwrap_or guide.now.gap nan) guide.now.index.placed.k
-        guide.now.index.placed.stations.now guide.now.index.placed.frames.now
+        ≡ led_in (is_some obstacles.now.clearance) (unwrap_or obstacles.now.clearance nan)
+        obstacles.now.index.placed.k
+        obstacles.now.index.placed.stations.now obstacles.now.index.placed.frames.now
         from_station to_station (path_in 1 count path.old) }
     ensures at_most_four_more { result ≤ count + 4 }
 {
-    match guide.gap {
-        Some(gap) => detour(gap, &guide.index, from_station, to_station, path, 1, count),
+    match obstacles.clearance {
+        Some(clearance) => detour(
+            clearance,
+            &obstacles.index,
+            from_station,
+            to_station,
+            path,
+            1,
+            count,
+        ),
         None => count,
     }
 }
@@ -275,16 +290,16 @@ fn put_ends(path: &mut [f64], p: Point, q: Point, count: usize) -> usize
 }
 
 /// Puts the run of a line between two stations at the front of `path`, and answers how many points
-/// it has: from its first slot by its first exit, its waypoints, led round boxes where the guide
-/// has a gap, and its second exit to its second slot. The waypoints are `count` points of the
-/// guide's `ways` from number `first` on.
+/// it has: from its first row end by its first exit, its waypoints, led round boxes where the
+/// obstacles have a clearance, and its second exit to its second row end. The waypoints are `count`
+/// points of the obstacles' `ways` from number `first` on.
 #[tactic(auto, unfolding(crate::specs::Stages::Views::led_run))]
 pub fn run_line(
-    guide: &Guide<'_>,
+    obstacles: &Obstacles<'_>,
     from_station: usize,
     to_station: usize,
-    from_slot: Point,
-    to_slot: Point,
+    from_row_end: Point,
+    to_row_end: Point,
     from_exit: Point,
     to_exit: Point,
     first: usize,
@@ -294,12 +309,12 @@ pub fn run_line(
     requires has_room { HasRoom count path.old }
     requires first_bound { first + count < 2 ^ 31 }
     ensures { Ran result path.new
-        (led_run (lead_of guide.now) guide.now.index.placed.frames.now
-        from_station to_station from_slot to_slot from_exit to_exit first count) }
+        (led_run (lead_of obstacles.now) obstacles.now.index.placed.frames.now
+        from_station to_station from_row_end to_row_end from_exit to_exit first count) }
 {
-    put_middle(path, from_exit, guide.ways, first, count, to_exit);
-    let r = lead_round_boxes(guide, from_station, to_station, path, count + 2);
-    put_ends(path, from_slot, to_slot, r)
+    put_middle(path, from_exit, obstacles.ways, first, count, to_exit);
+    let r = lead_round_boxes(obstacles, from_station, to_station, path, count + 2);
+    put_ends(path, from_row_end, to_row_end, r)
 }
 
 /// Puts the run of a branch at the front of `path`, and answers how many points it has: two of an

@@ -27,7 +27,7 @@ list_options =
       tier_scale_2 = defaults.tier_scale_2;
       search = defaults.search;
       route_iterations = 0;
-      gaps = defaults.gaps;
+      block_options = defaults.block_options;
     }
 
 -- the lists that it lends, those of roles and pieces with this content, the others long enough for 64 buses

@@ -1,5 +1,5 @@
 -- Bars and positions (docs/RULES.md, 'Bars and row ends'). With f = unit × scale, a bar's x is
--- left + (padding + gap × column) × f and a row's y is top + (padding + row + 0.5) × f. Definitions only.
+-- left + (padding + bar gap × column) × f and a row's y is top + (padding + row + 0.5) × f. Definitions only.
 use Rattle.std.specs.Prelude.{ℕ, zero, suc, min, max, List, eqb, length, get_or, Float}
 use Rattle.std.specs.Float.Ieee.{lt}
 use Rattle.numbers.specs.Ops.{num, f0, f½, f2, ◌⊕◌, ◌⊖◌, ◌⊗◌, ◌⊘◌}
@@ -11,13 +11,13 @@ use Rattle.plane.specs.Plane.{point, box_in}
 use Rattle.network.specs.declared.words.Kind.{Kind}
 use Rattle.network.specs.declared.words.Kind.TheVariants.{Undrawn, Open, Internal, Line}
 use Rattle.network.specs.Words.{kind_at, station_of}
-use Rattle.network.specs.declared.options.Gaps.{Gaps}
+use Rattle.network.specs.declared.options.BlockOptions.{BlockOptions}
 use Rattle.stations.specs.declared.bars.Bar.{Bar}
 
-unfoldable pub bar_x : Gaps → Box → Float → ℕ → Float
+unfoldable pub bar_x : BlockOptions → Box → Float → ℕ → Float
 bar_x G box f column = box.left ⊕ (G.pad ⊕ G.bar_gap ⊗ num column) ⊗ f
 
-unfoldable pub row_y : Gaps → Box → Float → ℕ → Float
+unfoldable pub row_y : BlockOptions → Box → Float → ℕ → Float
 row_y G box f row = box.top ⊕ (G.pad ⊕ num row ⊕ f½) ⊗ f
 
 -- the rows of a bus: none, or the first and the last
@@ -53,21 +53,21 @@ span_to ks fromRows toRows i (suc e) =
 
 -- from its first row's y − 0.5 × f to its last row's y + 0.5 × f, without rows from top + padding × f to
 -- top + (padding + shortest bar) × f
-unfoldable pub reach : Gaps → Box → Float → Float → Span → Bar
-reach G box f x bare = record { x = x; y0 = box.top ⊕ G.pad ⊗ f; y1 = box.top ⊕ (G.pad ⊕ G.min_bar) ⊗ f }
-reach G box f x (rows a b) = record { x = x; y0 = row_y G box f a ⊖ f½ ⊗ f; y1 = row_y G box f b ⊕ f½ ⊗ f }
+unfoldable pub bar_ends : BlockOptions → Box → Float → Float → Span → Bar
+bar_ends G box f x bare = record { x = x; y0 = box.top ⊕ G.pad ⊗ f; y1 = box.top ⊕ (G.pad ⊕ G.min_bar) ⊗ f }
+bar_ends G box f x (rows a b) = record { x = x; y0 = row_y G box f a ⊖ f½ ⊗ f; y1 = row_y G box f b ⊕ f½ ⊗ f }
 
 -- If shorter than shortest bar × f it gets that length about its middle.
 abbrev pub bar_middle : Bar → Float
 bar_middle b = (b.y0 ⊕ b.y1) ⊘ f2
 
-unfoldable pub lengthened : Gaps → Float → Bar → Bar
+unfoldable pub lengthened : BlockOptions → Float → Bar → Bar
 lengthened G f b =
     let l : Bar = record { x = b.x; y0 = bar_middle b ⊖ G.min_bar ⊗ f ⊘ f2; y1 = bar_middle b ⊕ G.min_bar ⊗ f ⊘ f2 } in
     pick (lt (b.y1 ⊖ b.y0) (G.min_bar ⊗ f)) l b
 
-unfoldable pub bar_for : Gaps → Box → Float → ℕ → Span → Bar
-bar_for G box f column s = lengthened G f (reach G box f (bar_x G box f column) s)
+unfoldable pub bar_for : BlockOptions → Box → Float → ℕ → Span → Bar
+bar_for G box f column s = lengthened G f (bar_ends G box f (bar_x G box f column) s)
 
 -- the rows of all buses
 unfoldable pub spans : List ℕ → List Kind → List ℕ → List ℕ → List Span
@@ -78,7 +78,7 @@ abbrev pub block_at : List Float → ℕ → Float
 block_at fs s = get_or fs s f0
 
 -- the bars of all buses, by their columns and rows, and the stations' blocks and boxes
-unfoldable pub bars : Gaps → List ℕ → List ℕ → List Span → List Float → List Box → List Bar
+unfoldable pub bars : BlockOptions → List ℕ → List ℕ → List Span → List Float → List Box → List Bar
 bars G sub columns spans fs bs =
     table
     (λ i. bar_for G (box_in bs (station_of sub i)) (block_at fs (station_of sub i)) (get_or columns i 0)
@@ -93,6 +93,6 @@ unfoldable pub position : Bar → Point
 position b = point b.x (bar_middle b)
 
 -- A row end has its bar's x and its row's y.
-unfoldable pub row_end : Gaps → List ℕ → List Float → List Box → List Bar → ℕ → ℕ → Point
+unfoldable pub row_end : BlockOptions → List ℕ → List Float → List Box → List Bar → ℕ → ℕ → Point
 row_end G sub fs bs bars i row =
     point (bar_at bars i).x (row_y G (box_in bs (station_of sub i)) (block_at fs (station_of sub i)) row)

@@ -21,8 +21,8 @@ occupied_below counts s = how_many (is_occupied counts) s
 -- the scale of station s by the n points of occupied stations; that of a station that isn't occupied is 1
 unfoldable pub scale_at : Options → List Float → ℕ → Float → List ℕ → ℕ → Float
 unfolding tier occupied_below
-scale_at O ps n reach counts s =
-    let c = tier O (neighbours ps n reach (occupied_below counts s)) in pick (is_occupied counts s) c f1
+scale_at O ps n tier_distance counts s =
+    let c = tier O (neighbours ps n tier_distance (occupied_below counts s)) in pick (is_occupied counts s) c f1
 
 unfoldable pub scales_of : Options → List Float → ℕ → Float → List ℕ → List Float
 unfolding scale_at

@@ -1,10 +1,10 @@
 //! Bars, positions, row ends and exits (docs/RULES.md, 'Bars and row ends' and 'Exits').
 ghost use Rattle.std.specs.Prelude.{◌≡◌, ◌<◌};
-ghost use Rattle.stations.specs.Bar.{bar_x, row_y, rows, bare, span_of, reach, lengthened};
+ghost use Rattle.stations.specs.Bar.{bar_x, row_y, rows, bare, span_of, bar_ends, lengthened};
 ghost use Rattle.stations.specs.Bar.{bar_for, position};
 ghost use Rattle.stations.specs.Exit.{exit_x};
 
-use network::options::Gaps;
+use network::options::BlockOptions;
 use plane::geometry::{Box, Point};
 
 /// A bus's bar: a vertical line.
@@ -20,10 +20,10 @@ pub struct Bar {
 /// What a station's interior is drawn by.
 #[derive(Clone, Copy)]
 pub struct Interior {
-    /// The gaps, in blocks.
-    pub gaps: Gaps,
+    /// The block options, in blocks.
+    pub block_options: BlockOptions,
     /// The station's box.
-    pub frame: Box,
+    pub outer: Box,
     /// The station's block, unit × scale.
     pub block: f64,
 }
@@ -31,23 +31,23 @@ pub struct Interior {
 // The x of a bar in the column of this number.
 #[tactic(auto, unfolding(crate::specs::Bar::bar_x))]
 fn bar_x(of: Interior, column: u32) -> f64
-    ensures { result ≡ bar_x of.gaps of.frame of.block column }
+    ensures { result ≡ bar_x of.block_options of.outer of.block column }
 {
-    of.frame.left + (of.gaps.pad + of.gaps.bar_gap * (column as f64)) * of.block
+    of.outer.left + (of.block_options.pad + of.block_options.bar_gap * (column as f64)) * of.block
 }
 
 /// The y of a row's middle.
 #[tactic(auto, unfolding(crate::specs::Bar::row_y))]
 pub fn row_y(of: Interior, row: u32) -> f64
-    ensures { result ≡ row_y of.gaps of.frame of.block row }
+    ensures { result ≡ row_y of.block_options of.outer of.block row }
 {
-    of.frame.top + (of.gaps.pad + (row as f64) + 0.5) * of.block
+    of.outer.top + (of.block_options.pad + (row as f64) + 0.5) * of.block
 }
 
 // A bar from its first to its last row.
-#[tactic(auto, unfolding(crate::specs::Bar::reach))]
+#[tactic(auto, unfolding(crate::specs::Bar::bar_ends))]
 fn over_rows(of: Interior, at_x: f64, first: u32, last: u32) -> Bar
-    ensures { result ≡ reach of.gaps of.frame of.block at_x (rows first last) }
+    ensures { result ≡ bar_ends of.block_options of.outer of.block at_x (rows first last) }
 {
     Bar {
         x: at_x,
@@ -57,28 +57,28 @@ fn over_rows(of: Interior, at_x: f64, first: u32, last: u32) -> Bar
 }
 
 // A bar without rows.
-#[tactic(auto, unfolding(crate::specs::Bar::reach))]
+#[tactic(auto, unfolding(crate::specs::Bar::bar_ends))]
 fn at_top(of: Interior, at_x: f64) -> Bar
-    ensures { result ≡ reach of.gaps of.frame of.block at_x bare }
+    ensures { result ≡ bar_ends of.block_options of.outer of.block at_x bare }
 {
     Bar {
         x: at_x,
-        y0: of.frame.top + of.gaps.pad * of.block,
-        y1: of.frame.top + (of.gaps.pad + of.gaps.min_bar) * of.block,
+        y0: of.outer.top + of.block_options.pad * of.block,
+        y1: of.outer.top + (of.block_options.pad + of.block_options.min_bar) * of.block,
     }
 }
 
 // A bar of at least the shortest length, about its middle.
 #[tactic(auto, unfolding(crate::specs::Bar::lengthened))]
 fn lengthened(of: Interior, bar: Bar) -> Bar
-    ensures { result ≡ lengthened of.gaps of.block bar }
+    ensures { result ≡ lengthened of.block_options of.block bar }
 {
-    if bar.y1 - bar.y0 < of.gaps.min_bar * of.block {
+    if bar.y1 - bar.y0 < of.block_options.min_bar * of.block {
         let mid = (bar.y0 + bar.y1) / 2.0;
         return Bar {
             x: bar.x,
-            y0: mid - of.gaps.min_bar * of.block / 2.0,
-            y1: mid + of.gaps.min_bar * of.block / 2.0,
+            y0: mid - of.block_options.min_bar * of.block / 2.0,
+            y1: mid + of.block_options.min_bar * of.block / 2.0,
         };
     }
     bar
@@ -86,8 +86,8 @@ fn lengthened(of: Interior, bar: Bar) -> Bar
 
 // A bar from its first row to the one before `past`, or without rows where `past` is 0.
 #[tactic(auto, unfolding(crate::specs::Bar::span_of))]
-fn reach(of: Interior, at_x: f64, first: u32, past: u32) -> Bar
-    ensures { result ≡ reach of.gaps of.frame of.block at_x (span_of first past) }
+fn bar_ends(of: Interior, at_x: f64, first: u32, past: u32) -> Bar
+    ensures { result ≡ bar_ends of.block_options of.outer of.block at_x (span_of first past) }
 {
     if past == 0 {
         return at_top(of, at_x);
@@ -99,9 +99,9 @@ fn reach(of: Interior, at_x: f64, first: u32, past: u32) -> Bar
 /// 0 the bus has no rows.
 #[tactic(auto, unfolding(crate::specs::Bar::bar_for))]
 pub fn bar_for(of: Interior, column: u32, first: u32, past: u32) -> Bar
-    ensures { result ≡ bar_for of.gaps of.frame of.block column (span_of first past) }
+    ensures { result ≡ bar_for of.block_options of.outer of.block column (span_of first past) }
 {
-    lengthened(of, reach(of, bar_x(of, column), first, past))
+    lengthened(of, bar_ends(of, bar_x(of, column), first, past))
 }
 
 /// A bus's position: its bar's x and middle.

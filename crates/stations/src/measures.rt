@@ -9,7 +9,7 @@ ghost use Rattle.stations.specs.Stages.Lent.{station_sizes, station_spacing};
 
 use crate::sizes::Measured;
 use network::lists::Stations;
-use network::options::{Gaps, Options};
+use network::options::{BlockOptions, Options};
 use plane::neighbours::points::Points;
 
 /// What interiors are measured by.
@@ -17,14 +17,33 @@ use plane::neighbours::points::Points;
 pub struct Measures {
     /// The length of a block of scale 1.
     pub unit: f64,
-    /// The gaps, in blocks.
-    pub gaps: Gaps,
+    /// The block options, in blocks.
+    pub block_options: BlockOptions,
 }
 
-/// The unit of the stations; and their sizes in blocks and their scales, in `blocks`, three
-/// numbers of each. `stations` has the bus count and the row count of each, `places` their seeds.
-/// The other lists are work lists (docs/RULES.md, 'Sizes', 'Spacing and unit' and 'Scales').
-pub fn units(
+/// What the unit at any fill follows from.
+#[derive(Clone, Copy)]
+pub struct Typical {
+    /// The median distance between neighbouring stations' seeds.
+    pub spacing: f64,
+    /// The median larger side of a station, in blocks.
+    pub side: f64,
+}
+
+impl Typical {
+    /// The unit at a fill (docs/RULES.md, 'Spacing and unit').
+    pub fn unit(self, fill: f64) -> f64
+        ensures { result ≡ Unit.unit_for fill self.spacing self.side }
+    {
+        crate::units::unit_for(fill, self.spacing, self.side)
+    }
+}
+
+/// The spacing of the stations and their typical side; and their sizes in blocks and their scales,
+/// in `blocks`, three numbers of each. `stations` has the bus count and the row count of each,
+/// `places` their seeds. The other lists are work lists (docs/RULES.md, 'Sizes', 'Spacing and unit'
+/// and 'Scales').
+pub fn sizes_and_scales(
     options: Options,
     stations: &Stations<'_>,
     places: &[f64],
@@ -34,7 +53,7 @@ pub fn units(
     keys: &mut [u64],
     sorted: &mut [u32],
     spare: &mut [u32],
-) -> f64
+) -> Typical
     requires few_stations { stations.now.k ≤ 4096 }
     requires places_room { 2 * stations.now.k ≤ length places.now }
     requires blocks_room { 3 * stations.now.k ≤ length blocks.old }
@@ -43,16 +62,17 @@ pub fn units(
     requires keys_room { stations.now.k ≤ length keys.old }
     requires sorted_room { stations.now.k ≤ length sorted.old }
     requires spare_room { stations.now.k ≤ length spare.old }
-    ensures is_unit { result
-        ≡ Unit.unit_for options.fill (station_spacing stations.now places.now)
-        (Unit.typical (station_sizes options.gaps stations.now) (station_counts stations.now)) }
+    ensures spacing_is { result.spacing ≡ station_spacing stations.now places.now }
+    ensures side_is { result.side
+        ≡ Unit.typical (station_sizes options.block_options stations.now) (station_counts
+        stations.now) }
     ensures sizes_written { sizes_in stations.now.k blocks.new
-        ≡ station_sizes options.gaps stations.now }
+        ≡ station_sizes options.block_options stations.now }
     ensures scales_written { scales_in stations.now.k blocks.new
         ≡ Scale.scales options (points_in stations.now.k places.now) (station_counts stations.now)
         (station_spacing stations.now places.now) }
 {
-    crate::sizes::sizes(options.gaps, stations, blocks);
+    crate::sizes::sizes(options.block_options, stations, blocks);
     let n = crate::units::coordinates(stations, places, path);
     let points = Points { n, xy: path };
     let spacing = crate::units::spacing(&points, frames, keys, sorted, spare);
@@ -65,5 +85,5 @@ pub fn units(
     crate::scales::scales(
         options, stations, &points, spacing, blocks, keys, sorted, spare,
     );
-    crate::units::unit_for(options.fill, spacing, side)
+    Typical { spacing, side }
 }

@@ -4,7 +4,7 @@ ghost use Rattle.std.specs.Prelude.{◌≡◌, ℕ, ◌+◌, ◌*◌, ◌^◌, �
 ghost use Rattle.numbers.specs.Order.{key_at, sort_by, up_from, count};
 ghost use Rattle.numbers.specs.Table.{table};
 ghost use Rattle.network.specs.Views.{counts_in};
-ghost use Rattle.stations.specs.Stages.Ranking.{in_station, place_in};
+ghost use Rattle.stations.specs.Stages.Ranking.{in_station, rank_in};
 ghost use Rattle.stations.specs.Stages.Views.{row_counts_in};
 
 use numbers::order::{number, sort_part};
@@ -52,7 +52,7 @@ fn walk(
     requires sorted_below { (p : ℕ) → p < total → get_or sorted.now p 0 < total }
     requires counters_zero { (s : ℕ) → s < station_total → get_or stations.old (2 * s + 1) 0 ≡ 0 }
     ensures places_written { (key : ℕ → ℕ) → take total sorted.now ≡ sort_by key (up_from 0 total)
-        → take total places.new ≡ table (place_in (key_at of.now) key station_total total) total }
+        → take total places.new ≡ table (rank_in (key_at of.now) key station_total total) total }
     ensures counters_written { row_counts_in station_total stations.new
         ≡ table (λ s. count (λ j. eqb (get_or of.now j 0) s) (take total sorted.now))
         station_total }
@@ -90,7 +90,7 @@ pub(crate) fn rank_in_stations(
     requires places_room { total ≤ length places.old }
     requires stations_room { 2 * station_total ≤ length stations.old }
     ensures places_written { take total places.new
-        ≡ table (place_in (key_at of.now) (key_at keys.now) station_total total) total }
+        ≡ table (rank_in (key_at of.now) (key_at keys.now) station_total total) total }
     ensures counters_written { row_counts_in station_total stations.new
         ≡ table (in_station (key_at of.now) total) station_total }
     ensures bus_counts_kept { counts_in station_total stations.new

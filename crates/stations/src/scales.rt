@@ -23,10 +23,10 @@ fn tier(options: Options, count: usize) -> f64
     1.0
 }
 
-/// The scales of the stations, the third of three numbers of each in `blocks`: by the spacing and
-/// the points of the occupied ones. The scale of a station without buses is 1. `keys`, `sorted`
-/// and `spare` are work lists.
-pub fn scales(
+// The scales of the stations, the third of three numbers of each in `blocks`: by the spacing and
+// the points of the occupied ones. The scale of a station without buses is 1. `keys`, `sorted`
+// and `spare` are work lists.
+pub(crate) fn scales(
     options: Options,
     stations: &Stations<'_>,
     points: &Points<'_>,

@@ -7,7 +7,7 @@ ghost use Rattle.stations.specs.Stages.Views.{sizes_in};
 ghost use Rattle.stations.specs.Stages.Lent.{station_sizes};
 
 use network::lists::Stations;
-use network::options::Gaps;
+use network::options::BlockOptions;
 use numbers::float::small::max;
 
 /// k stations with their sizes in blocks.
@@ -33,34 +33,34 @@ impl Measured<'_> {
     }
 }
 
-// The width of a station with so many buses: one gap for each beside the first.
-fn width(gaps: Gaps, buses: u32) -> f64
-    ensures { result ≡ width_for gaps buses }
+// The width of a station with so many buses: one bar gap for each beside the first.
+fn width(block_options: BlockOptions, buses: u32) -> f64
+    ensures { result ≡ width_for block_options buses }
 {
-    gaps.bar_gap * (buses.saturating_sub(1) as f64) + 2.0 * gaps.pad
+    block_options.bar_gap * (buses.saturating_sub(1) as f64) + 2.0 * block_options.pad
 }
 
 // The height of a station with so many rows.
-fn height(gaps: Gaps, rows: u32) -> f64
-    ensures { result ≡ height_for gaps rows }
+fn height(block_options: BlockOptions, rows: u32) -> f64
+    ensures { result ≡ height_for block_options rows }
 {
-    max(rows as f64, gaps.min_bar) + 2.0 * gaps.pad
+    max(rows as f64, block_options.min_bar) + 2.0 * block_options.pad
 }
 
 /// The sizes of the stations in blocks, the first two of three numbers of each in `blocks`.
 /// `stations` has the bus count and the row count of each.
-pub fn sizes(gaps: Gaps, stations: &Stations<'_>, blocks: &mut [f64])
+pub fn sizes(block_options: BlockOptions, stations: &Stations<'_>, blocks: &mut [f64])
     requires { 3 * stations.now.k ≤ length blocks.old }
-    ensures { sizes_in stations.now.k blocks.new ≡ station_sizes gaps stations.now }
+    ensures { sizes_in stations.now.k blocks.new ≡ station_sizes block_options stations.now }
 {
     for s in 0..stations.k {
-        blocks[3 * s] = width(gaps, stations.counts[2 * s]);
-        blocks[3 * s + 1] = height(gaps, stations.counts[2 * s + 1]);
+        blocks[3 * s] = width(block_options, stations.counts[2 * s]);
+        blocks[3 * s + 1] = height(block_options, stations.counts[2 * s + 1]);
     }
 }
 
-/// The larger side of each occupied station at the front of `frames`, and how many they are.
-pub fn sides(measured: &Measured<'_>, frames: &mut [f64]) -> usize
+// The larger side of each occupied station at the front of `frames`, and how many they are.
+pub(crate) fn sides(measured: &Measured<'_>, frames: &mut [f64]) -> usize
     requires { measured.now.k ≤ length frames.old }
     ensures sides_written { take result frames.new
         ≡ sides (sizes_in measured.now.k measured.now.blocks.now)

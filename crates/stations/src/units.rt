@@ -36,9 +36,9 @@ pub fn coordinates(stations: &Stations<'_>, places: &[f64], path: &mut [f64]) ->
     r
 }
 
-/// The spacing of points: the median of each one's least positive distance to another, 1 where
-/// there is none. The other lists are work lists.
-pub fn spacing(
+// The spacing of points: the median of each one's least positive distance to another, 1 where
+// there is none. The other lists are work lists.
+pub(crate) fn spacing(
     points: &Points<'_>,
     frames: &mut [f64],
     keys: &mut [u64],
@@ -56,9 +56,9 @@ pub fn spacing(
     numbers::order::median(&frames[..points.n], keys, sorted, spare).unwrap_or(1.0)
 }
 
-/// The typical side, in blocks: the median larger side of the occupied stations, at least 1. The
-/// other lists are work lists.
-pub fn typical(
+// The typical side, in blocks: the median larger side of the occupied stations, at least 1. The
+// other lists are work lists.
+pub(crate) fn typical(
     measured: &Measured<'_>,
     frames: &mut [f64],
     keys: &mut [u64],
@@ -77,8 +77,8 @@ pub fn typical(
     max(median.unwrap_or(1.0), 1.0)
 }
 
-/// The unit by a fill, the spacing and the typical side.
-pub fn unit_for(fill: f64, spacing: f64, side: f64) -> f64
+// The unit by a fill, the spacing and the typical side.
+pub(crate) fn unit_for(fill: f64, spacing: f64, side: f64) -> f64
     ensures { result ≡ unit_for fill spacing side }
 {
     fill * spacing / side

@@ -1,6 +1,8 @@
 // A reader that may promise that no read of it fails, and the front of what it has left.
-ghost use Rattle.std.specs.Prelude.{◌≡◌, ℕ, List, Option, None, Some, ⊤, ◌<◌, ◌≤◌, ◌+◌, IfOk, IfSome, IsOk, OnOk, OnErr, length, take, drop};
+ghost use Rattle.std.specs.Prelude.{◌≡◌, ℕ, List, Option, None, Some, ⊤, ◌<◌, ◌≤◌, ◌+◌, IfOk, IfErr, IfSome, IsOk, OnOk, OnErr, length, take, drop};
 ghost use Rattle.std.specs.Io.{ReadsAtMost};
+ghost use Rattle.std.specs.IoError.{error_kind};
+ghost use Rattle.std.specs.declared.io.ErrorKind.{ErrorKind};
 ghost use Rattle.std.specs.Io.KnownBytes.{Consumes, IsAtEnd, Keeps, ReadConsumes};
 
 use std::io;
@@ -14,10 +16,14 @@ pub trait Source {
     // No read fails from here on.
     ghost gives: { Self → Type 0 } = { λ _. ⊥ };
 
+    // The kinds of error that a read may fail with.
+    ghost fails: { ErrorKind → Type 0 } = { λ _. ⊤ };
+
     /// Reads once.
     fn read(&mut self, room: &mut [u8]) -> io::Result<usize>
         ensures bound { ReadsAtMost result room.new }
         ensures bytes { ReadConsumes (left self.old) (left self.new) result room.new }
+        ensures kind { IfErr result (λ e. fails (error_kind e)) }
         ensures succeeds { gives self.old → IsOk result }
         ensures gives_on { gives self.old → gives self.new };
 }
@@ -47,8 +53,10 @@ impl Source for &[u8] {
 
 // Reads again while a signal interrupts the read.
 fn again<S: Source>(source: &mut S, room: &mut [u8], first: io::Error) -> io::Result<usize>
+    requires { S.fails (error_kind first) }
     ensures bound { ReadsAtMost result room.new }
     ensures bytes { ReadConsumes (S.left source.old) (S.left source.new) result room.new }
+    ensures kind { IfErr result (λ e. S.fails (error_kind e)) }
 {
     let mut error = first;
     for _ in 0..u64::MAX {
@@ -68,6 +76,7 @@ fn read_once<S: Source>(source: &mut S, room: &mut [u8]) -> io::Result<usize>
     ensures bound { ReadsAtMost result room.new }
     ensures bytes { IfOk result (λ n. Consumes (S.left source.old) (S.left source.new) (take n room.new)) }
     ensures end { IfOk result (λ n. n ≡ 0 → 0 < length room.old → IsAtEnd (S.left source.new)) }
+    ensures kind { IfErr result (λ e. S.fails (error_kind e)) }
     ensures succeeds { S.gives source.old → IsOk result }
     ensures gives_on { S.gives source.old → S.gives source.new }
 {
@@ -85,6 +94,7 @@ fn read_at<S: Source>(source: &mut S, room: &mut [u8], at: usize) -> io::Result<
     ensures bytes { IfOk result (λ n. Consumes (S.left source.old) (S.left source.new)
         (take n (drop at room.new))) }
     ensures end { IfOk result (λ n. n ≡ 0 → IsAtEnd (S.left source.new)) }
+    ensures kind { IfErr result (λ e. S.fails (error_kind e)) }
     ensures succeeds { S.gives source.old → IsOk result }
     ensures gives_on { S.gives source.old → S.gives source.new }
 {
@@ -92,12 +102,17 @@ fn read_at<S: Source>(source: &mut S, room: &mut [u8], at: usize) -> io::Result<
 }
 
 /// Reads until the room is full or nothing is left. Where the source's reads don't fail, nor does
-/// this.
+/// this; else it fails with an error of a read. Of what the source has left after an error nothing
+/// is said: reads before it have taken bytes, and no caller reads on.
 pub fn read_front<S: Source>(source: &mut S, room: &mut [u8]) -> io::Result<usize>
     ensures fits { IfOk result (λ n. n ≤ length room.new) }
     ensures bytes { IfOk result (λ n. IfSome (S.left source.old)
         (λ bytes. take n room.new ≡ take (length room.old) bytes)) }
+    ensures taken { IfOk result (λ n. Consumes (S.left source.old) (S.left source.new)
+        (take n room.new)) }
+    ensures kind { IfErr result (λ e. S.fails (error_kind e)) }
     ensures succeeds { S.gives source.old → IsOk result }
+    ensures gives_on { S.gives source.old → S.gives source.new }
 {
     let mut at = 0;
     while at < room.len() {

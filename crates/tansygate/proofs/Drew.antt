@@ -24,7 +24,7 @@ use Rattle.drawing.specs.Number.{Answered}
 use Rattle.drawing.proofs.Fitting.{fits_of}
 use Rattle.layout.proofs.Drawn.{passed, pieces_fit}
 use Rattle.numbers.specs.Ops.{f0}
-use Rattle.tansygate.specs.declared.drawings.Reach.{Reach}
+use Rattle.tansygate.specs.declared.drawings.AskedRoom.{AskedRoom}
 use Rattle.tansygate.specs.declared.lists.Lists as Heap
 use Rattle.tansygate.specs.Lists.{lent_lists, lists_in, cut_to}
 use Rattle.tansygate.specs.Work.{lent_work, lent_crossings, sorts}
@@ -142,14 +142,14 @@ pub same_call : (O : Options) (N : Network) (L : Lists) (W V : Work) (X Y : Cros
 same_call O N L W V X Y w x = rw (w, x)
 
 -- ---- what `draw` answers
-pub same_called : (O : Options) (N : Network) (r : Reach) (L : Lists) (W : Work) (X : Crossings) (n m k mesh p c s : ℕ)
+pub same_called : (O : Options) (N : Network) (r : AskedRoom) (L : Lists) (W : Work) (X : Crossings) (n m k mesh p c s : ℕ)
     → L ≡ lent_lists n m k p → W ≡ lent_work n m mesh s → X ≡ lent_crossings c
     → n ≡ min (length N.station) 4096 → m ≡ min (length N.from) 8192 → k ≡ min (station_count N.station) 4096
     → mesh ≡ min (length N.corners) 24576 → p ≡ min r.pieces most → c ≡ min r.crossings most → s ≡ sorts n m mesh c
     → layout_of O N L W X ≡ called O N r
 same_called O N r L W X n m k mesh p c s l w x en em ek eh ep ec es = rw (l, w, x, es, en, em, ek, eh, ep, ec)
 
-pub drew_ok : (O : Options) (N : Network) (r : Reach) (L M : Lists) (W : Work) (X : Crossings) (a : Result Plot Refusal) (p : Plot) (l : Heap.Lists) (n m k mesh q c s d : ℕ)
+pub drew_ok : (O : Options) (N : Network) (r : AskedRoom) (L M : Lists) (W : Work) (X : Crossings) (a : Result Plot Refusal) (p : Plot) (l : Heap.Lists) (n m k mesh q c s d : ℕ)
     → a ≡ (layout_of O N L W X).answer → M ≡ (layout_of O N L W X).lists → a ≡ Ok p → lists_in l ≡ cut_to d M → d ≡ min p.pieces q
     → L ≡ lent_lists n m k q → W ≡ lent_work n m mesh s → X ≡ lent_crossings c
     → n ≡ min (length N.station) 4096 → m ≡ min (length N.from) 8192 → k ≡ min (station_count N.station) 4096
@@ -175,7 +175,7 @@ drew_ok O N r L M W X a p l n m k mesh q c s d A f e z ed el w x en em ek eh ep 
       lists = z ∙ rw (ed, E.positions, E.bars, E.boxes, E.scales, E.roles, E.pieces, E.branches);
     }
 
-pub drew_err : (O : Options) (N : Network) (r : Reach) (L : Lists) (W : Work) (X : Crossings) (a : Result Plot Refusal) (f : Refusal) (n m k mesh q c s : ℕ)
+pub drew_err : (O : Options) (N : Network) (r : AskedRoom) (L : Lists) (W : Work) (X : Crossings) (a : Result Plot Refusal) (f : Refusal) (n m k mesh q c s : ℕ)
     → a ≡ (layout_of O N L W X).answer → a ≡ Err f
     → L ≡ lent_lists n m k q → W ≡ lent_work n m mesh s → X ≡ lent_crossings c
     → n ≡ min (length N.station) 4096 → m ≡ min (length N.from) 8192 → k ≡ min (station_count N.station) 4096

@@ -17,11 +17,11 @@ use Rattle.network.proofs.refusals.Shapes.{Shape, shape_fits}
 use Rattle.network.proofs.refusals.Unless.{refused}
 use Rattle.boxes.specs.Length.{index_length}
 use Rattle.routing.specs.Routes.{route_refusal}
-use Rattle.drawing.specs.declared.room.Room.{Room}
+use Rattle.drawing.specs.declared.lengths.ListLengths.{ListLengths}
 use Rattle.drawing.specs.Network.{Network}
 use Rattle.drawing.specs.Drawing.{Drawing, drawing}
 use Rattle.drawing.specs.Answer.{room_of, mesh_length, sorting, short_results, short_work, early, routed_by, late_by, late, answer_for, plot_of, call_late, call_early, layout_of}
-use Rattle.tansygate.specs.declared.drawings.Reach.{Reach}
+use Rattle.tansygate.specs.declared.drawings.AskedRoom.{AskedRoom}
 use Rattle.tansygate.specs.Lists.{lent_lists}
 use Rattle.tansygate.specs.Work.{lent_work, lent_crossings, sorts}
 use Rattle.tansygate.specs.Drawn.{called, most}
@@ -59,12 +59,12 @@ late_other false false false true h = cc
 late_other false false false false h = cc
 
 -- ---- lengths
-module _ (n m k : ℕ) (R : Room) where
+module _ (n m k : ℕ) (R : ListLengths) where
   long_results : 2 * n ≤ R.positions → 4 * n ≤ R.bars → 4 * k ≤ R.boxes → k ≤ R.scales → m ≤ R.roles → short_results n m k R ≡ false
   unfolding short_results
   long_results a b c d e = nor _ _ (le-ltb _ _ a) (nor _ _ (le-ltb _ _ b) (nor _ _ (le-ltb _ _ c) (nor _ _ (le-ltb _ _ d) (le-ltb _ _ e))))
 
-module _ (n m mesh : ℕ) (R : Room) where
+module _ (n m mesh : ℕ) (R : ListLengths) where
   long_work : 2 * n ≤ R.stations → 3 * n ≤ R.buses → 4 * m + 4 * mesh + 4 ≤ R.ends → sorting n m mesh ≤ R.sorted → sorting n m mesh ≤ R.spare → sorting n m mesh ≤ R.keys
       → 2 * n + 4 * m ≤ R.places → 3 * n ≤ R.blocks → 4 * n ≤ R.frames → 2 * n + 3 * mesh + 16 ≤ R.path → 5 * n ≤ R.sorted → short_work n m mesh R ≡ false
   unfolding short_work index_length
@@ -73,7 +73,7 @@ module _ (n m mesh : ℕ) (R : Room) where
       (nor _ _ (le-ltb _ _ g) (nor _ _ (le-ltb _ _ h) (nor _ _ (le-ltb _ _ i) (nor _ _ (le-ltb _ _ j) (le-ltb _ _ l))))))))))
 
 -- ---- the call
-module _ (O : Options) (N : Network) (r : Reach) where
+module _ (O : Options) (N : Network) (r : AskedRoom) where
   abbrev n : ℕ
   n = min (length N.station) 4096
 
@@ -92,7 +92,7 @@ module _ (O : Options) (N : Network) (r : Reach) where
   abbrev s : ℕ
   s = sorts n m (mesh_length N) c
 
-  abbrev lent : Room
+  abbrev lent : ListLengths
   lent = room_of (lent_lists n m k p) (lent_work n m (mesh_length N) s) (lent_crossings c)
 
   results_long : Shape N.station N.kv N.from N.to → short_results (length N.station) (length N.from) (station_count N.station) lent ≡ false

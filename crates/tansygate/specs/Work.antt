@@ -23,14 +23,15 @@ work_in s =
 abbrev pub crossings_in : Store → Crossings
 crossings_in s = crossings s.numbers.items s.along.items s.ways.items
 
--- the work lists for n buses, m branches, a mesh of so many corners, and sorts of s numbers
+-- The work lists for n buses, m branches, a mesh of so many corners, and sorts of s numbers. `sorted` also holds the
+-- grid of boxes.
 abbrev pub lent_work : ℕ → ℕ → ℕ → ℕ → Work
 lent_work n m mesh s =
     record {
       stations = zero_numbers (2 * n);
       buses = zero_numbers (3 * n);
       ends = zero_numbers (4 * m + 4 * mesh + 4);
-      sorted = zero_numbers s;
+      sorted = zero_numbers (max s (5 * n));
       spare = zero_numbers s;
       keys = zero_numbers s;
       places = zeros (2 * n + 4 * m);
@@ -43,6 +44,6 @@ lent_work n m mesh s =
 abbrev pub lent_crossings : ℕ → Crossings
 lent_crossings c = crossings (zero_numbers (3 * c)) (zeros c) (zeros (2 * c))
 
--- how long the lists that sort are, which also hold the grid of boxes and the crossings
+-- how long `spare` and `keys` are, which sort and have a number a crossing
 abbrev pub sorts : ℕ → ℕ → ℕ → ℕ → ℕ
-sorts n m mesh c = max (max (n + 2 * m + mesh) (5 * n)) c
+sorts n m mesh c = max (n + 2 * m + mesh) c

@@ -22,7 +22,7 @@ use std::alloc::Global;
 /// Nothing is written past what a drawing asks: too little room is a refusal, too much is memory
 /// that the drawing keeps until it is dropped.
 #[derive(Clone, Copy, Debug)]
-pub struct Reach {
+pub struct AskedRoom {
     /// Pieces of all branches: too few is `Refusal::Pieces`. A branch that runs straight has three
     /// at most.
     pub pieces: usize,
@@ -177,8 +177,8 @@ fn drawn_with(
 /// drawing. `Refusal::ListTooShort` never comes.
 ///
 /// ```rust
-/// let reach = Reach { pieces: 3 * network.from.len(), crossings: 0 };
-/// match draw(rt.alloc(), &network, options, reach) {
+/// let asked = AskedRoom { pieces: 3 * network.from.len(), crossings: 0 };
+/// match draw(rt.alloc(), &network, options, asked) {
 ///     Ok(drawing) => println!(rt; "{:?}", drawing.lists.pieces)?,
 ///     Err(Error::Refused(refusal)) => println!(rt; "refusal {}", refusal.number())?,
 ///     Err(Error::OutOfMemory) => println!(rt; "out of memory")?,
@@ -188,17 +188,17 @@ pub fn draw(
     alloc: Global,
     network: &Network<'_>,
     options: Options,
-    reach: Reach,
+    asked: AskedRoom,
 ) -> Result<Drawing, Error>
-    ensures { Drew options (held_network network.now) reach result }
+    ensures { Drew options (held_network network.now) asked result }
 {
     let buses = network.sub.len().min(4096);
     let branches = network.from.len().min(8192);
     let stations = station_count(network.sub).min(4096);
     let mesh = network.mesh.corners.len().min(24576);
-    let pieces = reach.pieces.min(16777216);
-    let crossings = reach.crossings.min(16777216);
-    let sorts = (buses + 2 * branches + mesh).max(5 * buses).max(crossings);
+    let pieces = asked.pieces.min(16777216);
+    let crossings = asked.crossings.min(16777216);
+    let sorts = (buses + 2 * branches + mesh).max(crossings);
     let lists = lists_for(alloc, buses, branches, stations, pieces)?;
     let store = work_for(alloc, buses, branches, mesh, sorts, crossings)?;
     let (answer, lists) = drawn_with(lists, store, options, network);

@@ -1,9 +1,10 @@
 //! A drawing of a network and the audit of one, with every list on the heap.
 //!
 //! `draw` and `audit` are the two calls for a program that is written in Rattle. They make the
-//! result and work lists that `layout` and `audit` are lent, each at least as long as the network
-//! asks, and hand back lists without a number to spare. `layout::call::tx_schematic_layout` and
-//! `audit::quality::tx_layout_quality` are the same calls over lists that the caller lends.
+//! result and work lists that `layout` and `audit` are lent, each just as long as the network and
+//! `AskedRoom` ask, and hand back lists without a number to spare.
+//! `layout::call::tx_schematic_layout` and `audit::quality::tx_layout_quality` are the same calls
+//! over lists that the caller lends.
 //!
 //! Two stations of one bus each, with a line between them, drawn and audited:
 //!
@@ -18,8 +19,8 @@
 //!     mesh: Mesh { corners: &[], twins: &[] },
 //! };
 //! let options = Options { route_iterations: 0, ..Options::default() };
-//! let reach = Reach { pieces: 3, crossings: 0 };
-//! let drawing = draw(rt.alloc(), &network, options, reach)?;
+//! let asked = AskedRoom { pieces: 3, crossings: 0 };
+//! let drawing = draw(rt.alloc(), &network, options, asked)?;
 //! let audited = audit(rt.alloc(), &network, &drawing.lists)?;
 //! ```
 #![tactic(auto)]
@@ -33,6 +34,6 @@ mod tests;
 mod work;
 
 pub use audits::{Audited, audit};
-pub use drawings::{Drawing, Reach, draw};
+pub use drawings::{AskedRoom, Drawing, draw};
 pub use errors::Error;
 pub use lists::Lists;

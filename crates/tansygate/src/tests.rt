@@ -1,7 +1,7 @@
 // That each call succeeds, by numbers worked out by hand, and that it refuses; and that where an
 // allocation fails the call that asked for it says so, and the next one is answered. `rt try --test
 // --fail-alloc N` lets the Nth allocation of each test fail.
-use crate::{Audited, Drawing, Error, Lists, Reach, audit, draw};
+use crate::{AskedRoom, Audited, Drawing, Error, Lists, audit, draw};
 use network::lists::Network;
 use network::mesh::Mesh;
 use network::options::Options;
@@ -35,12 +35,12 @@ fn drawn(alloc: Global, network: &Network<'_>, pieces: usize) -> Result<Drawing,
         route_iterations: 0,
         ..Options::default()
     };
-    let reach = Reach {
+    let asked = AskedRoom {
         pieces,
         crossings: 0,
     };
-    match draw(alloc, network, options, reach) {
-        Err(Error::OutOfMemory) => draw(alloc, network, options, reach),
+    match draw(alloc, network, options, asked) {
+        Err(Error::OutOfMemory) => draw(alloc, network, options, asked),
         answer => answer,
     }
 }

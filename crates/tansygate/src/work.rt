@@ -22,7 +22,8 @@ pub(crate) struct Store {
     pub ways: Vec<f64>,
 }
 
-// Lists of zeros: those that sort hold `sorts` numbers each.
+// Lists of zeros: `spare` and `keys` hold `sorts` numbers each, and `sorted` as many, or 5 a bus for
+// the grid of boxes.
 pub(crate) fn work_for(
     alloc: Global,
     buses: usize,
@@ -42,7 +43,7 @@ pub(crate) fn work_for(
         stations: vec![in alloc; 0u32; 2 * buses]?,
         buses: vec![in alloc; 0u32; 3 * buses]?,
         ends: vec![in alloc; 0u32; 4 * branches + 4 * mesh + 4]?,
-        sorted: vec![in alloc; 0u32; sorts]?,
+        sorted: vec![in alloc; 0u32; sorts.max(5 * buses)]?,
         spare: vec![in alloc; 0u32; sorts]?,
         keys: vec![in alloc; 0u64; sorts]?,
         places: vec![in alloc; 0.0; 2 * buses + 4 * branches]?,

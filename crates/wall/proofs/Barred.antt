@@ -20,7 +20,7 @@ use Rattle.stations.specs.Row.{from_rows, to_rows}
 use Rattle.stations.proofs.columns.Falls.{column_count}
 use Rattle.stations.specs.declared.bars.Bar.{Bar}
 use Rattle.stations.specs.Bar as BarSpec
-use Rattle.stations.specs.Bar.{Span, bare, rows, bar_x, row_y, reach, lengthened, bar_for, bar_at, block_at, position, span_to, spans}
+use Rattle.stations.specs.Bar.{Span, bare, rows, bar_x, row_y, bar_ends, lengthened, bar_for, bar_at, block_at, position, span_to, spans}
 use Rattle.stations.proofs.bars.SpanLaw as SpanLaw
 use Rattle.stations.proofs.bars.SpanLaw.{SpanIs, span_law}
 use Rattle.runs.specs.Lists.{bar_numbers}
@@ -34,17 +34,17 @@ use Rattle.wall.proofs.Opened.{seeds, blocks, kinds_length, kind_at_lem}
 use Rattle.wall.proofs.Parts.{held_box, block_at_lem, held_bar, held_position}
 
 -- a bar as four numbers
-lengthened_is : (o : Options) (f : Float) (b : Bar) → bar_numbers (lengthened o.gaps f b) ≡ bar_from o f b.x b.y0 b.y1
+lengthened_is : (o : Options) (f : Float) (b : Bar) → bar_numbers (lengthened o.block_options f b) ≡ bar_from o f b.x b.y0 b.y1
 unfolding lengthened bar_from
-lengthened_is o f b = go (lt (b.y1 ⊖ b.y0) (o.gaps.min_bar ⊗ f))
+lengthened_is o f b = go (lt (b.y1 ⊖ b.y0) (o.block_options.min_bar ⊗ f))
   where
     m : Float
     m = (b.y0 ⊕ b.y1) ⊘ f2
 
     longer : Bar
-    longer = record { x = b.x; y0 = m ⊖ o.gaps.min_bar ⊗ f ⊘ f2; y1 = m ⊕ o.gaps.min_bar ⊗ f ⊘ f2 }
+    longer = record { x = b.x; y0 = m ⊖ o.block_options.min_bar ⊗ f ⊘ f2; y1 = m ⊕ o.block_options.min_bar ⊗ f ⊘ f2 }
 
-    go : (c : Bool) → bar_numbers (pick c longer b) ≡ pick c (b.x ∷ (m ⊖ o.gaps.min_bar ⊗ f ⊘ f2) ∷ b.x ∷ (m ⊕ o.gaps.min_bar ⊗ f ⊘ f2) ∷ []) (b.x ∷ b.y0 ∷ b.x ∷ b.y1 ∷ [])
+    go : (c : Bool) → bar_numbers (pick c longer b) ≡ pick c (b.x ∷ (m ⊖ o.block_options.min_bar ⊗ f ⊘ f2) ∷ b.x ∷ (m ⊕ o.block_options.min_bar ⊗ f ⊘ f2) ∷ []) (b.x ∷ b.y0 ∷ b.x ∷ b.y1 ∷ [])
     go true = refl
     go false = refl
 
@@ -70,27 +70,27 @@ module _ (o : Options) (N : Network) (L : Lists) (W : Work) (X : Crossings) (p :
   span_is i h = get_d_table (λ j. span j) (length N.station) i bare h
 
   bar_is : (i : ℕ) → i < length N.station
-      → bar_at (drawing o N).bars i ≡ bar_for o.gaps (box_in (drawing o N).boxes (station i)) (block_at (blocks o N) (station i)) (column N.station N.kv i) (span i)
+      → bar_at (drawing o N).bars i ≡ bar_for o.block_options (box_in (drawing o N).boxes (station i)) (block_at (blocks o N) (station i)) (column N.station N.kv i) (span i)
   unfolding drawing planned BarSpec.bars
   bar_is i h =
       get_d_table _ (length N.station) i _ h
-      ∙ ap (λ (c : ℕ). bar_for o.gaps (box_in (drawing o N).boxes (station i)) (block_at (blocks o N) (station i)) c (get_or all_spans i bare)) (column_is i h)
-      ∙ ap (bar_for o.gaps (box_in (drawing o N).boxes (station i)) (block_at (blocks o N) (station i)) (column N.station N.kv i)) (span_is i h)
+      ∙ ap (λ (c : ℕ). bar_for o.block_options (box_in (drawing o N).boxes (station i)) (block_at (blocks o N) (station i)) c (get_or all_spans i bare)) (column_is i h)
+      ∙ ap (bar_for o.block_options (box_in (drawing o N).boxes (station i)) (block_at (blocks o N) (station i)) (column N.station N.kv i)) (span_is i h)
 
   -- a bus's bar, by its station's box and block as the lists have them, its column and its rows
   bar_by : Patterns N → (i : ℕ) → i < length N.station → (s : Span) → span i ≡ s
-      → bar_in exit i ≡ bar_numbers (bar_for o.gaps (box_at exit.boxes (station i)) (block_in p exit (station i)) (column_of N i) s)
+      → bar_in exit i ≡ bar_numbers (bar_for o.block_options (box_at exit.boxes (station i)) (block_in p exit (station i)) (column_of N i) s)
   bar_by P i h s e =
       let l : station i < Rattle.network.specs.Words.station_count N.station = station_below N.station i h in
       held_bar o N L W X p drawn i h ∙ ap (λ (b : Bar). bar_numbers b) (bar_is i h)
-      ∙ ap (λ (b : Box). bar_numbers (bar_for o.gaps b (block_at (blocks o N) (station i)) (column N.station N.kv i) (span i))) (sym (held_box o N L W X p drawn (station i) l))
-      ∙ ap (λ (f : Float). bar_numbers (bar_for o.gaps (box_at exit.boxes (station i)) f (column N.station N.kv i) (span i))) (block_at_lem o N L W X p drawn (station i) l)
-      ∙ ap (λ (c : ℕ). bar_numbers (bar_for o.gaps (box_at exit.boxes (station i)) (block_in p exit (station i)) c (span i))) (column_count N.station N.kv P i)
-      ∙ ap (λ (z : Span). bar_numbers (bar_for o.gaps (box_at exit.boxes (station i)) (block_in p exit (station i)) (column_of N i) z)) e
+      ∙ ap (λ (b : Box). bar_numbers (bar_for o.block_options b (block_at (blocks o N) (station i)) (column N.station N.kv i) (span i))) (sym (held_box o N L W X p drawn (station i) l))
+      ∙ ap (λ (f : Float). bar_numbers (bar_for o.block_options (box_at exit.boxes (station i)) f (column N.station N.kv i) (span i))) (block_at_lem o N L W X p drawn (station i) l)
+      ∙ ap (λ (c : ℕ). bar_numbers (bar_for o.block_options (box_at exit.boxes (station i)) (block_in p exit (station i)) c (span i))) (column_count N.station N.kv P i)
+      ∙ ap (λ (z : Span). bar_numbers (bar_for o.block_options (box_at exit.boxes (station i)) (block_in p exit (station i)) (column_of N i) z)) e
 
-  numbers : (box : Box) (f : Float) (c : ℕ) (s : Span) → bar_numbers (bar_for o.gaps box f c s) ≡ bar_from o f (reach o.gaps box f (bar_x o.gaps box f c) s).x (reach o.gaps box f (bar_x o.gaps box f c) s).y0 (reach o.gaps box f (bar_x o.gaps box f c) s).y1
+  numbers : (box : Box) (f : Float) (c : ℕ) (s : Span) → bar_numbers (bar_for o.block_options box f c s) ≡ bar_from o f (bar_ends o.block_options box f (bar_x o.block_options box f c) s).x (bar_ends o.block_options box f (bar_x o.block_options box f c) s).y0 (bar_ends o.block_options box f (bar_x o.block_options box f c) s).y1
   unfolding bar_for
-  numbers box f c s = lengthened_is o f (reach o.gaps box f (bar_x o.gaps box f c) s)
+  numbers box f c s = lengthened_is o f (bar_ends o.block_options box f (bar_x o.block_options box f c) s)
 
   -- ---- a bus's rows
   abbrev Row : ℕ → ℕ → ℕ → Type 0
@@ -126,7 +126,7 @@ module _ (o : Options) (N : Network) (L : Lists) (W : Work) (X : Crossings) (p :
   spanning i = span_law N.station (seeds o N) (all_kinds N) i
 
   pub bars_of : Bars o N exit p
-  unfolding reach bar_x row_y
+  unfolding bar_ends bar_x row_y
   bars_of =
       record {
         bare = λ P i h n. bar_by P i h bare (none_is i n (span i) (spanning i)) ∙ numbers (box_at exit.boxes (station i)) (block_in p exit (station i)) (column_of N i) bare;

@@ -21,7 +21,7 @@ use Rattle.network.specs.Seed.{place_at}
 use Rattle.stations.specs.Column.{falling}
 use Rattle.offsets.specs.declared.offset.Offset.{Offset}
 use Rattle.placement.specs.Place.{box_of, places_to, places, found_free}
-use Rattle.placement.specs.Search.{Frame, frame_at, box_on, buffered, free, place_for}
+use Rattle.placement.specs.Search.{HalfSides, half_sides_at, box_on, buffered, free, place_for}
 use Rattle.placement.specs.Turns.{top_to, placement_order}
 use Rattle.placement.specs.Stages.Listed.{Turns}
 use Rattle.numbers.proofs.order.Sorting.{map_agree}
@@ -46,16 +46,16 @@ order_occupied sub kv counts i h =
     (all_sort (λ s. falling (get_or counts s 0)) (λ s. is_occupied counts s ≡ true) (occupied counts)
     (all_which (is_occupied counts) (λ s. is_occupied counts s ≡ true) (length counts) (λ s l o. o))))
 
--- the first free place, by equal frames and boxes
-pub first_moved : (r r' : Frame) (q q' : List Box) (seed c : Point) (os : List Offset) → r ≡ r' → q ≡ q' → c ≡ place_for seed r q os
+-- the first free place, by equal half sides and boxes
+pub first_moved : (r r' : HalfSides) (q q' : List Box) (seed c : Point) (os : List Offset) → r ≡ r' → q ≡ q' → c ≡ place_for seed r q os
     → FirstOf (λ d. free (buffered d r') q') (tries seed r'.half os) seed c
 first_moved r r' q q' seed c os e f g =
-    subst (λ (x : Frame). FirstOf (λ d. free (buffered d x) q') (tries seed x.half os) seed c) e
+    subst (λ (x : HalfSides). FirstOf (λ d. free (buffered d x) q') (tries seed x.half os) seed c) e
     (subst (λ (x : List Box). FirstOf (λ d. free (buffered d r) x) (tries seed r.half os) seed c) f
     (subst (λ (x : Point). FirstOf (λ d. free (buffered d r) q) (tries seed r.half os) seed x) (sym g) (first_free_of seed r q os)))
 
 -- a place that is free beside the finished boxes was free when it was taken
-module _ (fs : List Frame) (os : List Offset) (seeds : List Point) (order : List ℕ) (T : Turns (length seeds) order) where
+module _ (fs : List HalfSides) (os : List Offset) (seeds : List Point) (order : List ℕ) (T : Turns (length seeds) order) where
   abbrev at : ℕ → List Point
   at i = places_to fs os seeds order i
 
@@ -71,14 +71,14 @@ module _ (fs : List Frame) (os : List Offset) (seeds : List Point) (order : List
 
   pub found_is : (i : ℕ) → i < length order
       → found_free fs os seeds order i
-      ≡ free (buffered (place_at (places fs os seeds order) (get_or order i 0)) (frame_at fs (get_or order i 0))) (map (box_of fs (places fs os seeds order)) (take i order))
+      ≡ free (buffered (place_at (places fs os seeds order) (get_or order i 0)) (half_sides_at fs (get_or order i 0))) (map (box_of fs (places fs os seeds order)) (take i order))
   unfolding found_free box_of places
   found_is i h =
       let s = get_or order i 0 in
       let l : i ≤ length order = omega arith in
-      ap (free (buffered (place_at (at (length order)) s) (frame_at fs s)))
+      ap (free (buffered (place_at (at (length order)) s) (half_sides_at fs s)))
       (map_agree (box_of fs (at i)) (box_of fs (at (length order))) (take i order) (all_of_lem (λ t. box_of fs (at i) t ≡ box_of fs (at (length order)) t) (take i order) (λ j q.
       let k : j < i = subst (λ (n : ℕ). j < n) (length-take-le i order l) q in
       let e : get_or (take i order) j 0 ≡ get_or order j 0 = get_or-take i order j 0 k in
       subst (λ (t : ℕ). box_of fs (at i) t ≡ box_of fs (at (length order)) t) (sym e)
-      (ap (λ (c : Point). box_on c (frame_at fs (get_or order j 0)).half) (keeps i j k l ∙ sym (keeps (length order) j (omega arith) (omega arith)))))))
+      (ap (λ (c : Point). box_on c (half_sides_at fs (get_or order j 0)).half) (keeps i j k l ∙ sym (keeps (length order) j (omega arith) (omega arith)))))))

@@ -1,11 +1,11 @@
 -- A line's crossings lie on the mesh edges that its walk crosses, in the walk's order. Assumes nothing.
---     way_is     the waypoints of a line: one on each edge that its walk crosses, or none where its path is cleared
+--     way_is     the waypoints of a line: one on each edge that its walk crosses, or none where its walk is cleared
 use Prim.Native.Nat.{ℕ, zero, suc, ◌+◌, ◌≤◌, ◌<◌}
 use mathlib.Core.Path.{◌≡◌, refl, sym, ap, subst, ◌∙◌}
 use mathlib.Core.Logic.{◌⊎◌, ⊎_elim}
 use mathlib.Core.Bool.{Bool, true, false, cond, ◌&&◌}
 use mathlib.Core.List.{List, [], ◌∷◌, ◌++◌, map}
-use mathlib.Core.Option.{Option, none, some}
+use Rattle.std.specs.Prelude.{Option, Some, None}
 use native.Mathlib.Nat.{not-suc-le-zero, le_of_suc-le-suc, eq-or-lt_of_le, add-zero, add-suc}
 use native.Mathlib.Omega.{arith}
 use borrow.Author.Tests.{ltb-true, ltb-false, eqb-true}
@@ -22,7 +22,7 @@ use Rattle.plane.specs.Plane.{point}
 use Rattle.network.specs.Mesh.{low_at, high_at}
 use Rattle.channels.specs.Trace.{Walk, traced}
 use Rattle.routing.specs.Route as Route
-use Rattle.routing.specs.Route.{Scene, Line, Keyed, no_channel, Crossing, no_crossing, Path, no_path, Routing, number_of}
+use Rattle.routing.specs.Route.{MeshScene, RoutedLine, Keyed, no_channel, Crossing, no_crossing, KeptCrossings, no_kept_crossings, Routing, number_of}
 
 -- ---- an element at the end
 last_at : {A : Type 0} (l : List A) (x d : A) → get_or (l ++ (x ∷ [])) (length l) d ≡ x
@@ -37,7 +37,7 @@ map_up f a i zero = refl
 map_up {A} f a i (suc n) =
     ap (λ (l : List A). f (a + i) ∷ l) (ap (λ (j : ℕ). map f (up_from j n)) (sym (add-suc a i)) ∙ map_up f a (suc i) n)
 
-module _ (S : Scene) where
+module _ (S : MeshScene) where
   -- ---- the channel of a key
   found_channel : (a b : ℕ) (ks : List Keyed) → number_of a b ks < length ks
       → ((get_or ks (number_of a b ks) no_channel).low ≡ a) × ((get_or ks (number_of a b ks) no_channel).high ≡ b)
@@ -137,13 +137,13 @@ module _ (S : Scene) where
   abbrev corner : ℕ → ℕ
   corner s = Route.vertex_of s S.occupied
 
-  abbrev pub walked : Line → Walk
+  abbrev pub walked : RoutedLine → Walk
   walked l = traced S.corners S.twins (Route.centre_at S) (corner l.sa) (corner l.sb)
 
-  branch_kept : (e : ℕ) (l : Option Line) (r : Routing) (x h : ℕ) → On r x h → On (Route.add_branch S e l r) x h
+  branch_kept : (e : ℕ) (l : Option RoutedLine) (r : Routing) (x h : ℕ) → On r x h → On (Route.add_branch S e l r) x h
   unfolding Route.add_branch Route.add_walk
-  branch_kept e none r x h o = o
-  branch_kept e (some l) r x h o = all_kept (corner l.sa) (corner l.sb) e 0 (walked l).edges r x h o
+  branch_kept e None r x h o = o
+  branch_kept e (Some l) r x h o = all_kept (corner l.sa) (corner l.sb) e 0 (walked l).half_edges r x h o
 
   traced_kept : (n e : ℕ) (x h : ℕ) → e ≤ n → On (Route.traced_to S e) x h → On (Route.traced_to S n) x h
   unfolding Route.traced_to
@@ -151,35 +151,35 @@ module _ (S : Scene) where
   traced_kept zero (suc e) x h l o = absurd (not-suc-le-zero l)
   traced_kept (suc n) e x h l o = ⊎_elim
       (λ (q : e ≡ suc n). subst (λ (i : ℕ). On (Route.traced_to S i) x h) q o)
-      (λ (q : e < suc n). branch_kept n (get_or S.lines n none) (Route.traced_to S n) x h (traced_kept n e x h (le_of_suc-le-suc q) o))
+      (λ (q : e < suc n). branch_kept n (get_or S.lines n None) (Route.traced_to S n) x h (traced_kept n e x h (le_of_suc-le-suc q) o))
       (eq-or-lt_of_le l)
 
   -- the path of branch e
-  path_of : ℕ → Option Line → Path
-  path_of e none = no_path
-  path_of e (some l) = record { first = length (Route.traced_to S e).crossings; count = cond (walked l).kept (length (walked l).edges) 0 }
+  path_of : ℕ → Option RoutedLine → KeptCrossings
+  path_of e None = no_kept_crossings
+  path_of e (Some l) = record { first = length (Route.traced_to S e).crossings; count = cond (walked l).kept (length (walked l).half_edges) 0 }
 
-  added_path : (e : ℕ) (l : Option Line) → (Route.add_branch S e l (Route.traced_to S e)).paths ≡ (Route.traced_to S e).paths ++ (path_of e l ∷ [])
+  added_path : (e : ℕ) (l : Option RoutedLine) → (Route.add_branch S e l (Route.traced_to S e)).kept_crossings ≡ (Route.traced_to S e).kept_crossings ++ (path_of e l ∷ [])
   unfolding Route.add_branch Route.add_walk path_of
-  added_path e none = refl
-  added_path e (some l) = refl
+  added_path e None = refl
+  added_path e (Some l) = refl
 
-  paths_long : (n : ℕ) → length (Route.traced_to S n).paths ≡ n
+  paths_long : (n : ℕ) → length (Route.traced_to S n).kept_crossings ≡ n
   unfolding Route.traced_to
   paths_long zero = refl
   paths_long (suc n) =
-      ap (λ (l : List Path). length l) (added_path n (get_or S.lines n none)) ∙ longer (Route.traced_to S n).paths (path_of n (get_or S.lines n none)) ∙ ap suc (paths_long n)
+      ap (λ (l : List KeptCrossings). length l) (added_path n (get_or S.lines n None)) ∙ longer (Route.traced_to S n).kept_crossings (path_of n (get_or S.lines n None)) ∙ ap suc (paths_long n)
 
-  path_is : (n e : ℕ) → e < n → get_or (Route.traced_to S n).paths e no_path ≡ path_of e (get_or S.lines e none)
+  path_is : (n e : ℕ) → e < n → get_or (Route.traced_to S n).kept_crossings e no_kept_crossings ≡ path_of e (get_or S.lines e None)
   unfolding Route.traced_to
   path_is zero e h = absurd (not-suc-le-zero h)
   path_is (suc n) e h =
-      let P = (Route.traced_to S n).paths in
-      let q = path_of n (get_or S.lines n none) in
-      ap (λ (l : List Path). get_or l e no_path) (added_path n (get_or S.lines n none))
+      let P = (Route.traced_to S n).kept_crossings in
+      let q = path_of n (get_or S.lines n None) in
+      ap (λ (l : List KeptCrossings). get_or l e no_kept_crossings) (added_path n (get_or S.lines n None))
       ∙ ⊎_elim
-      (λ (z : e ≡ n). subst (λ (i : ℕ). get_or (P ++ (q ∷ [])) i no_path ≡ path_of i (get_or S.lines i none)) (sym z) (ap (λ (i : ℕ). get_or (P ++ (q ∷ [])) i no_path) (sym (paths_long n)) ∙ last_at P q no_path))
-      (λ (z : e < n). get_or-append P (q ∷ []) no_path e (subst (λ (i : ℕ). e < i) (sym (paths_long n)) z) ∙ path_is n e z)
+      (λ (z : e ≡ n). subst (λ (i : ℕ). get_or (P ++ (q ∷ [])) i no_kept_crossings ≡ path_of i (get_or S.lines i None)) (sym z) (ap (λ (i : ℕ). get_or (P ++ (q ∷ [])) i no_kept_crossings) (sym (paths_long n)) ∙ last_at P q no_kept_crossings))
+      (λ (z : e < n). get_or-append P (q ∷ []) no_kept_crossings e (subst (λ (i : ℕ). e < i) (sym (paths_long n)) z) ∙ path_is n e z)
       (eq-or-lt_of_le (le_of_suc-le-suc h))
 
   -- ---- the waypoints of a line
@@ -201,37 +201,37 @@ module _ (S : Scene) where
       ap (λ (a : ℕ). mid a (Route.channel_at S (Route.routing S) (Route.crossing_at S (Route.routing S) x).channel).high) o.1.1
       ∙ ap (mid (low_at S.corners h)) o.1.2
 
-  module _ (e : ℕ) (l : Line) (h : e < length S.lines) (L : get_or S.lines e none ≡ some l) (ts : List Float) where
+  module _ (e : ℕ) (l : RoutedLine) (h : e < length S.lines) (L : get_or S.lines e None ≡ Some l) (ts : List Float) where
     abbrev first : ℕ
     first = length (Route.traced_to S e).crossings
 
-    on_branch : (k : ℕ) → k < length (walked l).edges → On (Route.traced_to S (suc e)) (first + k) (get_or (walked l).edges k 0)
+    on_branch : (k : ℕ) → k < length (walked l).half_edges → On (Route.traced_to S (suc e)) (first + k) (get_or (walked l).half_edges k 0)
     unfolding Route.traced_to Route.add_branch Route.add_walk
     on_branch k q =
-        subst (λ (m : Option Line). On (Route.add_branch S e m (Route.traced_to S e)) (first + k) (get_or (walked l).edges k 0)) (sym L)
-        (all_new (corner l.sa) (corner l.sb) e 0 (walked l).edges (Route.traced_to S e) k q)
+        subst (λ (m : Option RoutedLine). On (Route.add_branch S e m (Route.traced_to S e)) (first + k) (get_or (walked l).half_edges k 0)) (sym L)
+        (all_new (corner l.sa) (corner l.sb) e 0 (walked l).half_edges (Route.traced_to S e) k q)
 
-    on_walk : (k : ℕ) → k < length (walked l).edges → On (Route.routing S) (first + k) (get_or (walked l).edges k 0)
+    on_walk : (k : ℕ) → k < length (walked l).half_edges → On (Route.routing S) (first + k) (get_or (walked l).half_edges k 0)
     unfolding Route.routing
-    on_walk k q = traced_kept (length S.lines) (suc e) (first + k) (get_or (walked l).edges k 0) h (on_branch k q)
+    on_walk k q = traced_kept (length S.lines) (suc e) (first + k) (get_or (walked l).half_edges k 0) h (on_branch k q)
 
-    the_path : Route.path_at S (Route.routing S) e ≡ record { first = first; count = cond (walked l).kept (length (walked l).edges) 0 }
+    the_path : Route.kept_crossings_at S (Route.routing S) e ≡ record { first = first; count = cond (walked l).kept (length (walked l).half_edges) 0 }
     unfolding Route.routing path_of
     the_path = path_is (length S.lines) e h ∙ ap (path_of e) L
 
     pub way_is : Route.waypoints S (Route.routing S) ts e
-        ≡ table (λ k. along (get_or (walked l).edges k 0) (get_or ts (first + k) nan)) (cond (walked l).kept (length (walked l).edges) 0)
+        ≡ table (λ k. along (get_or (walked l).half_edges k 0) (get_or ts (first + k) nan)) (cond (walked l).kept (length (walked l).half_edges) 0)
     unfolding Route.waypoints
     way_is =
-        ap (λ (p : Path). map (Route.point_of S (Route.routing S) ts) (up_from p.first p.count)) the_path
+        ap (λ (p : KeptCrossings). map (Route.point_of S (Route.routing S) ts) (up_from p.first p.count)) the_path
         ∙ ap (λ (a : ℕ). map (Route.point_of S (Route.routing S) ts) (up_from a n)) (sym (add-zero first))
         ∙ map_up (Route.point_of S (Route.routing S) ts) first 0 n
-        ∙ table_ext (λ k. Route.point_of S (Route.routing S) ts (first + k)) (λ k. along (get_or (walked l).edges k 0) (get_or ts (first + k) nan)) n
-        (λ k q. on_point ts (first + k) (get_or (walked l).edges k 0) (on_walk k (below (walked l).kept k q)))
+        ∙ table_ext (λ k. Route.point_of S (Route.routing S) ts (first + k)) (λ k. along (get_or (walked l).half_edges k 0) (get_or ts (first + k) nan)) n
+        (λ k q. on_point ts (first + k) (get_or (walked l).half_edges k 0) (on_walk k (below (walked l).kept k q)))
       where
         n : ℕ
-        n = cond (walked l).kept (length (walked l).edges) 0
+        n = cond (walked l).kept (length (walked l).half_edges) 0
 
-        below : (b : Bool) (k : ℕ) → k < cond b (length (walked l).edges) 0 → k < length (walked l).edges
+        below : (b : Bool) (k : ℕ) → k < cond b (length (walked l).half_edges) 0 → k < length (walked l).half_edges
         below true k q = q
         below false k q = absurd (not-suc-le-zero q)

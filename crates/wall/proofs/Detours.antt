@@ -12,7 +12,7 @@ use Rattle.plane.specs.declared.geometry.Box.{Box}
 use Rattle.plane.specs.Plane.{box_in}
 use Rattle.std.specs.Prelude.{Option, Some, None, unwrap_or}
 use Rattle.boxes.specs.First.{first_hit}
-use Rattle.boxes.specs.Corner.{corners_of, cost_key, clears, clearing, cheaper, cheapest, corner}
+use Rattle.boxes.specs.Corner.{corners_of, cost_key, avoids, avoiding, cheaper, cheapest, corner}
 use Rattle.boxes.specs.Detour.{detour_on, detour_to, detour}
 use Rattle.wall.proofs.Every.{Every}
 
@@ -25,12 +25,12 @@ module _ (P : Point → Type 0) where
   Chosen None = Unit {0}
   Chosen (Some c) = P c
 
-  clearing_every : (p q : Point) (b : Box) (cs : List Point) → Every P cs → Every P (clearing p q b cs)
-  unfolding clearing Every
-  clearing_every p q b [] h = tt
-  clearing_every p q b (c ∷ cs) h = go (clears p q b c) (clearing_every p q b cs h.1)
+  avoiding_every : (p q : Point) (b : Box) (cs : List Point) → Every P cs → Every P (avoiding p q b cs)
+  unfolding avoiding Every
+  avoiding_every p q b [] h = tt
+  avoiding_every p q b (c ∷ cs) h = go (avoids p q b c) (avoiding_every p q b cs h.1)
     where
-      go : (u : Bool) → Every P (clearing p q b cs) → Every P (cond u (c ∷ clearing p q b cs) (clearing p q b cs))
+      go : (u : Bool) → Every P (avoiding p q b cs) → Every P (cond u (c ∷ avoiding p q b cs) (avoiding p q b cs))
       go true k = (h.0, k)
       go false k = k
 
@@ -52,41 +52,41 @@ module _ (P : Point → Type 0) where
   chosen_or None other h k = k
   chosen_or (Some c) other h k = h
 
-  corner_every : (p q : Point) (b : Box) (gap : Float) → Every P (corners_of b (gap ⊗ f½)) → P p → P (corner p q b gap)
+  corner_every : (p q : Point) (b : Box) (clearance : Float) → Every P (corners_of b (clearance ⊗ f½)) → P p → P (corner p q b clearance)
   unfolding corner
-  corner_every p q b gap h k =
-      let cs = corners_of b (gap ⊗ f½) in
-      chosen_or (cheapest p q None (clearing p q b cs)) (unwrap_or (cheapest p q None cs) p)
-      (cheapest_chosen p q None (clearing p q b cs) tt (clearing_every p q b cs h))
+  corner_every p q b clearance h k =
+      let cs = corners_of b (clearance ⊗ f½) in
+      chosen_or (cheapest p q None (avoiding p q b cs)) (unwrap_or (cheapest p q None cs) p)
+      (cheapest_chosen p q None (avoiding p q b cs) tt (avoiding_every p q b cs h))
       (chosen_or (cheapest p q None cs) p (cheapest_chosen p q None cs tt h) k)
 
-  module _ (boxes : List Box) (occupied : List ℕ) (gap : Float) (a b : ℕ) (corners : (s : ℕ) → Every P (corners_of (box_in boxes s) (gap ⊗ f½))) where
+  module _ (boxes : List Box) (occupied : List ℕ) (clearance : Float) (a b : ℕ) (corners : (s : ℕ) → Every P (corners_of (box_in boxes s) (clearance ⊗ f½))) where
     on_every : (again : List Point → List Point) → ((l : List Point) → Every P l → Every P (again l)) → (p : Point) (rest : List Point) → P p → Every P rest
-        → Every P (detour_on boxes occupied gap a b again p rest)
+        → Every P (detour_on boxes occupied clearance a b again p rest)
     unfolding detour_on Every
     on_every again f p [] h k = (h, tt)
     on_every again f p (q ∷ rest) h k = go (first_hit boxes occupied p q a b) (on_every again f q rest k.0 k.1)
       where
-        go : (hit : Option ℕ) → Every P (detour_on boxes occupied gap a b again q rest)
-            → Every P (elim hit [ None ↦ p ∷ detour_on boxes occupied gap a b again q rest | Some s ↦ again (p ∷ corner p q (box_in boxes s) gap ∷ q ∷ rest) ])
+        go : (hit : Option ℕ) → Every P (detour_on boxes occupied clearance a b again q rest)
+            → Every P (elim hit [ None ↦ p ∷ detour_on boxes occupied clearance a b again q rest | Some s ↦ again (p ∷ corner p q (box_in boxes s) clearance ∷ q ∷ rest) ])
         go None m = (h, m)
-        go (Some s) m = f (p ∷ corner p q (box_in boxes s) gap ∷ q ∷ rest) (h, (corner_every p q (box_in boxes s) gap (corners s) h, k))
+        go (Some s) m = f (p ∷ corner p q (box_in boxes s) clearance ∷ q ∷ rest) (h, (corner_every p q (box_in boxes s) clearance (corners s) h, k))
 
-    to_every : (n : ℕ) (path : List Point) → Every P path → Every P (detour_to boxes occupied gap a b n path)
+    to_every : (n : ℕ) (path : List Point) → Every P path → Every P (detour_to boxes occupied clearance a b n path)
     unfolding detour_to Every
     to_every zero path h = h
     to_every (suc n) [] h = tt
-    to_every (suc n) (p ∷ rest) h = on_every (detour_to boxes occupied gap a b n) (to_every n) p rest h.0 h.1
+    to_every (suc n) (p ∷ rest) h = on_every (detour_to boxes occupied clearance a b n) (to_every n) p rest h.0 h.1
 
-    pub detour_every : (path : List Point) → Every P path → Every P (detour boxes occupied gap a b path)
+    pub detour_every : (path : List Point) → Every P path → Every P (detour boxes occupied clearance a b path)
     unfolding detour
     detour_every path h = to_every 4 path h
 
-pub detour_fits : (boxes : List Box) (occupied : List ℕ) (gap : Float) (a b : ℕ) (path : List Point) → Every FitsPoint path
-    → Every FitsPoint (detour boxes occupied gap a b path)
-detour_fits boxes occupied gap a b path h = detour_every FitsPoint boxes occupied gap a b (λ s. corners-fit (box_in boxes s)) path h
+pub detour_fits : (boxes : List Box) (occupied : List ℕ) (clearance : Float) (a b : ℕ) (path : List Point) → Every FitsPoint path
+    → Every FitsPoint (detour boxes occupied clearance a b path)
+detour_fits boxes occupied clearance a b path h = detour_every FitsPoint boxes occupied clearance a b (λ s. corners-fit (box_in boxes s)) path h
   where
-    corners-fit : (b : Box) → Every FitsPoint (corners_of b (gap ⊗ f½))
+    corners-fit : (b : Box) → Every FitsPoint (corners_of b (clearance ⊗ f½))
     corners-fit b =
         unfold corners_of Every in
         ((sub-fits binary64 _ _, sub-fits binary64 _ _), ((add-fits binary64 _ _, sub-fits binary64 _ _), ((add-fits binary64 _ _, add-fits binary64 _ _), ((sub-fits binary64 _ _, add-fits binary64 _ _), tt))))

@@ -14,4 +14,5 @@ mod Crossed
 mod Routed
 pub mod Whole
 mod Claiming
+pub mod Largest
 pub mod Cases

@@ -21,12 +21,12 @@ use Rattle.plane.specs.declared.geometry.Point.{Point}
 use Rattle.plane.specs.Plane.{point_at}
 use Rattle.plane.specs.Near.{distance, nearer, nearest_to, nearest, neighbours}
 use Rattle.network.specs.declared.options.Options.{Options}
-use Rattle.network.specs.Options.{between, gap_fits}
+use Rattle.network.specs.Options.{between, block_option_fits}
 use Rattle.network.specs.Words.{is_occupied, occupied}
 use Rattle.stations.specs.Size.{Size, size_at}
 use Rattle.stations.specs.Unit.{coordinates, spacing_of, spacing, typical, unit_for}
 use Rattle.stations.specs.Scale.{tier, occupied_below, scale_at, scales_of, scales}
-use Rattle.placement.specs.Search.{Frame, frame_at, frame_for, frames}
+use Rattle.placement.specs.Search.{HalfSides, half_sides_at, half_sides_for, half_sides}
 use Rattle.placement.proofs.Clear.{Outward}
 use Rattle.drawing.specs.Drawing.{measures_of}
 use Rattle.wall.proofs.Every.{Every, every_at, every_table}
@@ -153,9 +153,9 @@ scale_nm x h =
     above_nm x (above_of_le (of_bits binary64 0x3F90_0000_0000_0000) x least_scale (and_l (le (of_bits binary64 0x3F90_0000_0000_0000) x) (le x f1) h))
 
 -- 0.5
-least_gap : T (positive (of_bits binary64 0x3FE0_0000_0000_0000))
+least_option : T (positive (of_bits binary64 0x3FE0_0000_0000_0000))
 unfolding of_bits of_fields odd count_trailing_zeros
-least_gap = tt
+least_option = tt
 
 below_finite : (x : Float) → NoMinus x → T (le x (of_bits binary64 0x4020_0000_0000_0000)) → T (is_finite x)
 unfolding le is_finite of_bits of_fields odd
@@ -164,12 +164,12 @@ below_finite (inf true) p h = absurd p
 below_finite (inf false) p h = h
 below_finite (fin s m e) p h = tt
 
-pub gap_range : (x : Float) → T (gap_fits x) → NoMinus x × T (is_finite x)
-unfolding gap_fits between
-gap_range x h =
+pub option_range : (x : Float) → T (block_option_fits x) → NoMinus x × T (is_finite x)
+unfolding block_option_fits between
+option_range x h =
     let l = le (of_bits binary64 0x3FE0_0000_0000_0000) x in
     let u = le x (of_bits binary64 0x4020_0000_0000_0000) in
-    let n : NoMinus x = above_nm x (above_of_le (of_bits binary64 0x3FE0_0000_0000_0000) x least_gap (and_l l u h)) in
+    let n : NoMinus x = above_nm x (above_of_le (of_bits binary64 0x3FE0_0000_0000_0000) x least_option (and_l l u h)) in
     (n, below_finite x n (and_r l u h))
 
 -- a maximum with 1
@@ -266,14 +266,14 @@ tier_nm O c p q = go (leb O.tier_count_2 c) (leb O.tier_count_1 c)
     go false true = p
     go false false = f1_nm
 
-scales_nm : (O : Options) (seeds : List Point) (counts : List ℕ) (gap : Float) (s : ℕ) → NoMinus O.tier_scale_1 → NoMinus O.tier_scale_2
-    → NoMinus (get_or (scales O seeds counts gap) s f1)
+scales_nm : (O : Options) (seeds : List Point) (counts : List ℕ) (median_spacing : Float) (s : ℕ) → NoMinus O.tier_scale_1 → NoMinus O.tier_scale_2
+    → NoMinus (get_or (scales O seeds counts median_spacing) s f1)
 unfolding scales scales_of scale_at
-scales_nm O seeds counts gap s p q = every_at NoMinus _ f1 s (every_table NoMinus _ 0 (length counts) (λ j. one j)) f1_nm
+scales_nm O seeds counts median_spacing s p q = every_at NoMinus _ f1 s (every_table NoMinus _ 0 (length counts) (λ j. one j)) f1_nm
   where
-    one : (j : ℕ) → NoMinus (scale_at O (coordinates seeds (occupied counts)) (length (occupied counts)) (O.tier_radius ⊗ gap) counts j)
+    one : (j : ℕ) → NoMinus (scale_at O (coordinates seeds (occupied counts)) (length (occupied counts)) (O.tier_radius ⊗ median_spacing) counts j)
     one j =
-        let c = neighbours (coordinates seeds (occupied counts)) (length (occupied counts)) (O.tier_radius ⊗ gap) (occupied_below counts j) in
+        let c = neighbours (coordinates seeds (occupied counts)) (length (occupied counts)) (O.tier_radius ⊗ median_spacing) (occupied_below counts j) in
         go (is_occupied counts j) (tier O c) (tier_nm O c p q)
       where
         go : (b : Bool) (x : Float) → NoMinus x → NoMinus (pick b x f1)
@@ -330,27 +330,27 @@ product_out (fin false m e) (fin true n d) p q f g = absurd q
 product_out (fin false m e) (fin false n d) p q f g = round_out (m * up e * (n * up d)) (down e * down d)
 
 -- a block has no minus sign, and is finite if the half width is; a buffer has none and is finite
-abbrev pub Block : Frame → Type 0
+abbrev pub Block : HalfSides → Type 0
 Block r = NoMinus r.f × (T (is_finite r.half.w) → T (is_finite r.f)) × NoMinus r.buffer × T (is_finite r.buffer)
 
 f0_finite : T (is_finite f0)
 unfolding is_finite of_bits of_fields odd
 f0_finite = tt
 
-pub block : (O : Options) (seeds : List Point) (counts : List ℕ) (gap unit : Float) (zs : List Size) → NoMinus unit → NoMinus O.tier_scale_1 → NoMinus O.tier_scale_2
-    → NoMinus O.gaps.buffer → T (is_finite O.gaps.buffer) → (s : ℕ) → Block (frame_at (frames (measures_of O unit) (scales O seeds counts gap) zs) s)
-unfolding frames frame_for
-block O seeds counts gap unit zs h p q b c s =
+pub block : (O : Options) (seeds : List Point) (counts : List ℕ) (median_spacing unit : Float) (zs : List Size) → NoMinus unit → NoMinus O.tier_scale_1 → NoMinus O.tier_scale_2
+    → NoMinus O.block_options.buffer → T (is_finite O.block_options.buffer) → (s : ℕ) → Block (half_sides_at (half_sides (measures_of O unit) (scales O seeds counts median_spacing) zs) s)
+unfolding half_sides half_sides_for
+block O seeds counts median_spacing unit zs h p q b c s =
     every_at Block _ _ s
-    (every_table Block (λ s. frame_for (measures_of O unit) (get_or (scales O seeds counts gap) s f1) (size_at zs s)) 0 (length zs)
+    (every_table Block (λ s. half_sides_for (measures_of O unit) (get_or (scales O seeds counts median_spacing) s f1) (size_at zs s)) 0 (length zs)
     (λ s. (
-      mul_nm unit (get_or (scales O seeds counts gap) s f1) h (scales_nm O seeds counts gap s p q),
-      λ k. finite_mul (size_at zs s).w (unit ⊗ get_or (scales O seeds counts gap) s f1) (finite_div ((size_at zs s).w ⊗ (unit ⊗ get_or (scales O seeds counts gap) s f1)) f2 k),
+      mul_nm unit (get_or (scales O seeds counts median_spacing) s f1) h (scales_nm O seeds counts median_spacing s p q),
+      λ k. finite_mul (size_at zs s).w (unit ⊗ get_or (scales O seeds counts median_spacing) s f1) (finite_div ((size_at zs s).w ⊗ (unit ⊗ get_or (scales O seeds counts median_spacing) s f1)) f2 k),
       b,
       c,
     )))
     (f0_nm, (λ k. f0_finite), f0_nm, f0_finite)
 
 -- the buffer of a station whose half width is finite
-pub buffer_out : (r : Frame) → Block r → T (is_finite r.half.w) → Outward (r.f ⊗ r.buffer)
+pub buffer_out : (r : HalfSides) → Block r → T (is_finite r.half.w) → Outward (r.f ⊗ r.buffer)
 buffer_out r b h = product_out r.f r.buffer b.0 b.2 (b.1 h) b.3

@@ -15,7 +15,7 @@ use Rattle.numbers.specs.Order.{pick, up_from}
 use Rattle.numbers.proofs.order.Tables.{length_table, get_d_table}
 use Rattle.plane.specs.declared.geometry.Point.{Point}
 use Rattle.plane.specs.declared.geometry.Box.{Box}
-use Rattle.network.specs.declared.options.Gaps.{Gaps}
+use Rattle.network.specs.declared.options.BlockOptions.{BlockOptions}
 use Rattle.network.specs.declared.options.Options.{Options}
 use Rattle.network.specs.Options.{search_of}
 use Rattle.network.specs.declared.words.Kind.{Kind}
@@ -33,19 +33,19 @@ use Rattle.offsets.specs.declared.offset.Offset.{Offset}
 use Rattle.offsets.specs.Offset as Offset
 use Rattle.plane.specs.Plane.{box_in, no_box}
 use Rattle.placement.specs.Place.{places, boxes, box_of}
-use Rattle.placement.specs.Search.{Frame, frames, box_on}
+use Rattle.placement.specs.Search.{HalfSides, half_sides, box_on}
 use Rattle.stations.specs.declared.bars.Bar.{Bar}
 use Rattle.stations.specs.Bar as Bars
-use Rattle.stations.specs.Bar.{Span, bare, rows, reach, lengthened, bar_for, bar_at, position, row_end, bar_middle}
+use Rattle.stations.specs.Bar.{Span, bare, rows, bar_ends, lengthened, bar_for, bar_at, position, row_end, bar_middle}
 use Rattle.stations.specs.Exit.{exit_x, exit}
 use Rattle.runs.specs.Run as Run
 use Rattle.boxes.specs.Detour.{detour}
 use Rattle.routing.specs.Route as Route
-use Rattle.runs.specs.Run.{Scene, slot, led_path, line_points, run_for, run_of, all_pieces, role}
+use Rattle.runs.specs.Run.{RunScene, row_end_at, led_path, line_points, run_for, run_of, all_pieces, role}
 use Rattle.drawing.specs.Network.{Network}
-use Rattle.routing.specs.Gap.{gap_of}
+use Rattle.routing.specs.Clearance.{clearance_of}
 use Rattle.routing.specs.Routes.{crossings_of}
-use Rattle.drawing.specs.Drawing.{measures_of, drawing, planned, straight_scene, led_scene, scene_of, routed_of, routed_scene, ways_of}
+use Rattle.drawing.specs.Drawing.{measures_of, drawing, planned, straight_scene, led_scene, scene_of, routed_of, routed_scene, waypoints_of}
 use Rattle.wall.specs.Wall.{kind, all_kinds, row_number, order}
 use Rattle.wall.proofs.Every.{Every, every_at, every_table, every_append, every_map}
 use Rattle.wall.proofs.Detours.{FitsPoint, detour_fits}
@@ -61,26 +61,26 @@ FitsBar b = T (fits binary64 b.x)
 f0_fits : T (fits binary64 f0)
 f0_fits = of_bits-fits binary64 0
 
-reach_fits : (G : Gaps) (box : Box) (f x : Float) (s : Span) → T (fits binary64 x) → FitsBar (reach G box f x s)
-unfolding reach
-reach_fits G box f x bare h = h
-reach_fits G box f x (rows a b) h = h
+bar_ends_fit : (G : BlockOptions) (box : Box) (f x : Float) (s : Span) → T (fits binary64 x) → FitsBar (bar_ends G box f x s)
+unfolding bar_ends
+bar_ends_fit G box f x bare h = h
+bar_ends_fit G box f x (rows a b) h = h
 
 pick_bar : (u : Bool) (a b : Bar) → FitsBar a → FitsBar b → FitsBar (pick u a b)
 pick_bar true a b h k = h
 pick_bar false a b h k = k
 
-lengthened_fits : (G : Gaps) (f : Float) (b : Bar) → FitsBar b → FitsBar (lengthened G f b)
+lengthened_fits : (G : BlockOptions) (f : Float) (b : Bar) → FitsBar b → FitsBar (lengthened G f b)
 unfolding lengthened
 lengthened_fits G f b h =
     pick_bar (lt (b.y1 ⊖ b.y0) (G.min_bar ⊗ f)) (record { x = b.x; y0 = bar_middle b ⊖ G.min_bar ⊗ f ⊘ f2; y1 = bar_middle b ⊕ G.min_bar ⊗ f ⊘ f2 }) b h h
 
-bars_fit : (G : Gaps) (sub columns : List ℕ) (spans : List Span) (fs : List Float) (bs : List Box) (i : ℕ) → FitsBar (bar_at (Bars.bars G sub columns spans fs bs) i)
+bars_fit : (G : BlockOptions) (sub columns : List ℕ) (spans : List Span) (fs : List Float) (bs : List Box) (i : ℕ) → FitsBar (bar_at (Bars.bars G sub columns spans fs bs) i)
 unfolding Bars.bars bar_for Bars.bar_x
 bars_fit G sub columns spans fs bs i =
-    every_at FitsBar _ _ i (every_table FitsBar _ 0 (length sub) (λ j. lengthened_fits _ _ _ (reach_fits _ _ _ _ _ (add-fits binary64 _ _)))) f0_fits
+    every_at FitsBar _ _ i (every_table FitsBar _ 0 (length sub) (λ j. lengthened_fits _ _ _ (bar_ends_fit _ _ _ _ _ (add-fits binary64 _ _)))) f0_fits
 
-boxes_fit : (fs : List Frame) (counts : List ℕ) (ps : List Point) (s : ℕ) → FitsBox (box_in (boxes fs counts ps) s)
+boxes_fit : (fs : List HalfSides) (counts : List ℕ) (ps : List Point) (s : ℕ) → FitsBox (box_in (boxes fs counts ps) s)
 unfolding boxes box_of box_on
 boxes_fit fs counts ps s =
     every_at FitsBox _ _ s (every_table FitsBox (λ s. pick (is_occupied counts s) (box_of fs ps s) no_box) 0 (length counts) (λ s. go s (is_occupied counts s))) (f0_fits, f0_fits)
@@ -93,10 +93,10 @@ pick_fits : (u : Bool) (a b : Float) → T (fits binary64 a) → T (fits binary6
 pick_fits true a b h k = h
 pick_fits false a b h k = k
 
-module _ (S : Scene) (B : (i : ℕ) → FitsBar (bar_at S.bars i)) (X : (s : ℕ) → FitsBox (box_in S.boxes s)) where
-  slot_fits : (i r : ℕ) → FitsPoint (slot S i r)
-  unfolding slot row_end Bars.row_y
-  slot_fits i r = (B i, add-fits binary64 _ _)
+module _ (S : RunScene) (B : (i : ℕ) → FitsBar (bar_at S.bars i)) (X : (s : ℕ) → FitsBox (box_in S.boxes s)) where
+  row_end_fits : (i r : ℕ) → FitsPoint (row_end_at S i r)
+  unfolding row_end_at row_end Bars.row_y
+  row_end_fits i r = (B i, add-fits binary64 _ _)
 
   exit_fits : (s t : ℕ) (y : Float) → T (fits binary64 y) → FitsPoint (exit S.boxes S.places s t y)
   unfolding exit exit_x
@@ -110,44 +110,44 @@ module _ (S : Scene) (B : (i : ℕ) → FitsBar (bar_at S.bars i)) (X : (s : ℕ
   unfolding led_path
   led_path_fits s t path h = go S.led
     where
-      go : (u : Bool) → Every FitsPoint (cond u (detour S.boxes S.occupied S.gap s t path) path)
-      go true = detour_fits S.boxes S.occupied S.gap s t path h
+      go : (u : Bool) → Every FitsPoint (cond u (detour S.boxes S.occupied S.clearance s t path) path)
+      go true = detour_fits S.boxes S.occupied S.clearance s t path h
       go false = h
 
   run_fits : (ra rb : ℕ) (via : List Point) (k : Kind) → Every FitsPoint via → Every FitsPoint (run_for S ra rb via k)
   unfolding run_for line_points Every
   run_fits ra rb via Undrawn v = tt
   run_fits ra rb via (Open a b) v = (position_fits a, (position_fits b, tt))
-  run_fits ra rb via (Internal a b) v = (slot_fits a ra, (slot_fits b rb, tt))
+  run_fits ra rb via (Internal a b) v = (row_end_fits a ra, (row_end_fits b rb, tt))
   run_fits ra rb via (Line a b) v =
       let s = station_of S.sub a in
       let t = station_of S.sub b in
-      let p = slot S a ra in
-      let q = slot S b rb in
+      let p = row_end_at S a ra in
+      let q = row_end_at S b rb in
       let e = exit S.boxes S.places s t p.y in
       let f = exit S.boxes S.places t s q.y in (
-        slot_fits a ra,
+        row_end_fits a ra,
         every_append FitsPoint (led_path S s t (e ∷ (via ++ (f ∷ [])))) (q ∷ [])
             (led_path_fits s t (e ∷ (via ++ (f ∷ [])))
-            (exit_fits s t p.y (slot_fits a ra).1, every_append FitsPoint via (f ∷ []) v (exit_fits t s q.y (slot_fits b rb).1, tt)))
-            (slot_fits b rb, tt),
+            (exit_fits s t p.y (row_end_fits a ra).1, every_append FitsPoint via (f ∷ []) v (exit_fits t s q.y (row_end_fits b rb).1, tt)))
+            (row_end_fits b rb, tt),
       )
 
 -- every waypoint is of the format
-point_fits : (R : Route.Scene) (ps : List Float) (x : ℕ) → FitsPoint (Route.point_of R (Route.routing R) ps x)
+point_fits : (R : Route.MeshScene) (ps : List Float) (x : ℕ) → FitsPoint (Route.point_of R (Route.routing R) ps x)
 unfolding Route.point_of Route.point_on
 point_fits R ps x = (add-fits binary64 _ _, add-fits binary64 _ _)
 
-way_fits : (R : Route.Scene) (ps : List Float) (e : ℕ) → Every FitsPoint (Route.waypoints R (Route.routing R) ps e)
+way_fits : (R : Route.MeshScene) (ps : List Float) (e : ℕ) → Every FitsPoint (Route.waypoints R (Route.routing R) ps e)
 unfolding Route.waypoints
 way_fits R ps e =
-    let w = Route.path_at R (Route.routing R) e in
+    let w = Route.kept_crossings_at R (Route.routing R) e in
     every_map FitsPoint (Route.point_of R (Route.routing R) ps) (up_from w.first w.count) (point_fits R ps)
 
-ways_fit : (R : Route.Scene) (ps : List Float) (e : ℕ) → Every FitsPoint (get_or (ways_of R ps) e [])
-unfolding ways_of
+ways_fit : (R : Route.MeshScene) (ps : List Float) (e : ℕ) → Every FitsPoint (get_or (waypoints_of R ps) e [])
+unfolding waypoints_of
 ways_fit R ps e =
-    every_at (Every FitsPoint) (ways_of R ps) [] e
+    every_at (Every FitsPoint) (waypoints_of R ps) [] e
     (every_table (Every FitsPoint) (Route.waypoints R (Route.routing R) ps) 0 (length R.lines) (way_fits R ps))
     (unfold Every in tt)
 
@@ -161,19 +161,19 @@ module _ (o : Options) (N : Network) where
   seeds = Seed.seeds N.station N.xy
 
   abbrev pub sizes : List Size
-  sizes = Sizes.sizes o.gaps N.station (all_kinds N) counts
+  sizes = Sizes.sizes o.block_options N.station (all_kinds N) counts
 
-  abbrev pub gap : Float
-  gap = spacing seeds counts
+  abbrev pub median_spacing : Float
+  median_spacing = spacing seeds counts
 
   abbrev pub unit : Float
-  unit = unit_for o.fill gap (typical sizes counts)
+  unit = unit_for o.fill median_spacing (typical sizes counts)
 
   abbrev pub scales : List Float
-  scales = Scale.scales o seeds counts gap
+  scales = Scale.scales o seeds counts median_spacing
 
-  abbrev pub fs : List Frame
-  fs = frames (measures_of o unit) scales sizes
+  abbrev pub fs : List HalfSides
+  fs = half_sides (measures_of o unit) scales sizes
 
   abbrev pub os : List Offset
   os = Offset.offsets (search_of o.search)
@@ -182,7 +182,7 @@ module _ (o : Options) (N : Network) where
   end = places fs os seeds (order N)
 
   abbrev pub blocks : List Float
-  blocks = map (λ (r : Frame). r.f) fs
+  blocks = map (λ (r : HalfSides). r.f) fs
 
   pub unit_is : (drawing o N).unit ≡ unit
   unfolding drawing planned
@@ -205,23 +205,23 @@ module _ (o : Options) (N : Network) where
   bars_length = length_table _ (length N.station)
 
   -- the row end of bus i
-  abbrev pub slot_at : ℕ → ℕ → Point
-  slot_at i r = row_end o.gaps N.station blocks (drawing o N).boxes (drawing o N).bars i r
+  abbrev pub row_end_point : ℕ → ℕ → Point
+  row_end_point i r = row_end o.block_options N.station blocks (drawing o N).boxes (drawing o N).bars i r
 
   abbrev pub station_list : List ℕ
   station_list = occupied counts
 
   -- what the lines are routed through, and branch e's waypoints
-  abbrev pub routed : Route.Scene
+  abbrev pub routed : Route.MeshScene
   routed = routed_of o N (planned o N)
 
   abbrev pub via : ℕ → List Point
-  via e = get_or (ways_of routed (crossings_of routed o.route_iterations)) e []
+  via e = get_or (waypoints_of routed (crossings_of routed o.route_iterations)) e []
 
   -- a path from station s to station t, led round boxes where there are iterations
   abbrev pub led_way : ℕ → ℕ → List Point → List Point
   led_way s t path =
-      cond (ltb 0 o.route_iterations) (detour (drawing o N).boxes station_list (gap_of unit) s t path) path
+      cond (ltb 0 o.route_iterations) (detour (drawing o N).boxes station_list (clearance_of unit) s t path) path
 
   -- the points of branch e's run, and what they are by its kind
   abbrev pub drawn_points : ℕ → List Point
@@ -231,15 +231,15 @@ module _ (o : Options) (N : Network) where
   Ended e points Undrawn = points ≡ []
   Ended e points (Open a b) = points ≡ position (bar_at (drawing o N).bars a) ∷ position (bar_at (drawing o N).bars b) ∷ []
   Ended e points (Internal a b) =
-      points ≡ slot_at a (row_number N (station_of N.station a) e) ∷ slot_at b (row_number N (station_of N.station b) e) ∷ []
+      points ≡ row_end_point a (row_number N (station_of N.station a) e) ∷ row_end_point b (row_number N (station_of N.station b) e) ∷ []
   Ended e points (Line a b) =
       let s = station_of N.station a in
       let t = station_of N.station b in
-      let u = slot_at a (row_number N s e) in
-      let w = slot_at b (row_number N t e) in
+      let u = row_end_point a (row_number N s e) in
+      let w = row_end_point b (row_number N t e) in
       points ≡ u ∷ (led_way s t (exit (drawing o N).boxes end s t u.y ∷ (via e ++ (exit (drawing o N).boxes end t s w.y ∷ []))) ++ (w ∷ []))
 
-  scene : Scene
+  scene : RunScene
   scene = scene_of o N (planned o N)
 
   runs_are : (drawing o N).runs ≡ Run.runs scene
@@ -278,7 +278,7 @@ module _ (o : Options) (N : Network) where
 
   by_kind : (e : ℕ) (k : Kind)
       → Ended e (run_for scene (from_row N.station seeds (all_kinds N) e k) (to_row N.station seeds (all_kinds N) e k) (get_or scene.ways e []) k) k
-  unfolding Ended run_for line_points led_path slot from_row to_row scene scene_of led_scene drawing planned straight_scene
+  unfolding Ended run_for line_points led_path row_end_at from_row to_row scene scene_of led_scene drawing planned straight_scene
   by_kind e Undrawn = refl
   by_kind e (Open a b) = refl
   by_kind e (Internal a b) = refl
@@ -296,13 +296,13 @@ module _ (o : Options) (N : Network) where
 
   -- its waypoints are those of its path
   pub via_is : (e : ℕ) → e < length N.from → via e ≡ Route.waypoints routed (Route.routing routed) (crossings_of routed o.route_iterations) e
-  unfolding ways_of routed_of routed_scene planned straight_scene
+  unfolding waypoints_of routed_of routed_scene planned straight_scene
   via_is e h =
       get_d_table _ _ e [] (subst (λ (n : ℕ). e < n) (sym (length_table _ (length (all_kinds N)) ∙ kinds_length)) h)
 
   bars_good : (i : ℕ) → FitsBar (bar_at (drawing o N).bars i)
   unfolding drawing planned
-  bars_good i = bars_fit o.gaps N.station _ _ _ _ i
+  bars_good i = bars_fit o.block_options N.station _ _ _ _ i
 
   boxes_good : (s : ℕ) → FitsBox (box_in (drawing o N).boxes s)
   unfolding drawing planned

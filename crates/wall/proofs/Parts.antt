@@ -19,7 +19,7 @@ use Rattle.stations.specs.Size as Sizes
 use Rattle.stations.specs.Size.{size_at, size_for, width_for, height_for}
 use Rattle.stations.specs.Scale as Scale
 use Rattle.placement.specs.Place.{boxes}
-use Rattle.placement.specs.Search.{Frame, frames, frame_for, frame_at}
+use Rattle.placement.specs.Search.{HalfSides, half_sides, half_sides_for, half_sides_at}
 use Rattle.stations.specs.Bar.{position, bar_at, block_at, row_end, row_y}
 use Rattle.network.specs.declared.words.Kind.TheVariants.{Undrawn}
 use Rattle.runs.specs.Run.{role}
@@ -31,9 +31,9 @@ use Rattle.drawing.specs.Network.{Network, Lists, Work, Crossings}
 use Rattle.drawing.specs.Drawing.{measures_of, drawing}
 use Rattle.drawing.specs.Answer.{layout_of}
 use Rattle.drawing.proofs.Written.{Written, lists_written}
-use Rattle.wall.specs.Wall.{kind, row_count, position_in, bar_in, row_end_in, frame_in, pieces_in}
+use Rattle.wall.specs.Wall.{kind, row_count, position_in, bar_in, row_end_in, half_sides_in, pieces_in}
 use Rattle.wall.proofs.Reading.{flat_length, read_position, read_bar, read_bar_x, read_box, read_one, read_pieces}
-use Rattle.wall.proofs.Opened.{counts, seeds, sizes, unit, scales, fs, end, blocks, unit_is, scales_is, boxes_is, bars_length, roles_length, role_at, slot_at}
+use Rattle.wall.proofs.Opened.{counts, seeds, sizes, unit, scales, fs, end, blocks, unit_is, scales_is, boxes_is, bars_length, roles_length, role_at, row_end_point}
 use Rattle.wall.proofs.Call.{plot_is, lists_are}
 
 pub counts_length : (N : Network) → length (bus_counts N.station) ≡ station_count N.station
@@ -104,26 +104,26 @@ module _ (o : Options) (N : Network) (L : Lists) (W : Work) (X : Crossings) (p :
   unfolding Sizes.sizes
   sizes_length = length_table _ (length (counts o N)) ∙ counts_length N
 
-  frame_at_lem : (s : ℕ) → s < k → frame_at (fs o N) s ≡ frame_for (measures_of o (unit o N)) (get_or (scales o N) s f1) (size_at (sizes o N) s)
-  unfolding frames
-  frame_at_lem s h = get_d_table _ (length (sizes o N)) s _ (subst (λ (n : ℕ). s < n) (sym sizes_length) h)
+  half_sides_at_lem : (s : ℕ) → s < k → half_sides_at (fs o N) s ≡ half_sides_for (measures_of o (unit o N)) (get_or (scales o N) s f1) (size_at (sizes o N) s)
+  unfolding half_sides
+  half_sides_at_lem s h = get_d_table _ (length (sizes o N)) s _ (subst (λ (n : ℕ). s < n) (sym sizes_length) h)
 
-  size_at_lem : (s : ℕ) → s < k → size_at (sizes o N) s ≡ size_for o.gaps (buses_in N.station s) (row_count N s)
+  size_at_lem : (s : ℕ) → s < k → size_at (sizes o N) s ≡ size_for o.block_options (buses_in N.station s) (row_count N s)
   unfolding Sizes.sizes bus_counts
   size_at_lem s h =
       get_d_table _ (length (counts o N)) s _ (subst (λ (n : ℕ). s < n) (sym (counts_length N)) h)
-      ∙ ap (λ (c : ℕ). size_for o.gaps c (row_count N s)) (get_d_table (buses_in N.station) k s 0 h)
+      ∙ ap (λ (c : ℕ). size_for o.block_options c (row_count N s)) (get_d_table (buses_in N.station) k s 0 h)
 
-  pub held_frame : (s : ℕ) → s < k → frame_at (fs o N) s ≡ frame_in o N p exit s
-  unfolding frame_in frame_for size_for width_for height_for
-  held_frame s h =
-      frame_at_lem s h ∙ ap (frame_for (measures_of o (unit o N)) (get_or (scales o N) s f1)) (size_at_lem s h)
-      ∙ ap (λ (x : Float). frame_for (measures_of o (unit o N)) x (size_for o.gaps (buses_in N.station s) (row_count N s))) (sym (held_scale s h))
-      ∙ ap (λ (u : Float). frame_for (measures_of o u) (get_or exit.scales s nan) (size_for o.gaps (buses_in N.station s) (row_count N s))) (sym unit_of)
+  pub held_half_sides : (s : ℕ) → s < k → half_sides_at (fs o N) s ≡ half_sides_in o N p exit s
+  unfolding half_sides_in half_sides_for size_for width_for height_for
+  held_half_sides s h =
+      half_sides_at_lem s h ∙ ap (half_sides_for (measures_of o (unit o N)) (get_or (scales o N) s f1)) (size_at_lem s h)
+      ∙ ap (λ (x : Float). half_sides_for (measures_of o (unit o N)) x (size_for o.block_options (buses_in N.station s) (row_count N s))) (sym (held_scale s h))
+      ∙ ap (λ (u : Float). half_sides_for (measures_of o u) (get_or exit.scales s nan) (size_for o.block_options (buses_in N.station s) (row_count N s))) (sym unit_of)
 
   pub block_at_lem : (s : ℕ) → s < k → block_at (blocks o N) s ≡ p.unit ⊗ get_or exit.scales s nan
-  unfolding frame_in
-  block_at_lem s h = get_or-map (λ (r : Frame). r.f) (fs o N) s _ ∙ ap (λ (r : Frame). r.f) (held_frame s h)
+  unfolding half_sides_in
+  block_at_lem s h = get_or-map (λ (r : HalfSides). r.f) (fs o N) s _ ∙ ap (λ (r : HalfSides). r.f) (held_half_sides s h)
 
   pub held_bar : (i : ℕ) → i < length N.station → bar_in exit i ≡ bar_numbers (bar_at (drawing o N).bars i)
   held_bar i h =
@@ -144,12 +144,12 @@ module _ (o : Options) (N : Network) (L : Lists) (W : Work) (X : Crossings) (p :
       let l : e < length (drawing o N).roles = subst (λ (n : ℕ). e < n) (sym (roles_length o N)) h in
       ap (λ (m : List ℕ). get_or m e 3) written.roles ∙ read_one (drawing o N).roles _ e 3 (role Undrawn) l ∙ role_at o N e h
 
-  pub held_end : (i r : ℕ) → i < length N.station → row_end_in o N p exit i r ≡ slot_at o N i r
+  pub held_end : (i r : ℕ) → i < length N.station → row_end_in o N p exit i r ≡ row_end_point o N i r
   unfolding row_end_in row_end
   held_end i r h =
       let s = station_of N.station i in
       let l : station_of N.station i < k = station_below N.station i h in
       unfold row_y in
-      ap (λ (x : Float). point x (row_y o.gaps (box_at exit.boxes s) (p.unit ⊗ get_or exit.scales s nan) r)) (bar_at_lem i h)
-      ∙ ap (λ (b : Box). point (bar_at (drawing o N).bars i).x (row_y o.gaps b (p.unit ⊗ get_or exit.scales s nan) r)) (held_box s l)
-      ∙ ap (λ (f : Float). point (bar_at (drawing o N).bars i).x (row_y o.gaps (box_in (drawing o N).boxes s) f r)) (sym (block_at_lem s l))
+      ap (λ (x : Float). point x (row_y o.block_options (box_at exit.boxes s) (p.unit ⊗ get_or exit.scales s nan) r)) (bar_at_lem i h)
+      ∙ ap (λ (b : Box). point (bar_at (drawing o N).bars i).x (row_y o.block_options b (p.unit ⊗ get_or exit.scales s nan) r)) (held_box s l)
+      ∙ ap (λ (f : Float). point (bar_at (drawing o N).bars i).x (row_y o.block_options (box_in (drawing o N).boxes s) f r)) (sym (block_at_lem s l))

@@ -3,7 +3,7 @@ use Prim.Native.Nat.{ℕ, zero, suc, ◌+◌, ◌*◌, ◌<◌}
 use mathlib.Core.Path.{◌≡◌, refl, sym, ap, subst, ◌∙◌}
 use mathlib.Core.Bool.{cond}
 use mathlib.Core.List.{List, [], ◌∷◌, ◌++◌}
-use mathlib.Core.Option.{Option, none, some}
+use Rattle.std.specs.Prelude.{Option, Some, None}
 use native.Mathlib.Nat.{not-suc-le-zero, le_of_suc-le-suc}
 use native.Mathlib.Omega.{arith}
 use lib.Dec.{ltb}
@@ -28,13 +28,13 @@ use Rattle.stations.specs.Row.{from_row, to_row, to_rows}
 use Rattle.stations.specs.Unit.{coordinates}
 use Rattle.offsets.specs.declared.offset.Offset.{Offset}
 use Rattle.placement.specs.Place.{places_to, places}
-use Rattle.placement.specs.Search.{Frame}
+use Rattle.placement.specs.Search.{HalfSides}
 use Rattle.stations.specs.Exit as Exit
 use Rattle.stations.specs.Exit.{exit_x}
 use Rattle.boxes.specs.Detour.{detour}
-use Rattle.runs.specs.Run.{slot}
+use Rattle.runs.specs.Run.{row_end_at}
 use Rattle.routing.specs.Route as Route
-use Rattle.routing.specs.Gap.{gap_of}
+use Rattle.routing.specs.Clearance.{clearance_of}
 use Rattle.routing.specs.Routes.{mesh_used, crossings_of}
 use Rattle.drawing.specs.declared.answer.Plot.{Plot}
 use Rattle.std.specs.Prelude.{Ok}
@@ -44,10 +44,10 @@ use Rattle.drawing.specs.Drawing.{drawing, planned, straight_scene, routed_of, r
 use Rattle.drawing.specs.Answer.{layout_of}
 use Rattle.wall.specs.Wall.{kind, all_kinds, row_number, order, end_in, exit_in, exit_at, line_of, box_list, stations, if_used, routed_in, crossing_points, detoured}
 use Rattle.wall.proofs.Crossed.{way_is}
-use Rattle.wall.proofs.Opened.{seeds, unit, scales, fs, os, end, slot_at, routed, via, via_is, led_way, kinds_length, kind_at_lem, from_row_lem, to_row_lem}
+use Rattle.wall.proofs.Opened.{seeds, unit, scales, fs, os, end, row_end_point, routed, via, via_is, led_way, kinds_length, kind_at_lem, from_row_lem, to_row_lem}
 use Rattle.wall.proofs.Parts.{counts_length, seeds_length, unit_of, boxes_length, held_box, scales_length, held_scale, held_end}
 
-places_length : (fs : List Frame) (os : List Offset) (seeds : List Point) (order : List ℕ) (i : ℕ) → length (places_to fs os seeds order i) ≡ length seeds
+places_length : (fs : List HalfSides) (os : List Offset) (seeds : List Point) (order : List ℕ) (i : ℕ) → length (places_to fs os seeds order i) ≡ length seeds
 unfolding places_to
 places_length fs os seeds order zero = refl
 places_length fs os seeds order (suc i) = length-set (places_to fs os seeds order i) (get_or order i 0) _ ∙ places_length fs os seeds order i
@@ -82,7 +82,7 @@ module _ (o : Options) (N : Network) (L : Lists) (W : Work) (X : Crossings) (p :
   exit_is s t y h = ap (λ (b : Box). point (pick (le (at s).x (at t).x) b.right b.left) y) (sym (held_box o N L W X p drawn s h))
 
   exit_of : (e i j : ℕ) → i < length N.station
-      → Exit.exit (drawing o N).boxes (end o N) (station_of N.station i) (station_of N.station j) (slot_at o N i (row_number N (station_of N.station i) e)).y ≡ exit_at o N p exit at e i j
+      → Exit.exit (drawing o N).boxes (end o N) (station_of N.station i) (station_of N.station j) (row_end_point o N i (row_number N (station_of N.station i) e)).y ≡ exit_at o N p exit at e i j
   exit_of e i j h =
       let s = station_of N.station i in
       let t = station_of N.station j in
@@ -90,20 +90,20 @@ module _ (o : Options) (N : Network) (L : Lists) (W : Work) (X : Crossings) (p :
       ∙ exit_is s t (end_in o N p exit e i).y (station_below N.station i h)
 
   -- ---- what lines are routed through
-  abbrev straight : Rattle.runs.specs.Run.Scene
+  abbrev straight : Rattle.runs.specs.Run.RunScene
   straight = (planned o N).scene
 
   line_by : (e : ℕ) (c : Kind) → Safe N.station c
       → Drawing.line_for straight (from_row N.station (seeds o N) (all_kinds N) e c) (to_row N.station (seeds o N) (all_kinds N) e c) c ≡ line_of o N p exit at e c
-  unfolding Drawing.line_for line_of from_row to_row Safe planned straight_scene slot drawing
+  unfolding Drawing.line_for line_of from_row to_row Safe planned straight_scene row_end_at drawing
   line_by e Undrawn s = refl
   line_by e (Open a b) s = refl
   line_by e (Internal a b) s = refl
   line_by e (Line a b) s =
-      ap (λ (q : Point). some (line q (Exit.exit (drawing o N).boxes (end o N) (station_of N.station b) (station_of N.station a) (slot_at o N b (row_number N (station_of N.station b) e)).y))) (exit_of e a b s.0)
-      ∙ ap (λ (q : Point). some (line (exit_at o N p exit at e a b) q)) (exit_of e b a s.1)
+      ap (λ (q : Point). Some (line q (Exit.exit (drawing o N).boxes (end o N) (station_of N.station b) (station_of N.station a) (row_end_point o N b (row_number N (station_of N.station b) e)).y))) (exit_of e a b s.0)
+      ∙ ap (λ (q : Point). Some (line (exit_at o N p exit at e a b) q)) (exit_of e b a s.1)
     where
-      line : Point → Point → Route.Line
+      line : Point → Point → Route.RoutedLine
       line u w = record { sa = station_of N.station a; sb = station_of N.station b; exit0 = u; exit1 = w }
 
   line_at : (e : ℕ) → e < length N.from → Drawing.line_of straight e ≡ line_of o N p exit at e (kind N e)
@@ -121,14 +121,14 @@ module _ (o : Options) (N : Network) (L : Lists) (W : Work) (X : Crossings) (p :
   lines_are =
       ap (table (Drawing.line_of straight)) (kinds_length o N) ∙ table_ext (Drawing.line_of straight) (λ e. line_of o N p exit at e (kind N e)) (length N.from) line_at
 
-  scene : List Float → List Box → List Float → Float → List (Option Route.Line) → Route.Scene
-  scene centres boxes scales gap lines =
+  scene : List Float → List Box → List Float → Float → List (Option Route.RoutedLine) → Route.MeshScene
+  scene centres boxes scales clearance lines =
       record {
         occupied = stations N;
         centres = centres;
         boxes = boxes;
         scales = scales;
-        gap = gap;
+        clearance = clearance;
         corners = if_used o N N.corners;
         twins = if_used o N N.twins;
         lines = lines;
@@ -139,32 +139,32 @@ module _ (o : Options) (N : Network) (L : Lists) (W : Work) (X : Crossings) (p :
   routed_is =
       let ss = stations N in
       let lines = table (Drawing.line_of straight) (length (all_kinds N)) in
-      ap (λ (l : List Point). scene (coordinates l ss) (drawing o N).boxes (scales o N) (gap_of (unit o N)) lines) places_are
-      ∙ ap (λ (l : List Box). scene (coordinates (table at k) ss) l (scales o N) (gap_of (unit o N)) lines) boxes_are
-      ∙ ap (λ (l : List Float). scene (coordinates (table at k) ss) (box_list N exit) l (gap_of (unit o N)) lines) scales_are
-      ∙ ap (λ (u : Float). scene (coordinates (table at k) ss) (box_list N exit) (table (λ s. get_or exit.scales s nan) k) (gap_of u) lines) (sym (unit_of o N L W X p drawn))
-      ∙ ap (scene (coordinates (table at k) ss) (box_list N exit) (table (λ s. get_or exit.scales s nan) k) (gap_of p.unit)) lines_are
+      ap (λ (l : List Point). scene (coordinates l ss) (drawing o N).boxes (scales o N) (clearance_of (unit o N)) lines) places_are
+      ∙ ap (λ (l : List Box). scene (coordinates (table at k) ss) l (scales o N) (clearance_of (unit o N)) lines) boxes_are
+      ∙ ap (λ (l : List Float). scene (coordinates (table at k) ss) (box_list N exit) l (clearance_of (unit o N)) lines) scales_are
+      ∙ ap (λ (u : Float). scene (coordinates (table at k) ss) (box_list N exit) (table (λ s. get_or exit.scales s nan) k) (clearance_of u) lines) (sym (unit_of o N L W X p drawn))
+      ∙ ap (scene (coordinates (table at k) ss) (box_list N exit) (table (λ s. get_or exit.scales s nan) k) (clearance_of p.unit)) lines_are
 
   -- ---- crossings
   module _ (e a b : ℕ) (h : e < length N.from) (K : kind N e ≡ Line a b) where
-    abbrev R : Route.Scene
+    abbrev R : Route.MeshScene
     R = routed_in o N p exit at
 
-    abbrev line : Route.Line
+    abbrev line : Route.RoutedLine
     line = record { sa = station_of N.station a; sb = station_of N.station b; exit0 = exit_at o N p exit at e a b; exit1 = exit_at o N p exit at e b a }
 
     in_lines : e < length R.lines
     unfolding routed_in
     in_lines = subst (λ (n : ℕ). e < n) (sym (length_table (λ i. line_of o N p exit at i (kind N i)) (length N.from))) h
 
-    the_line : get_or R.lines e none ≡ some line
+    the_line : get_or R.lines e None ≡ Some line
     unfolding routed_in line_of
-    the_line = get_d_table (λ i. line_of o N p exit at i (kind N i)) (length N.from) e none h ∙ ap (line_of o N p exit at e) K
+    the_line = get_d_table (λ i. line_of o N p exit at i (kind N i)) (length N.from) e None h ∙ ap (line_of o N p exit at e) K
 
     crossings_are : via o N e ≡ crossing_points R o.route_iterations e (station_of N.station a) (station_of N.station b)
     unfolding crossing_points
     crossings_are =
-        via_is o N e h ∙ ap (λ (Q : Route.Scene). Route.waypoints Q (Route.routing Q) (crossings_of Q o.route_iterations) e) routed_is
+        via_is o N e h ∙ ap (λ (Q : Route.MeshScene). Route.waypoints Q (Route.routing Q) (crossings_of Q o.route_iterations) e) routed_is
         ∙ way_is R e line in_lines the_line (crossings_of R o.route_iterations)
 
   -- ---- the mesh's corners
@@ -186,8 +186,8 @@ module _ (o : Options) (N : Network) (L : Lists) (W : Work) (X : Crossings) (p :
   -- ---- the path
   led_is : (s t : ℕ) (path : List Point) → led_way o N s t path ≡ detoured o N p exit s t path
   led_is s t path =
-      ap (λ (l : List Box). cond (ltb 0 o.route_iterations) (detour l (stations N) (gap_of (unit o N)) s t path) path) boxes_are
-      ∙ ap (λ (u : Float). cond (ltb 0 o.route_iterations) (detour (box_list N exit) (stations N) (gap_of u) s t path) path) (sym (unit_of o N L W X p drawn))
+      ap (λ (l : List Box). cond (ltb 0 o.route_iterations) (detour l (stations N) (clearance_of (unit o N)) s t path) path) boxes_are
+      ∙ ap (λ (u : Float). cond (ltb 0 o.route_iterations) (detour (box_list N exit) (stations N) (clearance_of u) s t path) path) (sym (unit_of o N L W X p drawn))
 
   module _ (e a b : ℕ) (h : e < length N.from) (K : kind N e ≡ Line a b) (f : a < length N.station) (g : b < length N.station) where
     abbrev s : ℕ
@@ -197,10 +197,10 @@ module _ (o : Options) (N : Network) (L : Lists) (W : Work) (X : Crossings) (p :
     t = station_of N.station b
 
     abbrev u : Point
-    u = slot_at o N a (row_number N s e)
+    u = row_end_point o N a (row_number N s e)
 
     abbrev w : Point
-    w = slot_at o N b (row_number N t e)
+    w = row_end_point o N b (row_number N t e)
 
     abbrev E : Point
     E = Exit.exit (drawing o N).boxes (end o N) s t u.y

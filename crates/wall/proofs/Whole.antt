@@ -23,14 +23,16 @@ use Rattle.plane.specs.declared.geometry.Point.{Point}
 use Rattle.plane.specs.declared.geometry.Box.{Box}
 use Rattle.plane.specs.Plane.{box_at, shrunk, box_in, no_box}
 use Rattle.plane.specs.Overlap.{overlap}
-use Rattle.network.specs.declared.options.Gaps.{Gaps}
+use Rattle.network.specs.declared.options.BlockOptions.{BlockOptions}
 use Rattle.network.specs.declared.options.Options.{Options}
-use Rattle.network.specs.Options.{in_range, between, search_fits, gap_fits, gaps_fit, search_of}
+use Rattle.network.specs.Options.{in_range, between, search_fits, block_option_fits, block_options_fit, search_of}
 use Rattle.std.specs.Prelude.{Some, None}
 use Rattle.network.specs.declared.words.Kind.{Kind}
 use Rattle.network.specs.declared.words.Kind.TheVariants.{Undrawn, Open, Internal, Line}
-use Rattle.network.specs.Words.{station_of, station_count, buses_in, is_occupied, known, live, kind_by, kind_for, kind_of, kind_at, Safe}
+use Rattle.network.specs.Words.{station_of, station_count, bus_counts, buses_in, is_occupied, known, live, kind_by, kind_for, kind_of, kind_at, Safe}
 use Rattle.network.specs.Seed as Seed
+use Rattle.stations.specs.Scale as Scale
+use Rattle.stations.specs.Unit.{unit_for}
 use Rattle.network.specs.Seed.{place_at}
 use Rattle.network.proofs.Branches.{kind_safe}
 use Rattle.network.proofs.KindLaw.{kind_open, kind_internal, kind_line, kind_other}
@@ -39,12 +41,12 @@ use Rattle.stations.specs.Row.{has_row}
 use Rattle.stations.proofs.rows.RowLaw.{rows_below, rows_differ, rows_fill}
 use Rattle.stations.proofs.rows.RowOrder as Kept
 use Rattle.placement.specs.Place.{box_of, found_free}
-use Rattle.placement.specs.Search.{Frame, frame_at, box_on, free, buffered}
+use Rattle.placement.specs.Search.{HalfSides, half_sides_at, box_on, free, buffered}
 use Rattle.placement.specs.Stages.Listed.{Turns}
 use Rattle.placement.proofs.turns.Queue.{order_turns}
 use Rattle.numbers.proofs.order.Sorting.{map_agree}
 use Rattle.placement.proofs.Placing.{all_of_lem}
-use Rattle.placement.proofs.PlaceLaw.{place_of}
+use Rattle.placement.proofs.PlaceLaw.{place_of, all_found}
 use Rattle.offsets.specs.Complete.{Complete}
 use Rattle.offsets.proofs.OffsetLaw.{offsets_complete}
 use Rattle.placement.proofs.turns.OrderLaw.{bus_occupied, occupied_bus, tops, order_law}
@@ -57,21 +59,21 @@ use Rattle.drawing.specs.declared.answer.Plot.{Plot}
 use Rattle.std.specs.Prelude.{Ok}
 use Rattle.network.proofs.refusals.Unless.{neither}
 use Rattle.drawing.specs.Network.{Network, Lists, Work, Crossings}
-use Rattle.drawing.specs.Drawing.{drawing}
+use Rattle.drawing.specs.Drawing.{drawing, planned, all_free}
 use Rattle.drawing.specs.Answer.{layout_of, early}
 use Rattle.layout.proofs.Drawn.{passed}
 use Rattle.audit.specs.declared.findings.answer.Figures.{Figures}
 use Rattle.audit.specs.Drawn as Audit
 use Rattle.audit.specs.Answer.{audit_of, boxes_of}
 use Rattle.audit.proofs.findings.Accepted.{accepted_apart}
-use Rattle.wall.specs.Wall.{Joins, kind, all_kinds, role_of, Kinds, HasRow, row_number, Rows, seed, Units, order, searched, frame_in, earlier, is_free, Boxes, position_in, row_end_in, piece_in, pieces_in, coincide, joining, points_by, points_of, run_of, line_run, other_run, Runs, audit_parts, audited, Wall}
+use Rattle.wall.specs.Wall.{Joins, kind, all_kinds, role_of, Kinds, HasRow, row_number, Rows, seed, Units, order, searched, half_sides_in, earlier, is_free, Boxes, position_in, row_end_in, piece_in, pieces_in, coincide, joining, points_by, points_of, branch_pieces, line_pieces, other_pieces, Runs, audit_parts, audited, Wall}
 use Rattle.wall.proofs.Joins.{AllGood, joins, unbroken, absent}
 use Rattle.wall.proofs.Every.{Every, every_at, every_table, every_append, every_joined, every_within, pick_every}
-use Rattle.wall.proofs.NoMinus.{NoMinus, block, buffer_out, unit_nm, scale_nm, gap_range, finite_add}
+use Rattle.wall.proofs.NoMinus.{NoMinus, block, buffer_out, unit_nm, scale_nm, option_range, finite_add}
 use Rattle.wall.proofs.Detours.{FitsPoint}
-use Rattle.wall.proofs.Opened.{counts, seeds, sizes, gap, unit, fs, os, end, slot_at, drawn_points, Ended, kinds_length, kind_at_lem, run_points, points_fit, pieces_is, boxes_is}
+use Rattle.wall.proofs.Opened.{counts, seeds, sizes, median_spacing, unit, fs, os, end, row_end_point, drawn_points, Ended, kinds_length, kind_at_lem, run_points, points_fit, pieces_is, boxes_is}
 use Rattle.wall.proofs.Call.{in_range_lem, boxes_finite, runs_finite}
-use Rattle.wall.proofs.Parts.{counts_length, seeds_length, unit_of, held_scale, held_pieces, held_position, held_box, held_boxes, held_frame, held_end, held_role}
+use Rattle.wall.proofs.Parts.{counts_length, seeds_length, unit_of, held_scale, held_pieces, held_position, held_box, held_boxes, held_half_sides, held_end, held_role}
 use Rattle.wall.proofs.Boxed.{below_count, order_occupied, first_moved, found_is}
 use Rattle.wall.proofs.Barred.{bars_of}
 use Rattle.wall.proofs.Routed.{corners_are, line_points}
@@ -100,16 +102,16 @@ record Ranges (o : Options) : Type 0 where
   first : NoMinus o.tier_scale_1
   second : NoMinus o.tier_scale_2
   search : T (search_fits o.search)
-  buffer : NoMinus o.gaps.buffer × T (is_finite o.gaps.buffer)
+  buffer : NoMinus o.block_options.buffer × T (is_finite o.block_options.buffer)
 
-buffer_range : (G : Gaps) → T (gaps_fit G) → NoMinus G.buffer × T (is_finite G.buffer)
-unfolding gaps_fit
+buffer_range : (G : BlockOptions) → T (block_options_fit G) → NoMinus G.buffer × T (is_finite G.buffer)
+unfolding block_options_fit
 buffer_range G h =
-    let q₁ = gap_fits G.bar_gap in
-    let q₂ = gap_fits G.pad in
-    let q₃ = gap_fits G.min_bar in
-    let q₄ = gap_fits G.buffer in
-    gap_range G.buffer (and_r q₃ q₄ (and_r q₂ (q₃ && q₄) (and_r q₁ (q₂ && (q₃ && q₄)) h)))
+    let q₁ = block_option_fits G.bar_gap in
+    let q₂ = block_option_fits G.pad in
+    let q₃ = block_option_fits G.min_bar in
+    let q₄ = block_option_fits G.buffer in
+    option_range G.buffer (and_r q₃ q₄ (and_r q₂ (q₃ && q₄) (and_r q₁ (q₂ && (q₃ && q₄)) h)))
 
 ranges : (o : Options) → T (in_range o) → Ranges o
 unfolding in_range
@@ -119,7 +121,7 @@ ranges o h =
     let q₃ = between f0 o.tier_radius (of_bits binary64 0x408F_4000_0000_0000) in
     let q₄ = between (of_bits binary64 0x3F90_0000_0000_0000) o.tier_scale_1 f1 in
     let q₅ = between (of_bits binary64 0x3F90_0000_0000_0000) o.tier_scale_2 f1 in
-    let q₇ = gaps_fit o.gaps && leb o.route_iterations 100 in
+    let q₇ = block_options_fit o.block_options && leb o.route_iterations 100 in
     let q₆ = search_fits o.search && q₇ in
     let h₂ = and_r q₁ (q₂ && (q₃ && (q₄ && (q₅ && q₆)))) h in
     let h₃ = and_r q₂ (q₃ && (q₄ && (q₅ && q₆))) h₂ in
@@ -131,7 +133,7 @@ ranges o h =
       first = scale_nm o.tier_scale_1 (and_l q₄ (q₅ && q₆) h₄);
       second = scale_nm o.tier_scale_2 (and_l q₅ q₆ h₅);
       search = and_l (search_fits o.search) q₇ h₆;
-      buffer = buffer_range o.gaps (and_l (gaps_fit o.gaps) (leb o.route_iterations 100) (and_r (search_fits o.search) q₇ h₆));
+      buffer = buffer_range o.block_options (and_l (block_options_fit o.block_options) (leb o.route_iterations 100) (and_r (search_fits o.search) q₇ h₆));
     }
 
 search_fits_lem : (z : ℤ) → T (search_fits z) → search_of z ≤ 20
@@ -291,7 +293,7 @@ module _ (o : Options) (N : Network) (L : Lists) (W : Work) (X : Crossings) (p :
   points_by_lem e l points (Internal a b) q s h =
       let ra = row_number N (station_of N.station a) e in
       let rb = row_number N (station_of N.station b) e in
-      h ∙ ap (λ (u : Point). u ∷ slot_at o N b rb ∷ []) (sym (held_end o N L W X p drawn a ra s.0))
+      h ∙ ap (λ (u : Point). u ∷ row_end_point o N b rb ∷ []) (sym (held_end o N L W X p drawn a ra s.0))
       ∙ ap (λ (v : Point). row_end_in o N p exit a ra ∷ v ∷ []) (sym (held_end o N L W X p drawn b rb s.1))
   points_by_lem e l points (Line a b) q s h = h ∙ line_points o N L W X p drawn e a b l q s.0 s.1
 
@@ -305,13 +307,13 @@ module _ (o : Options) (N : Network) (L : Lists) (W : Work) (X : Crossings) (p :
   good e h = subst AllGood (points_are e h) (drawn_good e h)
 
   abbrev run : ℕ → List Piece
-  run e = run_of o N p exit at e
+  run e = branch_pieces o N p exit at e
 
   abbrev other_runs : List Piece
-  other_runs = joined (other_run o N p exit at) (length N.from)
+  other_runs = joined (other_pieces o N p exit at) (length N.from)
 
   abbrev line_runs : List Piece
-  line_runs = joined (line_run o N p exit at) (length N.from)
+  line_runs = joined (line_pieces o N p exit at) (length N.from)
 
   run_is : (e : ℕ) → e < length N.from → pieces e (drawn_points o N e) ≡ run e
   run_is e h = joins e (drawn_points o N e) (drawn_good e h) ∙ ap (joining e) (points_are e h)
@@ -324,9 +326,9 @@ module _ (o : Options) (N : Network) (L : Lists) (W : Work) (X : Crossings) (p :
       let g : ℕ → List Piece = λ e. pick (is_line (kind_at (all_kinds N) e)) (pieces e (drawn_points o N e)) [] in
       held_pieces o N L W X p drawn ∙ pieces_is o N
       ∙ ap (λ (n : ℕ). joined f n ++ joined g n) (kinds_length o N)
-      ∙ ap (λ (l : List Piece). l ++ joined g m) (joined_ext f (other_run o N p exit at) m (λ e h.
+      ∙ ap (λ (l : List Piece). l ++ joined g m) (joined_ext f (other_pieces o N p exit at) m (λ e h.
       ap (λ (u : Bool). pick u [] (pieces e (drawn_points o N e))) (ap is_line (kind_at_lem o N e h) ∙ line_is (kind N e)) ∙ ap (λ (l : List Piece). pick (eqb (role_of (kind N e)) 0) [] l) (run_is e h)))
-      ∙ ap (λ (l : List Piece). other_runs ++ l) (joined_ext g (line_run o N p exit at) m (λ e h.
+      ∙ ap (λ (l : List Piece). other_runs ++ l) (joined_ext g (line_pieces o N p exit at) m (λ e h.
       ap (λ (u : Bool). pick u (pieces e (drawn_points o N e)) []) (ap is_line (kind_at_lem o N e h) ∙ line_is (kind N e)) ∙ ap (λ (l : List Piece). pick (eqb (role_of (kind N e)) 0) l []) (run_is e h)))
 
   run_named : (e : ℕ) → e < length N.from → Every (λ (q : Piece). Named N q.branch) (run e)
@@ -345,8 +347,8 @@ module _ (o : Options) (N : Network) (L : Lists) (W : Work) (X : Crossings) (p :
       let all : Every (λ (q : Piece). Named N q.branch) (table (piece_in exit) p.pieces) =
       subst (Every (λ (q : Piece). Named N q.branch)) (sym listed)
       (every_append (λ (q : Piece). Named N q.branch) other_runs line_runs
-      (every_joined (λ (q : Piece). Named N q.branch) (other_run o N p exit at) m (λ e k. pick_every (λ (q : Piece). Named N q.branch) (eqb (role_of (kind N e)) 0) [] (run e) (unfold Every in tt) (run_named e k)))
-      (every_joined (λ (q : Piece). Named N q.branch) (line_run o N p exit at) m (λ e k. pick_every (λ (q : Piece). Named N q.branch) (eqb (role_of (kind N e)) 0) (run e) [] (run_named e k) (unfold Every in tt)))) in
+      (every_joined (λ (q : Piece). Named N q.branch) (other_pieces o N p exit at) m (λ e k. pick_every (λ (q : Piece). Named N q.branch) (eqb (role_of (kind N e)) 0) [] (run e) (unfold Every in tt) (run_named e k)))
+      (every_joined (λ (q : Piece). Named N q.branch) (line_pieces o N p exit at) m (λ e k. pick_every (λ (q : Piece). Named N q.branch) (eqb (role_of (kind N e)) 0) (run e) [] (run_named e k) (unfold Every in tt)))) in
       subst (λ (q : Piece). Named N q.branch) (get_d_table (piece_in exit) p.pieces j (piece_in exit 0) h)
       (every_within (λ (q : Piece). Named N q.branch) (table (piece_in exit) p.pieces) (piece_in exit 0) j (subst (λ (n : ℕ). j < n) (sym (length_table (piece_in exit) p.pieces)) h) all)
 
@@ -410,13 +412,13 @@ module _ (o : Options) (N : Network) (L : Lists) (W : Work) (X : Crossings) (p :
         places = λ s. place_at (end o N) s;
         stands = λ s b.
             let h = bus_occupied N.station s b in
-            box_is s h ∙ unfold box_of in ap (λ (r : Frame). box_on (place_at (end o N) s) r.half) (held_frame o N L W X p drawn s (below s h));
+            box_is s h ∙ unfold box_of in ap (λ (r : HalfSides). box_on (place_at (end o N) s) r.half) (held_half_sides o N L W X p drawn s (below s h));
         turns = turns_of;
         offsets = offsets_of;
         first = λ i h.
-            first_moved (frame_at (fs o N) (get_or (order N) i 0)) (frame_in o N p exit (get_or (order N) i 0)) (map (box_of (fs o N) (end o N)) (take i (order N))) (earlier N exit i)
+            first_moved (half_sides_at (fs o N) (get_or (order N) i 0)) (half_sides_in o N p exit (get_or (order N) i 0)) (map (box_of (fs o N) (end o N)) (take i (order N))) (earlier N exit i)
             (seed N (get_or (order N) i 0)) (place_at (end o N) (get_or (order N) i 0)) (os o N)
-            (held_frame o N L W X p drawn (get_or (order N) i 0) (below (get_or (order N) i 0) (at_turn i h))) (earlier_are i h)
+            (held_half_sides o N L W X p drawn (get_or (order N) i 0) (below (get_or (order N) i 0) (at_turn i h))) (earlier_are i h)
             (place_of (fs o N) (os o N) (seeds o N) (order N) turns i h);
       }
 
@@ -426,8 +428,8 @@ module _ (o : Options) (N : Network) (L : Lists) (W : Work) (X : Crossings) (p :
   found f i h =
       let s = get_or (order N) i 0 in
       found_is (fs o N) (os o N) (seeds o N) (order N) turns i h
-      ∙ ap (λ (r : Frame). free (buffered (place_at (end o N) s) r) (map (box_of (fs o N) (end o N)) (take i (order N)))) (held_frame o N L W X p drawn s (below s (at_turn i h)))
-      ∙ ap (free (buffered (place_at (end o N) s) (frame_in o N p exit s))) (earlier_are i h) ∙ f i h
+      ∙ ap (λ (r : HalfSides). free (buffered (place_at (end o N) s) r) (map (box_of (fs o N) (end o N)) (take i (order N)))) (held_half_sides o N L W X p drawn s (below s (at_turn i h)))
+      ∙ ap (free (buffered (place_at (end o N) s) (half_sides_in o N p exit s))) (earlier_are i h) ∙ f i h
 
   finite_at : (s : ℕ) → Filled s → Finite (box_of (fs o N) (end o N) s)
   unfolding finite_box
@@ -447,20 +449,29 @@ module _ (o : Options) (N : Network) (L : Lists) (W : Work) (X : Crossings) (p :
       no-box : T (finite_box no_box)
       no-box = unfold is_finite of_bits lib.Ieee.of_fields lib.Ieee.odd in tt
 
-  out_at : (s : ℕ) → Filled s → Outward (Rattle.numbers.specs.Ops.◌⊗◌ (frame_at (fs o N) s).f (frame_at (fs o N) s).buffer)
+  out_at : (s : ℕ) → Filled s → Outward (Rattle.numbers.specs.Ops.◌⊗◌ (half_sides_at (fs o N) s).f (half_sides_at (fs o N) s).buffer)
   unfolding box_of box_on
   out_at s h =
       let R = ranges o (in_range_lem o N L W X p drawn) in
-      let B = block o (seeds o N) (counts o N) (gap o N) (unit o N) (sizes o N) (unit_nm o.fill (seeds o N) (counts o N) (sizes o N) R.fill) R.first R.second R.buffer.0 R.buffer.1 s in
-      buffer_out (frame_at (fs o N) s) B (finite_add (place_at (end o N) s).x (frame_at (fs o N) s).half.w (finite_at s h).2)
+      let B = block o (seeds o N) (counts o N) (median_spacing o N) (unit o N) (sizes o N) (unit_nm o.fill (seeds o N) (counts o N) (sizes o N) R.fill) R.first R.second R.buffer.0 R.buffer.1 s in
+      buffer_out (half_sides_at (fs o N) s) B (finite_add (place_at (end o N) s).x (half_sides_at (fs o N) s).half.w (finite_at s h).2)
+
+  clean_by : ((i : ℕ) → i < length (order N) → found_free (fs o N) (os o N) (seeds o N) (order N) i ≡ true)
+      → (A : Audit.Lists) (Z : Audit.Work) (f : Figures) → (audit_of (audited N exit p.pieces) A Z).answer ≡ Ok f → f.overlaps ≡ 0
+  unfolding audited audit_parts boxes_of
+  clean_by free A Z f e =
+      accepted_apart (audited N exit p.pieces) A Z f (λ s t n h k.
+      subst (λ (l : List Box). overlap (shrunk (box_in l t)) (box_in l s) ≡ false) (sym (held_boxes o N L W X p drawn))
+      (no_overlap N.station N.kv (counts o N) (fs o N) (os o N) (seeds o N) (seeds_length N) free out_at finite_at s t n h k)) e
 
   clean : ((i : ℕ) → i < length (order N) → is_free o N exit p i (place_at (end o N) (get_or (order N) i 0)) ≡ true)
       → (A : Audit.Lists) (Z : Audit.Work) (f : Figures) → (audit_of (audited N exit p.pieces) A Z).answer ≡ Ok f → f.overlaps ≡ 0
-  unfolding audited audit_parts boxes_of
-  clean free A Z f e =
-      accepted_apart (audited N exit p.pieces) A Z f (λ s t n h k.
-      subst (λ (l : List Box). overlap (shrunk (box_in l t)) (box_in l s) ≡ false) (sym (held_boxes o N L W X p drawn))
-      (no_overlap N.station N.kv (counts o N) (fs o N) (os o N) (seeds o N) (seeds_length N) (found free) out_at finite_at s t n h k)) e
+  clean free = clean_by (found free)
+
+  -- Where every search finds a free place, no box overlaps another.
+  pub clean_by_search : all_free o N ≡ true → (A : Audit.Lists) (Z : Audit.Work) (f : Figures) → (audit_of (audited N exit p.pieces) A Z).answer ≡ Ok f → f.overlaps ≡ 0
+  unfolding all_free planned unit_for Scale.scales bus_counts Seed.seeds
+  clean_by_search found_all = clean_by (all_found (fs o N) (os o N) (seeds o N) (order N) turns (length (order N)) (omega arith) found_all)
 
   -- THE CLAIM
   pub wall : Wall o N (layout_of o N L W X).lists p

@@ -63,7 +63,7 @@ use Rattle.runs.specs.Lists as RunsLists
 use Rattle.numbers.specs.Over as OrderOver
 use Rattle.routing.specs.Route as RoutingRoute
 use Rattle.routing.specs.Stages.Views as RoutingViews
-use Rattle.routing.specs.Gap as CrossingsGap
+use Rattle.routing.specs.Clearance as CrossingsClearance
 use Rattle.routing.specs.Routes as RoutesRoutes
 use Rattle.routing.specs.Stages.Routed as RoutesRouted
 use Rattle.results.specs.Bounds as ResultsBounds
@@ -127,7 +127,7 @@ searching s =
       tier_scale_2 = (NetworkOptions.defaults).tier_scale_2;
       search = s;
       route_iterations = 0;
-      gaps = NetworkOptions.default_gaps;
+      block_options = NetworkOptions.default_block_options;
     }
 
 abbrev pub empty : Network
@@ -237,23 +237,33 @@ worked = network (0 ∷ 0 ∷ []) (0x4059_0000_0000_0000 ∷ 0x4059_0000_0000_00
 abbrev pub checked : ℕ → List ℕ
 checked ways = let b = WallClaim.draw_and_audit (searching (pos 10)) worked results room (Net.crossings [] [] (zeros ways)) in numbers b.answer ++ map bits_of b.lists.pieces
 
--- three crossings of a cleared path, each at 0.5 of one channel from 0 to 1, so that 0.5 is what each wishes: their places after one round of spacing, by the gap
+-- three crossings of a cleared walk, each at 0.5 of one channel from 0 to 1, so that 0.5 is what each wishes: their
+-- places after one round of spacing, by the least step
 abbrev pub crossing : ℕ → RoutingRoute.Crossing
-crossing k = record { channel = 0; branch = 0; step = k; place = f½ }
+crossing k = record { channel = 0; branch = 0; on_line = k; fraction = f½ }
 
 abbrev pub routes : ℕ → RoutingRoute.Routing
-routes gap =
+routes least_step =
     record {
-      channels = record { low = 0; high = 1; range = record { lo = f0; hi = f1; gap = bits gap } } ∷ [];
+      channels = record { low = 0; high = 1; channel = record { lo = f0; hi = f1; least_step = bits least_step } } ∷ [];
       crossings = crossing 0 ∷ crossing 1 ∷ crossing 2 ∷ [];
-      paths = [];
+      kept_crossings = [];
     }
 
-abbrev pub scene : RoutingRoute.Scene
-scene = record { occupied = []; centres = []; boxes = []; scales = []; gap = f0; corners = []; twins = []; lines = [] }
+abbrev pub scene : RoutingRoute.MeshScene
+scene = record {
+  occupied = [];
+  centres = [];
+  boxes = [];
+  scales = [];
+  clearance = f0;
+  corners = [];
+  twins = [];
+  lines = [];
+}
 
 abbrev pub wishes : ℕ → List ℕ
-wishes gap = map bits_of (RoutingRoute.rounds_to scene (routes gap) 1)
+wishes least_step = map bits_of (RoutingRoute.rounds_to scene (routes least_step) 1)
 
 abbrev pub box : Float → Float → Float → Float → Box
 box a b c d = record { left = a; top = b; right = c; bottom = d }
@@ -273,7 +283,7 @@ pub record Row : Type 0 where
   pub says : List ℕ
 
 unfoldable pub table : List Row
-unfolding add sub mul div neg sum round units odd size span climb lt le eq of_int of_bits of_fields to_bits is_nan count_trailing_zeros audited audit_parts WallClaim.check_by WallClaim.check_after WallClaim.both_after WallClaim.draw_and_audit FloatSmall.max_of FloatSmall.min_of FloatSmall.abs_of FloatSmall.is_finite FloatSmall.clamp_of FloatHypot.grains FloatHypot.root_in FloatHypot.nearest_root FloatHypot.hypot_of FloatFloor.size_down FloatFloor.size_up FloatFloor.floor_int FloatKey.key_of OrderOrder.insert_by OrderOrder.sort_by OrderOrder.up_from OrderOrder.count OrderOrder.keep OrderTable.table_from OrderTable.joined OrderTable.strided OrderMedian.finite_of OrderMedian.insert_float OrderMedian.sort_floats OrderMedian.middle OrderMedian.median_of GeometryClip.part GeometryClip.cut GeometryClip.clip_by GeometryClip.clipped GeometryClip.hits GeometryCross.orient GeometryCross.crosses GeometryCross.parallel GeometryCross.param GeometryCross.place_or NeighboursNear.distance NeighboursNear.nearer NeighboursNear.nearest_to NeighboursNear.nearest NeighboursNear.near NeighboursNear.within NeighboursNear.neighbours NeighboursOverlap.meet NeighboursOverlap.overlap ChannelSpace.wish_key ChannelSpace.wish_of ChannelSpace.read_back ChannelSpace.wish_order ChannelSpace.in_order ChannelSpace.even_at ChannelSpace.forward ChannelSpace.forward_all ChannelSpace.backward ChannelSpace.crowded ChannelSpace.spaced ChannelSpace.put_all ChannelChannel.reach_on ChannelChannel.reach ChannelChannel.held ChannelChannel.channel_of MeshMesh.next MeshMesh.end_at MeshMesh.low_at MeshMesh.high_at OrderOrder.all_to MeshMesh.corner_ok MeshMesh.reversed MeshMesh.pairs MeshMesh.twin_ok MeshMesh.edges_ok MeshMesh.mesh_ok WalkRound.round_of WalkRound.first_at WalkRound.around WalkTrace.home_of WalkTrace.crosses_edge WalkTrace.leave WalkTrace.sought WalkTrace.started WalkTrace.out_by WalkTrace.pass_on WalkTrace.after WalkTrace.walk WalkTrace.traced NetworkWords.past_to NetworkWords.station_count NetworkWords.buses_in NetworkWords.bus_counts NetworkWords.occupied NetworkWords.known NetworkWords.live NetworkWords.kind_by NetworkWords.kind_for NetworkWords.kind_of NetworkWords.kinds NetworkSeed.point_of NetworkSeed.bus_point NetworkSeed.sum_to NetworkSeed.mean NetworkSeed.seed_of NetworkSeed.seeds NetworkOptions.defaults NetworkOptions.between NetworkOptions.search_fits NetworkOptions.gap_fits NetworkOptions.gaps_fit NetworkOptions.in_range NetworkOptions.search_of NetworkRefusal.above NetworkRefusal.far_out NetworkRefusal.too_far NetworkRefusal.shape_refusal NetworkRefusal.is_voltage NetworkRefusal.stray_voltage NetworkViews.points_in NetworkViews.boxes_in StationsColumn.falling StationsColumn.column StationsColumn.columns StationsRow.has_row StationsRow.row_key StationsRow.rows_in StationsRow.row StationsRow.from_row StationsRow.to_row StationsRow.from_rows StationsRow.to_rows UnitsSize.width_for UnitsSize.height_for UnitsSize.size_for UnitsSize.sizes_for UnitsSize.sizes UnitsSize.sides UnitsUnit.coordinates UnitsUnit.spacing_of UnitsUnit.spacing UnitsUnit.typical UnitsUnit.unit_for UnitsScale.tier UnitsScale.occupied_below UnitsScale.scale_at UnitsScale.scales_of UnitsScale.scales PlacementOffset.offset_number PlacementOffset.offset_of PlacementOffset.grid_number PlacementOffset.offset_grid PlacementOffset.offsets TurnsTurns.top_to TurnsTurns.placement_order PlacementPlaceSearch.frame_for PlacementPlaceSearch.frames PlacementPlaceSearch.box_on PlacementPlaceSearch.buffered PlacementPlaceSearch.free PlacementPlaceSearch.place PlacementPlaceSearch.first_free PlacementPlaceSearch.place_for PlacementPlace.box_of PlacementPlace.next_place PlacementPlace.places_to PlacementPlace.places PlacementPlace.found_free PlacementPlace.boxes PlacementSized.largest PlacementSized.sized PlacementSized.sized_box PlacementSized.all_sized PlacementSized.ill_sized GeometryEntry.enters BoxTreeFirst.entry_at BoxTreeFirst.comes_first BoxTreeFirst.sooner BoxTreeFirst.look BoxTreeFirst.first_hit BoxTreeLength.index_length CornerCorner.corners_of CornerCorner.cost CornerCorner.cost_key CornerCorner.clears CornerCorner.clearing CornerCorner.cheaper CornerCorner.cheapest CornerCorner.corner DetourDetour.detour_on DetourDetour.detour_to DetourDetour.detour BarsBar.bar_x BarsBar.row_y BarsBar.span_of BarsBar.include BarsBar.include_end BarsBar.include_branch BarsBar.span_to BarsBar.reach BarsBar.lengthened BarsBar.bar_for BarsBar.spans BarsBar.bars BarsBar.position BarsBar.row_end BarsExit.exit_x BarsExit.exit RunsRun.slot RunsRun.led_path RunsRun.line_points RunsRun.run_for RunsRun.run_of RunsRun.runs RunsRun.apart RunsRun.pieces RunsRun.is_line RunsRun.all_pieces RunsRun.role RunsFinite.all_of RunsFinite.finite_point RunsFinite.finite_box RunsFinite.finite_bar RunsLists.flat OrderOver.over RunsLists.after RoutingRoute.vertex_of RoutingRoute.number_of RoutingRoute.make_channel RoutingRoute.with_channel RoutingRoute.crossing_of RoutingRoute.cross RoutingRoute.cross_all RoutingRoute.add_walk RoutingRoute.add_branch RoutingRoute.traced_to RoutingRoute.routing RoutingRoute.point_on RoutingRoute.point_of RoutingRoute.members RoutingRoute.exit_of RoutingRoute.wish RoutingRoute.space_one RoutingRoute.spaced_to RoutingRoute.rounds_to RoutingRoute.waypoints CrossingsGap.gap_of RoutingViews.exit_at RoutingViews.line_between RoutingViews.line_for RoutingViews.line_in RoutingViews.lines_in RoutingViews.scene_in RoutesRoutes.mesh_used RoutesRoutes.mesh_fits RoutesRouted.routed_in RoutesRoutes.crossings_of RoutesRoutes.route_refusal ResultsBounds.around ResultsBounds.around_all ResultsBounds.bounds_of LayoutDrawing.straight_scene LayoutDrawing.planned LayoutDrawing.led_scene LayoutDrawing.line_for LayoutDrawing.line_of LayoutDrawing.routed_scene LayoutDrawing.routed_of LayoutDrawing.ways_of LayoutDrawing.scene_of LayoutDrawing.drawing LayoutAnswer.short_results LayoutAnswer.short_work LayoutAnswer.early LayoutAnswer.piece_room LayoutAnswer.crossing_room LayoutAnswer.all_finite LayoutAnswer.routed_by LayoutAnswer.late_by LayoutAnswer.late LayoutAnswer.lists_of LayoutAnswer.lists_after LayoutAnswer.cleared_work LayoutAnswer.cleared_crossings LayoutAnswer.answer_for LayoutAnswer.call_late LayoutAnswer.call_early LayoutAnswer.layout_of FiguresFit.all_named FiguresFit.is_line FiguresFit.end_at FiguresFit.joins FiguresFit.all_join FiguresFit.moderate FiguresFit.all_moderate FiguresFit.ordered FiguresFit.all_ordered FiguresFit.fits FiguresScale.sized_ends FiguresScale.ill_drawn FiguresOverlaps.overlapping FiguresOverlaps.overlapping_pairs FiguresOverlaps.overlaps FiguresFigure.middle FiguresFigure.middles FiguresFigure.displacements FiguresFigure.shorter FiguresFigure.spacings_from FiguresFigure.spacings FiguresRelative.piece_start FiguresRelative.piece_end FiguresRelative.longer FiguresRelative.begun FiguresRelative.ratio FiguresRelative.ended FiguresRelative.relative_on FiguresRelative.relatives AuditThrough.station_at AuditThrough.crosses AuditThrough.runs_through AuditThrough.through AuditAnswer.too_short AuditAnswer.early AuditAnswer.boxes_of AuditAnswer.stations_of AuditAnswer.late_by AuditAnswer.late AuditAnswer.lists_of AuditAnswer.figures_of AuditAnswer.lists_after AuditAnswer.cleared AuditAnswer.call_late AuditAnswer.call_early AuditAnswer.audit_of ListingField.digit ListingField.closed ListingField.digits_to ListingField.limited ListingField.positive ListingField.whole ListingField.hexadecimal ListingField.pattern ListingField.minus ListingField.plus ListingField.bus_number ListingLine.begins ListingLine.bus_names ListingLine.branch_names ListingLine.and_then ListingLine.bus_line ListingLine.branch_line ListingInput.no_buses ListingInput.no_branches ListingInput.add_bus ListingInput.add_branch ListingInput.lines_to ListingInput.bus_lines ListingInput.at_end ListingInput.branch_lines ListingInput.with_branches ListingInput.with_buses ListingInput.parsed ListingInput.read ListingInput.counted FieldsSpell.glyph FieldsSpell.digits FieldsSpell.places_in FieldsSpell.number_field FieldsSpell.shown FieldsSpell.float_field ListingOutput.piece_names ListingOutput.point_fields ListingOutput.piece_line ListingOutput.listing ListingOutput.refusal FieldsSpell.put_at Listed.list_options Listed.plotted Listed.text_by Listed.text_of Listed.network_of Listed.output_of SmallHeld.held_call ListingLinePlaces.answer ListingLinePlaces.number_of NetworkRefusal.number_of
+unfolding add sub mul div neg sum round units odd size span climb lt le eq of_int of_bits of_fields to_bits is_nan count_trailing_zeros audited audit_parts WallClaim.check_by WallClaim.check_after WallClaim.both_after WallClaim.draw_and_audit FloatSmall.max_of FloatSmall.min_of FloatSmall.abs_of FloatSmall.is_finite FloatSmall.clamp_of FloatHypot.grains FloatHypot.root_in FloatHypot.nearest_root FloatHypot.hypot_of FloatFloor.size_down FloatFloor.size_up FloatFloor.floor_int FloatKey.key_of OrderOrder.insert_by OrderOrder.sort_by OrderOrder.up_from OrderOrder.count OrderOrder.keep OrderTable.table_from OrderTable.joined OrderTable.strided OrderMedian.finite_of OrderMedian.insert_float OrderMedian.sort_floats OrderMedian.middle OrderMedian.median_of GeometryClip.part GeometryClip.cut GeometryClip.clip_by GeometryClip.clipped GeometryClip.hits GeometryCross.orient GeometryCross.crosses GeometryCross.parallel GeometryCross.param GeometryCross.fraction_or NeighboursNear.distance NeighboursNear.nearer NeighboursNear.nearest_to NeighboursNear.nearest NeighboursNear.near NeighboursNear.within NeighboursNear.neighbours NeighboursOverlap.meet NeighboursOverlap.overlap ChannelSpace.wish_key ChannelSpace.wish_of ChannelSpace.read_back ChannelSpace.wish_order ChannelSpace.in_order ChannelSpace.even_at ChannelSpace.forward ChannelSpace.forward_all ChannelSpace.backward ChannelSpace.crowded ChannelSpace.spaced ChannelSpace.put_all ChannelChannel.reach_on ChannelChannel.reach ChannelChannel.held ChannelChannel.channel_of MeshMesh.next MeshMesh.end_at MeshMesh.low_at MeshMesh.high_at OrderOrder.all_to MeshMesh.corner_ok MeshMesh.reversed MeshMesh.pairs MeshMesh.twin_ok MeshMesh.half_edges_ok MeshMesh.mesh_ok WalkRound.round_of WalkRound.first_at WalkRound.around WalkTrace.home_of WalkTrace.crosses_half_edge WalkTrace.leave WalkTrace.sought WalkTrace.started WalkTrace.out_by WalkTrace.pass_on WalkTrace.after WalkTrace.walk WalkTrace.traced NetworkWords.past_to NetworkWords.station_count NetworkWords.buses_in NetworkWords.bus_counts NetworkWords.occupied NetworkWords.known NetworkWords.live NetworkWords.kind_by NetworkWords.kind_for NetworkWords.kind_of NetworkWords.kinds NetworkSeed.point_of NetworkSeed.bus_point NetworkSeed.sum_to NetworkSeed.mean NetworkSeed.seed_of NetworkSeed.seeds NetworkOptions.defaults NetworkOptions.between NetworkOptions.search_fits NetworkOptions.block_option_fits NetworkOptions.block_options_fit NetworkOptions.in_range NetworkOptions.search_of NetworkRefusal.above NetworkRefusal.far_out NetworkRefusal.too_far NetworkRefusal.shape_refusal NetworkRefusal.is_voltage NetworkRefusal.stray_voltage NetworkViews.points_in NetworkViews.boxes_in StationsColumn.falling StationsColumn.column StationsColumn.columns StationsRow.has_row StationsRow.row_key StationsRow.rows_in StationsRow.row StationsRow.from_row StationsRow.to_row StationsRow.from_rows StationsRow.to_rows UnitsSize.width_for UnitsSize.height_for UnitsSize.size_for UnitsSize.sizes_for UnitsSize.sizes UnitsSize.sides UnitsUnit.coordinates UnitsUnit.spacing_of UnitsUnit.spacing UnitsUnit.typical UnitsUnit.unit_for UnitsScale.tier UnitsScale.occupied_below UnitsScale.scale_at UnitsScale.scales_of UnitsScale.scales PlacementOffset.offset_number PlacementOffset.offset_of PlacementOffset.grid_number PlacementOffset.offset_grid PlacementOffset.offsets TurnsTurns.top_to TurnsTurns.placement_order PlacementPlaceSearch.half_sides_for PlacementPlaceSearch.half_sides PlacementPlaceSearch.box_on PlacementPlaceSearch.buffered PlacementPlaceSearch.free PlacementPlaceSearch.place PlacementPlaceSearch.first_free PlacementPlaceSearch.place_for PlacementPlace.box_of PlacementPlace.next_place PlacementPlace.places_to PlacementPlace.places PlacementPlace.found_free PlacementPlace.boxes PlacementSized.largest PlacementSized.sized PlacementSized.sized_box PlacementSized.all_sized PlacementSized.ill_sized GeometryEntry.enters BoxTreeFirst.entry_at BoxTreeFirst.comes_first BoxTreeFirst.sooner BoxTreeFirst.look BoxTreeFirst.first_hit BoxTreeLength.index_length CornerCorner.corners_of CornerCorner.cost CornerCorner.cost_key CornerCorner.avoids CornerCorner.avoiding CornerCorner.cheaper CornerCorner.cheapest CornerCorner.corner DetourDetour.detour_on DetourDetour.detour_to DetourDetour.detour BarsBar.bar_x BarsBar.row_y BarsBar.span_of BarsBar.include BarsBar.include_end BarsBar.include_branch BarsBar.span_to BarsBar.bar_ends BarsBar.lengthened BarsBar.bar_for BarsBar.spans BarsBar.bars BarsBar.position BarsBar.row_end BarsExit.exit_x BarsExit.exit RunsRun.row_end_at RunsRun.led_path RunsRun.line_points RunsRun.run_for RunsRun.run_of RunsRun.runs RunsRun.apart RunsRun.pieces RunsRun.is_line RunsRun.all_pieces RunsRun.role RunsFinite.all_of RunsFinite.finite_point RunsFinite.finite_box RunsFinite.finite_bar RunsLists.flat OrderOver.over RunsLists.after RoutingRoute.vertex_of RoutingRoute.number_of RoutingRoute.make_channel RoutingRoute.with_channel RoutingRoute.crossing_of RoutingRoute.cross RoutingRoute.cross_all RoutingRoute.add_walk RoutingRoute.add_branch RoutingRoute.traced_to RoutingRoute.routing RoutingRoute.point_on RoutingRoute.point_of RoutingRoute.members RoutingRoute.exit_of RoutingRoute.wish RoutingRoute.space_one RoutingRoute.spaced_to RoutingRoute.rounds_to RoutingRoute.waypoints CrossingsClearance.clearance_of RoutingViews.exit_at RoutingViews.line_between RoutingViews.line_for RoutingViews.line_in RoutingViews.lines_in RoutingViews.scene_in RoutesRoutes.mesh_used RoutesRoutes.mesh_fits RoutesRouted.routed_in RoutesRoutes.crossings_of RoutesRoutes.route_refusal ResultsBounds.around ResultsBounds.around_all ResultsBounds.bounds_of LayoutDrawing.straight_scene LayoutDrawing.planned LayoutDrawing.led_scene LayoutDrawing.line_for LayoutDrawing.line_of LayoutDrawing.routed_scene LayoutDrawing.routed_of LayoutDrawing.waypoints_of LayoutDrawing.scene_of LayoutDrawing.drawing LayoutAnswer.short_results LayoutAnswer.short_work LayoutAnswer.early LayoutAnswer.piece_room LayoutAnswer.crossing_room LayoutAnswer.all_finite LayoutAnswer.routed_by LayoutAnswer.late_by LayoutAnswer.late LayoutAnswer.lists_of LayoutAnswer.lists_after LayoutAnswer.zeroed_work LayoutAnswer.zeroed_crossings LayoutAnswer.answer_for LayoutAnswer.call_late LayoutAnswer.call_early LayoutAnswer.layout_of FiguresFit.all_named FiguresFit.is_line FiguresFit.end_at FiguresFit.joins FiguresFit.all_join FiguresFit.moderate FiguresFit.all_moderate FiguresFit.ordered FiguresFit.all_ordered FiguresFit.fits FiguresScale.sized_ends FiguresScale.ill_drawn FiguresOverlaps.overlapping FiguresOverlaps.overlapping_pairs FiguresOverlaps.overlaps FiguresFigure.middle FiguresFigure.middles FiguresFigure.displacements FiguresFigure.shorter FiguresFigure.spacings_from FiguresFigure.spacings FiguresRelative.piece_start FiguresRelative.piece_end FiguresRelative.longer FiguresRelative.begun FiguresRelative.ratio FiguresRelative.ended FiguresRelative.relative_on FiguresRelative.relatives AuditThrough.station_at AuditThrough.crosses AuditThrough.runs_through AuditThrough.through AuditAnswer.too_short AuditAnswer.early AuditAnswer.boxes_of AuditAnswer.stations_of AuditAnswer.late_by AuditAnswer.late AuditAnswer.lists_of AuditAnswer.figures_of AuditAnswer.lists_after AuditAnswer.cleared AuditAnswer.call_late AuditAnswer.call_early AuditAnswer.audit_of ListingField.digit ListingField.closed ListingField.digits_to ListingField.limited ListingField.positive ListingField.whole ListingField.hexadecimal ListingField.pattern ListingField.minus ListingField.plus ListingField.bus_number ListingLine.begins ListingLine.bus_names ListingLine.branch_names ListingLine.and_then ListingLine.bus_line ListingLine.branch_line ListingInput.no_buses ListingInput.no_branches ListingInput.add_bus ListingInput.add_branch ListingInput.lines_to ListingInput.bus_lines ListingInput.at_end ListingInput.branch_lines ListingInput.with_branches ListingInput.with_buses ListingInput.parsed ListingInput.read ListingInput.counted FieldsSpell.glyph FieldsSpell.digits FieldsSpell.places_in FieldsSpell.number_field FieldsSpell.shown FieldsSpell.float_field ListingOutput.piece_names ListingOutput.point_fields ListingOutput.piece_line ListingOutput.listing ListingOutput.refusal FieldsSpell.put_at Listed.list_options Listed.plotted Listed.text_by Listed.text_of Listed.network_of Listed.output_of SmallHeld.held_call ListingLinePlaces.answer ListingLinePlaces.number_of NetworkRefusal.number_of
 table =
     -- the worked output of `drawlist`, its bytes
     record {
@@ -313,7 +323,7 @@ table =
           ∷ truth (GeometryClip.hits (point f0 f0) (point f1 f0) (box (bits 0x3FF8_0000_0000_0000) f0 f2 f1)) ∷ [];
       says = 1 ∷ 0 ∷ [];
     }
-    -- three wishes 0.5 on 0 to 1: gap 0.25 gives 0.5, 0.75, 1; gaps 0.5 and 0.75 give 0, 0.5, 1
+    -- three wishes 0.5 on 0 to 1: least step 0.25 gives 0.5, 0.75, 1; 0.5 and 0.75 give 0, 0.5, 1
     ∷ record { gives = wishes 0x3FD0_0000_0000_0000; says = 0x3FE0_0000_0000_0000 ∷ 0x3FE8_0000_0000_0000 ∷ 0x3FF0_0000_0000_0000 ∷ [] }
     ∷ record { gives = wishes 0x3FE0_0000_0000_0000; says = 0 ∷ 0x3FE0_0000_0000_0000 ∷ 0x3FF0_0000_0000_0000 ∷ [] }
     ∷ record { gives = wishes 0x3FE8_0000_0000_0000; says = 0 ∷ 0x3FE0_0000_0000_0000 ∷ 0x3FF0_0000_0000_0000 ∷ [] }

@@ -3,7 +3,7 @@
 -- Definitions only.
 use Rattle.std.specs.Prelude.{ℕ, ◌+◌, ◌-◌, ◌*◌, ◌^◌, ◌≤◌, ◌<◌, ◌≡◌, ◌⊎◌, ◌≢◌, Bool, true, false, cond, ◌&&◌, ◌||◌, List}
 use Rattle.std.specs.Prelude.{[], ◌∷◌, ◌++◌, map, T, eqb, leb, ltb, ℤ, pos, negsuc, length, get_or, take, Float, Ok}
-use Rattle.std.proofs.Math.Option.{Option, none, some}
+use Rattle.std.specs.Prelude.{Option, Some, None}
 use Rattle.std.specs.Float.{binary64, nan}
 use Rattle.std.specs.Float.Ieee.{eq, lt, le, to_bits}
 use Rattle.numbers.specs.Small.{max_of}
@@ -29,12 +29,12 @@ use Rattle.stations.specs.Scale.{scales}
 use Rattle.offsets.specs.declared.offset.Offset.{Offset}
 use Rattle.offsets.specs.Complete.{Complete}
 use Rattle.offsets.specs.Offset.{offsets}
-use Rattle.placement.specs.Search.{Frame, box_on, buffered, free, tries, FirstOf}
+use Rattle.placement.specs.Search.{HalfSides, box_on, buffered, free, tries, FirstOf}
 use Rattle.placement.specs.Turns.{placement_order}
 use Rattle.boxes.specs.Detour.{detour}
 use Rattle.runs.specs.Run.{Piece}
 use Rattle.routing.specs.Route as Route
-use Rattle.routing.specs.Gap.{gap_of}
+use Rattle.routing.specs.Clearance.{clearance_of}
 use Rattle.routing.specs.Routes.{crossings_of}
 use Rattle.audit.specs.Relative.{piece_start, piece_end}
 use Rattle.drawing.specs.declared.answer.Plot.{Plot}
@@ -142,7 +142,7 @@ abbrev pub all_seeds : Network → List Point
 all_seeds N = seeds N.station N.xy
 
 abbrev pub all_sizes : Options → Network → List Size
-all_sizes o N = sizes o.gaps N.station (all_kinds N) (bus_counts N.station)
+all_sizes o N = sizes o.block_options N.station (all_kinds N) (bus_counts N.station)
 
 abbrev pub spacing_of : Network → Float
 spacing_of N = spacing (all_seeds N) (bus_counts N.station)
@@ -203,14 +203,14 @@ pub record Turns (N : Network) : Type 0 where
 abbrev pub searched : Options → List Offset
 searched o = offsets (search_of o.search)
 
--- what station s's interior is drawn in: half its sides, gap × (buses − 1) + 2 × padding and max(rows, shortest bar) +
--- 2 × padding blocks, its block, unit × scale, and its buffer
-unfoldable pub frame_in : Options → Network → Plot → Lists → ℕ → Frame
-frame_in o N p L s =
+-- what station s's interior is drawn in: half its sides, bar gap × (buses − 1) + 2 × padding and max(rows, shortest
+-- bar) + 2 × padding blocks, its block, unit × scale, and its buffer
+unfoldable pub half_sides_in : Options → Network → Plot → Lists → ℕ → HalfSides
+half_sides_in o N p L s =
     let f = p.unit ⊗ get_or L.scales s nan in
-    let w = o.gaps.bar_gap ⊗ num (buses_in N.station s - 1) ⊕ f2 ⊗ o.gaps.pad in
-    let h = max_of (num (row_count N s)) o.gaps.min_bar ⊕ f2 ⊗ o.gaps.pad in
-    record { half = record { w = w ⊗ f ⊘ f2; h = h ⊗ f ⊘ f2 }; f = f; buffer = o.gaps.buffer }
+    let w = o.block_options.bar_gap ⊗ num (buses_in N.station s - 1) ⊕ f2 ⊗ o.block_options.pad in
+    let h = max_of (num (row_count N s)) o.block_options.min_bar ⊕ f2 ⊗ o.block_options.pad in
+    record { half = record { w = w ⊗ f ⊘ f2; h = h ⊗ f ⊘ f2 }; f = f; buffer = o.block_options.buffer }
 
 -- the boxes of the stations placed before the i-th
 abbrev pub earlier : Network → Lists → ℕ → List Box
@@ -218,20 +218,20 @@ earlier N L i = map (box_at L.boxes) (take i (order N))
 
 -- At c the i-th station's box with its buffer strictly overlaps no earlier box.
 abbrev pub is_free : Options → Network → Lists → Plot → ℕ → Point → Bool
-is_free o N L p i c = free (buffered c (frame_in o N p L (get_or (order N) i 0))) (earlier N L i)
+is_free o N L p i c = free (buffered c (half_sides_in o N p L (get_or (order N) i 0))) (earlier N L i)
 
 pub record Boxes (o : Options) (N : Network) (L : Lists) (p : Plot) : Type 0 where
   -- the stations' places
   pub places : ℕ → Point
   -- The four numbers of an occupied station's box are those of its box centred at its place.
-  pub stands : (s : ℕ) → Occupied N s → box_at L.boxes s ≡ box_on (places s) (frame_in o N p L s).half
+  pub stands : (s : ℕ) → Occupied N s → box_at L.boxes s ≡ box_on (places s) (half_sides_in o N p L s).half
   -- Stations are placed one after another, in this order.
   pub turns : Turns N
   -- Offsets are those within the search, each once, in their order.
   pub offsets : Complete (search_of o.search) (searched o)
   -- The i-th station's place is the first free one of the search, or its seed if none is free.
   pub first : (i : ℕ) → i < length (order N)
-      → FirstOf (is_free o N L p i) (tries (seed N (turn N i)) (frame_in o N p L (turn N i)).half (searched o))
+      → FirstOf (is_free o N L p i) (tries (seed N (turn N i)) (half_sides_in o N p L (turn N i)).half (searched o))
       (seed N (turn N i)) (places (turn N i))
 
 -- ---- bars (docs/RULES.md, 'Columns' and 'Bars and row ends')
@@ -257,21 +257,21 @@ RowAt N i r =
 abbrev pub block_in : Plot → Lists → ℕ → Float
 block_in p L s = p.unit ⊗ get_or L.scales s nan
 
--- A bar's x is left + (padding + gap × column) × f.
+-- A bar's x is left + (padding + bar gap × column) × f.
 abbrev pub bar_x_in : Options → Network → Plot → Lists → ℕ → Float
 bar_x_in o N p L i =
     let s = station_of N.station i in
-    (box_at L.boxes s).left ⊕ (o.gaps.pad ⊕ o.gaps.bar_gap ⊗ num (column_of N i)) ⊗ block_in p L s
+    (box_at L.boxes s).left ⊕ (o.block_options.pad ⊕ o.block_options.bar_gap ⊗ num (column_of N i)) ⊗ block_in p L s
 
 -- A row's y is top + (padding + row + 0.5) × f.
 abbrev pub row_y_in : Options → Plot → Lists → ℕ → ℕ → Float
-row_y_in o p L s r = (box_at L.boxes s).top ⊕ (o.gaps.pad ⊕ num r ⊕ f½) ⊗ block_in p L s
+row_y_in o p L s r = (box_at L.boxes s).top ⊕ (o.block_options.pad ⊕ num r ⊕ f½) ⊗ block_in p L s
 
 -- the four numbers of a bar at x from y0 to y1: if shorter than shortest bar × f it gets that length about its middle
 unfoldable pub bar_from : Options → Float → Float → Float → Float → List Float
 bar_from o f x y0 y1 =
     let m = (y0 ⊕ y1) ⊘ f2 in
-    let least = o.gaps.min_bar ⊗ f in
+    let least = o.block_options.min_bar ⊗ f in
     pick (lt (y1 ⊖ y0) least) (x ∷ (m ⊖ least ⊘ f2) ∷ x ∷ (m ⊕ least ⊘ f2) ∷ []) (x ∷ y0 ∷ x ∷ y1 ∷ [])
 
 -- those of bus i in the list of bars, and its two in the list of positions
@@ -287,9 +287,9 @@ pub record Bars (o : Options) (N : Network) (L : Lists) (p : Plot) : Type 0 wher
   pub bare : Patterns N → (i : ℕ) → i < length N.station → ((r : ℕ) → RowAt N i r → ⊥)
       → bar_in L i
       ≡ bar_from o (block_in p L (station_of N.station i)) (bar_x_in o N p L i)
-      ((box_at L.boxes (station_of N.station i)).top ⊕ o.gaps.pad ⊗ block_in p L (station_of N.station i))
+      ((box_at L.boxes (station_of N.station i)).top ⊕ o.block_options.pad ⊗ block_in p L (station_of N.station i))
       ((box_at L.boxes (station_of N.station i)).top
-      ⊕ (o.gaps.pad ⊕ o.gaps.min_bar) ⊗ block_in p L (station_of N.station i))
+      ⊕ (o.block_options.pad ⊕ o.block_options.min_bar) ⊗ block_in p L (station_of N.station i))
   -- Another runs from its first row's y − 0.5 × f to its last row's y + 0.5 × f.
   pub spanned : Patterns N → (i a b : ℕ) → i < length N.station → RowAt N i a → RowAt N i b
       → ((r : ℕ) → RowAt N i r → (a ≤ r) × (r ≤ b))
@@ -322,12 +322,12 @@ abbrev pub exit_at : Options → Network → Plot → Lists → (ℕ → Point) 
 exit_at o N p L places e i j = exit_in L places (station_of N.station i) (station_of N.station j) (end_in o N p L e i).y
 
 -- what is routed of branch e: a line's stations and exits
-unfoldable pub line_of : Options → Network → Plot → Lists → (ℕ → Point) → ℕ → Kind → Option Route.Line
-line_of o N p L places e Undrawn = none
-line_of o N p L places e (Open a b) = none
-line_of o N p L places e (Internal a b) = none
+unfoldable pub line_of : Options → Network → Plot → Lists → (ℕ → Point) → ℕ → Kind → Option Route.RoutedLine
+line_of o N p L places e Undrawn = None
+line_of o N p L places e (Open a b) = None
+line_of o N p L places e (Internal a b) = None
 line_of o N p L places e (Line a b) =
-    some
+    Some
     (record {
       sa = station_of N.station a;
       sb = station_of N.station b;
@@ -346,15 +346,15 @@ stations N = occupied (bus_counts N.station)
 abbrev pub if_used : Options → Network → List ℕ → List ℕ
 if_used o N l = pick (leb 3 (length (stations N)) && ltb 0 o.route_iterations) l []
 
--- what `route_lines` is handed: corner v of the mesh is the occupied station number v
-unfoldable pub routed_in : Options → Network → Plot → Lists → (ℕ → Point) → Route.Scene
+-- what `route_lines` is handed: vertex v of the mesh is the occupied station number v
+unfoldable pub routed_in : Options → Network → Plot → Lists → (ℕ → Point) → Route.MeshScene
 routed_in o N p L places =
     record {
       occupied = stations N;
       centres = coordinates (table places (station_count N.station)) (stations N);
       boxes = box_list N L;
       scales = table (λ s. get_or L.scales s nan) (station_count N.station);
-      gap = gap_of p.unit;
+      clearance = clearance_of p.unit;
       corners = if_used o N N.corners;
       twins = if_used o N N.twins;
       lines = table (λ e. line_of o N p L places e (kind N e)) (length N.from);
@@ -362,12 +362,12 @@ routed_in o N p L places =
 
 -- A line from station s to station t crosses the mesh edges that `route_lines` walks over (crate `channels`, specs
 -- Trace).
-abbrev pub walk_of : Route.Scene → ℕ → ℕ → Walk
+abbrev pub walk_of : Route.MeshScene → ℕ → ℕ → Walk
 walk_of R s t =
     traced R.corners R.twins (λ v. point_at R.centres v) (Route.vertex_of s R.occupied) (Route.vertex_of t R.occupied)
 
--- the point t of the way from the place of mesh edge h's lower corner to that of its higher corner
-abbrev pub point_on : Route.Scene → ℕ → Float → Point
+-- the point t of the way from the place of half-edge h's lower vertex to that of its higher vertex
+abbrev pub point_on : Route.MeshScene → ℕ → Float → Point
 point_on R h t =
     let u = point_at R.centres (low_at R.corners h) in
     let w = point_at R.centres (high_at R.corners h) in
@@ -375,13 +375,13 @@ point_on R h t =
 
 -- The crossings of branch e, a line from station s to station t: a point on each mesh edge that its walk crosses, in
 -- the walk's order, at the place where the iterations of spacing leave that crossing (crate `routing`, specs Routes;
--- crossings are numbered by branch and then in the walk's order). A cleared path has none.
-unfoldable pub crossing_points : Route.Scene → ℕ → ℕ → ℕ → ℕ → List Point
+-- crossings are numbered by branch and then in the walk's order). A cleared walk has none.
+unfoldable pub crossing_points : Route.MeshScene → ℕ → ℕ → ℕ → ℕ → List Point
 crossing_points R iterations e s t =
     let w = walk_of R s t in
     let before = length (Route.traced_to R e).crossings in
-    table (λ k. point_on R (get_or w.edges k 0) (get_or (crossings_of R iterations) (before + k) nan))
-    (cond w.kept (length w.edges) 0)
+    table (λ k. point_on R (get_or w.half_edges k 0) (get_or (crossings_of R iterations) (before + k) nan))
+    (cond w.kept (length w.half_edges) 0)
 
 -- A path from station s to station t with the points that `detour` inserts (crate `boxes`, specs Detour), where there
 -- are iterations.
@@ -389,7 +389,7 @@ abbrev pub detoured : Options → Network → Plot → Lists → ℕ → ℕ →
 detoured o N p L s t path =
     cond
     (ltb 0 o.route_iterations)
-    (detour (box_list N L) (stations N) (gap_of p.unit) s t path)
+    (detour (box_list N L) (stations N) (clearance_of p.unit) s t path)
     path
 
 -- ---- runs (docs/RULES.md, 'Runs, pieces, roles and bounds')
@@ -456,25 +456,25 @@ abbrev pub points_of : Options → Network → Plot → Lists → (ℕ → Point
 points_of o N p L places e = points_by o N p L places e (kind N e)
 
 -- its pieces, where it is a line or where it is none
-abbrev pub run_of : Options → Network → Plot → Lists → (ℕ → Point) → ℕ → List Piece
-run_of o N p L places e = joining e (points_of o N p L places e)
+abbrev pub branch_pieces : Options → Network → Plot → Lists → (ℕ → Point) → ℕ → List Piece
+branch_pieces o N p L places e = joining e (points_of o N p L places e)
 
-abbrev pub line_run : Options → Network → Plot → Lists → (ℕ → Point) → ℕ → List Piece
-line_run o N p L places e = pick (eqb (role_of (kind N e)) 0) (run_of o N p L places e) []
+abbrev pub line_pieces : Options → Network → Plot → Lists → (ℕ → Point) → ℕ → List Piece
+line_pieces o N p L places e = pick (eqb (role_of (kind N e)) 0) (branch_pieces o N p L places e) []
 
-abbrev pub other_run : Options → Network → Plot → Lists → (ℕ → Point) → ℕ → List Piece
-other_run o N p L places e = pick (eqb (role_of (kind N e)) 0) [] (run_of o N p L places e)
+abbrev pub other_pieces : Options → Network → Plot → Lists → (ℕ → Point) → ℕ → List Piece
+other_pieces o N p L places e = pick (eqb (role_of (kind N e)) 0) [] (branch_pieces o N p L places e)
 
 pub record Runs (o : Options) (N : Network) (L : Lists) (p : Plot) (places : ℕ → Point) : Type 0 where
   -- The piece list is one run for each open or internal branch by branch number, then one for each line by branch
   -- number, and nothing else.
-  pub listed : pieces_in L p.pieces ≡ joined (other_run o N p L places) (length N.from)
-      ++ joined (line_run o N p L places) (length N.from)
+  pub listed : pieces_in L p.pieces ≡ joined (other_pieces o N p L places) (length N.from)
+      ++ joined (line_pieces o N p L places) (length N.from)
   -- The pieces of a run lead from its first point to its last, each from where the one before ended.
-  pub unbroken : (e : ℕ) → e < length N.from → Unbroken (run_of o N p L places e) (points_of o N p L places e)
+  pub unbroken : (e : ℕ) → e < length N.from → Unbroken (branch_pieces o N p L places e) (points_of o N p L places e)
   -- It is absent only if all its points coincide.
-  pub absent : (e : ℕ) → e < length N.from → run_of o N p L places e ≡ [] → OnePoint (points_of o N p L places e)
-  -- Corner v of the mesh is at the place of the occupied station number v.
+  pub absent : (e : ℕ) → e < length N.from → branch_pieces o N p L places e ≡ [] → OnePoint (points_of o N p L places e)
+  -- Vertex v of the mesh is at the place of the occupied station number v.
   pub corners : (v : ℕ) → v < length (stations N)
       → point_at (routed_in o N p L places).centres v ≡ places (get_or (stations N) v 0)
   -- Every piece is one of a branch between two known, different buses: no other branch has a piece.

@@ -1,7 +1,7 @@
 //! The command line.
 use crate::command::{Command, COMMANDS};
 use crate::fault::{shown, Fault};
-use crate::number::decimal;
+use crate::number::{decimal, short};
 use crate::paper::Paper;
 use crate::save::is_standard_output;
 use tansygate::TxLayoutOptions;
@@ -37,6 +37,8 @@ pub struct Settings {
     /// Whether one drawing is made, by these options, and not the best of several.
     pub as_asked: bool,
     pub kept: Kept,
+    /// Whether the fill is the largest at which every box finds a free place.
+    pub largest: bool,
     /// Which of several drawings it is, in words.
     pub drawn: String,
 }
@@ -102,6 +104,7 @@ impl Settings {
             y_up: false,
             as_asked: false,
             kept: Kept::default(),
+            largest: false,
             drawn: String::new(),
         }
     }
@@ -164,6 +167,14 @@ impl Settings {
         Ok(())
     }
 
+    /// The fill in words, once it is known.
+    pub fn fill(&self) -> String {
+        match self.largest {
+            true => format!("{}/64, the largest", self.options.fill * 64.0),
+            false => short(self.options.fill),
+        }
+    }
+
     /// Whether the sheet is to be a PDF file.
     pub fn pdf(&self) -> bool {
         self.output.as_ref().is_some_and(|name| name.to_lowercase().ends_with(".pdf"))
@@ -207,7 +218,10 @@ impl Settings {
             "--tiles" => self.tiles = Some(paper(name, value)?),
             "--colours" => self.colours = Some(value.to_string()),
             "--fill" => {
-                self.options.fill = fill(name, value)?;
+                self.largest = value == "largest";
+                if !self.largest {
+                    self.options.fill = fill(name, value)?;
+                }
                 self.kept.fill = true;
             }
             "--search" => self.options.search = whole(name, value, 20)? as i32,
@@ -256,7 +270,7 @@ fn ratio(value: &str) -> Option<f64> {
 fn fill(name: &str, value: &str) -> Result<f64, Fault> {
     match ratio(value).filter(|x| *x > 0.0 && *x <= 16.0) {
         Some(x) => Ok(x),
-        None => out_of_range(name, value, "a number above 0 and at most 16"),
+        None => out_of_range(name, value, "a number above 0 and at most 16, or 'largest'"),
     }
 }
 
@@ -345,6 +359,15 @@ mod tests {
     }
 
     #[test]
+    fn the_largest_fill() {
+        let s = run("audit a --fill largest").unwrap();
+        assert!(s.largest && s.kept.fill);
+        assert!(!run("audit a --fill=largest --fill 1").unwrap().largest);
+        let settings = Settings { options: TxLayoutOptions { fill: 51.0 / 64.0, ..s.options.clone() }, ..s };
+        assert_eq!(settings.fill(), "51/64, the largest");
+    }
+
+    #[test]
     fn list_has_the_options_of_drawlist() {
         let s = run("list -- -odd").unwrap();
         assert_eq!((s.options.fill, s.options.route_iterations, s.network.as_str()), (0.5, 0, "-odd"));
@@ -363,8 +386,8 @@ mod tests {
             ("audit a --strict=1", "--strict takes no value"),
             ("audit a --wide", "there is no option --wide"),
             ("audit a -x", "there is no option -x"),
-            ("audit a --fill 0", "--fill: expected a number above 0 and at most 16, found '0' (refused 5: an option is out of range)"),
-            ("audit a --fill x", "--fill: expected a number above 0 and at most 16, found 'x' (refused 5: an option is out of range)"),
+            ("audit a --fill 0", "--fill: expected a number above 0 and at most 16, or 'largest', found '0' (refused 5: an option is out of range)"),
+            ("audit a --fill x", "--fill: expected a number above 0 and at most 16, or 'largest', found 'x' (refused 5: an option is out of range)"),
             ("audit a --search 21", "--search: expected a whole number from 0 to 20, found '21' (refused 5: an option is out of range)"),
             ("audit a --iterations 101", "--iterations: expected a whole number from 0 to 100, found '101' (refused 5: an option is out of range)"),
             ("audit a --iterations 1.5", "--iterations: expected a whole number from 0 to 100, found '1.5' (refused 5: an option is out of range)"),

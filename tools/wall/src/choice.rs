@@ -31,8 +31,18 @@ struct Way {
     weave: Weave,
 }
 
-/// The drawing as asked where that is wished for, else the best.
+/// The settings with the largest fill in the place of `largest`.
+pub fn sized(network: &Network, settings: &Settings) -> Result<Settings, Fault> {
+    let mut sized = settings.clone();
+    if settings.largest {
+        sized.options.fill = drawing::largest_fill(network, &settings.options)?;
+    }
+    Ok(sized)
+}
+
+/// The drawing as asked where that is wished for, else the best; every fill is the largest where that is asked for.
 pub fn drawn(network: &Network, settings: &Settings, colours: &Colours) -> Result<Chosen, Fault> {
+    let settings = &sized(network, settings)?;
     let ways = ways(network, settings);
     let count = ways.len();
     let mut threads = Threads::default();

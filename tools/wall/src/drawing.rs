@@ -4,8 +4,8 @@ use crate::mesh::{delaunay, Weave};
 use crate::network::Network;
 use crate::number::thousands;
 use tansygate::{
-    tx_layout_quality, tx_schematic_layout, Mesh, MeshBuf, Refusal, TxLayout, TxLayoutInput, TxLayoutOptions,
-    TxLayoutQuality,
+    tx_layout_quality, tx_schematic_largest_fill, tx_schematic_layout, Mesh, MeshBuf, Refusal, TxLayout, TxLayoutInput,
+    TxLayoutOptions, TxLayoutQuality,
 };
 
 /// The most buses and branches of a network.
@@ -13,6 +13,11 @@ const MOST: (usize, usize) = (4_096, 8_192);
 
 /// The largest coordinate.
 const FARTHEST: f64 = 1e12;
+
+/// What may be changed where no fill serves.
+const NO_FILL: &str = "however small the boxes, two of them overlap, or they are too small for their distance from (0, 0): \
+    a larger --search tries more places for each box, a smaller --buffer keeps less free beside it, and substations on \
+    one point can be moved apart; --fill with a number draws boxes that overlap";
 
 pub struct Drawing {
     pub layout: TxLayout,
@@ -45,6 +50,12 @@ impl Drawing {
 /// The drawing: where lines are routed, boxes are placed first, and the mesh is over their middles.
 pub fn laid_out(network: &Network, options: &TxLayoutOptions) -> Result<TxLayout, Fault> {
     layout(&network.input(), options).map_err(|refusal| explained(network, refusal))
+}
+
+/// The largest fill at which every box finds a free place.
+pub fn largest_fill(network: &Network, options: &TxLayoutOptions) -> Result<f64, Fault> {
+    let largest = tx_schematic_largest_fill(&network.input(), options);
+    largest.map(|largest| largest.fill()).map_err(|refusal| explained(network, refusal))
 }
 
 /// The drawing through a mesh of a kind, and its audit.
@@ -110,6 +121,7 @@ fn explained(network: &Network, refusal: Refusal) -> Fault {
         Refusal::Voltage => stray_voltage(network),
         Refusal::TooFar => too_far(network),
         Refusal::IllSized => farthest(network),
+        Refusal::NoFill => Some(NO_FILL.to_string()),
         _ => None,
     };
     let words = match blamed {

@@ -42,7 +42,9 @@ Options of the sheet (draw, compare):
 
 Options of the drawing:
       --fill F           typical size of a box, in median distances between
-                         neighbouring substations: above 0, at most 16        [0.8]
+                         neighbouring substations: above 0, at most 16        [0.8];
+                         'largest': the largest of 1/64 to 64/64 at which every box
+                         finds a free place
       --search N         places tried either side of a substation's own,
                          on each axis: 0 to 20                                 [10]
       --iterations N     rounds of spacing lines between boxes: 0 to 100;

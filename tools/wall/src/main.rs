@@ -104,7 +104,8 @@ fn read(settings: &Settings) -> Result<network::Network, Fault> {
 
 /// What `drawlist` would print, a refusal's line included.
 fn list(settings: &Settings) -> Result<ExitCode, Fault> {
-    let layout = read(settings).and_then(|network| drawing::laid_out(&network, &settings.options));
+    let layout = read(settings)
+        .and_then(|network| drawing::laid_out(&network, &choice::sized(&network, settings)?.options));
     match layout {
         Ok(layout) => {
             save::printed(&listing::written(&layout))?;

@@ -68,7 +68,7 @@ pub fn printed(network: &Network, drawing: &Drawing, settings: &Settings, doubts
     let figures = counts(network, drawing).into_iter().chain(figures(drawing));
     rows.extend(figures.map(|(name, value)| (name.to_string(), value)));
     let options = &settings.options;
-    let way = format!("fill {}, iterations {}, {}", short(options.fill), options.route_iterations, settings.drawn);
+    let way = format!("fill {}, iterations {}, {}", settings.fill(), options.route_iterations, settings.drawn);
     rows.push(("Drawn with".to_string(), way));
     rows.push((format!("May be misread on {}", settings.paper.name()), thousands(doubts.len())));
     let counts = Kind::ALL.into_iter().zip(misread::counts(doubts));

@@ -14,12 +14,12 @@ use Rattle.network.specs.Refusal.{refuse, shape_refusal, too_far}
 use Rattle.network.proofs.refusals.Shapes.{shape_fits, neither}
 use Rattle.boxes.specs.Length.{index_length}
 use Rattle.boxes.proofs.box_cells.Lengths.{index_least}
-use Rattle.audit.specs.declared.findings.room.Room.{Room}
+use Rattle.audit.specs.declared.findings.lengths.AuditLengths.{AuditLengths}
 use Rattle.audit.specs.Drawn.{Drawn}
 use Rattle.audit.specs.Answer.{too_short}
 use Rattle.audit.specs.Answer.{early}
 
-module _ (D : Drawn) (R : Room) where
+module _ (D : Drawn) (R : AuditLengths) where
   abbrev shape : Option Refusal
   shape = shape_refusal D.station D.kv D.from D.to
 
@@ -55,7 +55,7 @@ passes None false false h = (refl, refl)
 long_enough : (n have : ℕ) → index_length n ≤ have → n ≤ have
 long_enough n have h = omega (arith, h, index_least n)
 
-pub record Passed (D : Drawn) (R : Room) : Type 0 where
+pub record Passed (D : Drawn) (R : AuditLengths) : Type 0 where
   pub few : length D.station ≤ 4096
   pub below : station_count D.station ≤ length D.station
   pub displacement : station_count D.station ≤ R.displacement
@@ -68,7 +68,7 @@ pub record Passed (D : Drawn) (R : Room) : Type 0 where
   pub points : 2 * length D.station ≤ R.points
   pub path : 2 * length D.station ≤ R.path
 
-pub passed_of : (D : Drawn) (R : Room) → None ≡ early D R → Passed D R
+pub passed_of : (D : Drawn) (R : AuditLengths) → None ≡ early D R → Passed D R
 unfolding early too_short
 passed_of D R h =
     let z = passes (shape D R) (too_far (length D.station) D.xy) (short D R) h in

@@ -13,19 +13,19 @@ use Rattle.numbers.specs.Small.{is_finite}
 use Rattle.numbers.specs.Ops.{◌⊕◌, ◌⊖◌}
 use Rattle.numbers.proofs.float.Keys.{not_both}
 use Rattle.plane.specs.declared.geometry.Box.{Box}
-use Rattle.plane.specs.Plane.{edge}
+use Rattle.plane.specs.Plane.{shrinking}
 use Rattle.plane.specs.Overlap.{meet, overlap}
 use Rattle.placement.proofs.Rank.{rank, Plus, lt_rank, add_up, sub_down, add_number, sub_number, finite_number}
 use Rattle.placement.proofs.Clear.{Good}
 use Rattle.audit.specs.Stages.Sweep.{paired}
 
-edge_plus : Plus edge
+shrinking_plus : Plus shrinking
 unfolding of_bits of_fields odd count_trailing_zeros
-edge_plus = tt
+shrinking_plus = tt
 
-edge_finite : T (is_finite edge)
+shrinking_finite : T (is_finite shrinking)
 unfolding of_bits of_fields odd count_trailing_zeros is_finite
-edge_finite = tt
+shrinking_finite = tt
 
 -- what is at most another has at most its rank
 at_most : (x y : Float) → Good x → Good y → T (le x y) → rank x ≤ rank y
@@ -41,15 +41,15 @@ at_most x y F G h = go (dec_le (rank x) (rank y))
 
 -- a right side r at most a left side l
 module _ (r l : Float) (R : Good r) (L : Good l) (h : rank r ≤ rank l) where
-  own : lt l (r ⊖ edge) ≡ false
+  own : lt l (r ⊖ shrinking) ≡ false
   own =
-      let u : rank (r ⊖ edge) ≤ rank r = sub_down r edge R.0 R.1 edge_plus in
-      lt_rank l (r ⊖ edge) L.0 (sub-fits binary64 r edge) (finite_number l L.1) (sub_number r edge R.1 edge_finite) ∙ le-ltb (rank l) (rank (r ⊖ edge)) (omega arith)
+      let u : rank (r ⊖ shrinking) ≤ rank r = sub_down r shrinking R.0 R.1 shrinking_plus in
+      lt_rank l (r ⊖ shrinking) L.0 (sub-fits binary64 r shrinking) (finite_number l L.1) (sub_number r shrinking R.1 shrinking_finite) ∙ le-ltb (rank l) (rank (r ⊖ shrinking)) (omega arith)
 
-  other : lt (l ⊕ edge) r ≡ false
+  other : lt (l ⊕ shrinking) r ≡ false
   other =
-      let u : rank l ≤ rank (l ⊕ edge) = add_up l edge L.0 L.1 edge_plus in
-      lt_rank (l ⊕ edge) r (add-fits binary64 l edge) R.0 (add_number l edge L.1 edge_finite) (finite_number r R.1) ∙ le-ltb (rank (l ⊕ edge)) (rank r) (omega arith)
+      let u : rank l ≤ rank (l ⊕ shrinking) = add_up l shrinking L.0 L.1 shrinking_plus in
+      lt_rank (l ⊕ shrinking) r (add-fits binary64 l shrinking) R.0 (add_number l shrinking L.1 shrinking_finite) (finite_number r R.1) ∙ le-ltb (rank (l ⊕ shrinking)) (rank r) (omega arith)
 
 pub stop : (p q : Box) (x : Float) (s t : ℕ) → Good p.right → Good x → Good q.left → T (le p.right x) → T (le x q.left) → paired p q s t ≡ false
 unfolding paired overlap meet
@@ -57,8 +57,8 @@ stop p q x s t P X Q h k =
     let a : rank p.right ≤ rank x = at_most p.right x P X h in
     let b : rank x ≤ rank q.left = at_most x q.left X Q k in
     let d : rank p.right ≤ rank q.left = omega arith in
-    shut (ltb t s) (ltb s t) (lt (p.left ⊕ edge) q.right) (lt q.left (p.right ⊖ edge)) (lt (q.left ⊕ edge) p.right) (lt p.left (q.right ⊖ edge))
-    (lt (p.top ⊕ edge) q.bottom && lt q.top (p.bottom ⊖ edge)) (lt (q.top ⊕ edge) p.bottom && lt p.top (q.bottom ⊖ edge))
+    shut (ltb t s) (ltb s t) (lt (p.left ⊕ shrinking) q.right) (lt q.left (p.right ⊖ shrinking)) (lt (q.left ⊕ shrinking) p.right) (lt p.left (q.right ⊖ shrinking))
+    (lt (p.top ⊕ shrinking) q.bottom && lt q.top (p.bottom ⊖ shrinking)) (lt (q.top ⊕ shrinking) p.bottom && lt p.top (q.bottom ⊖ shrinking))
     (own p.right q.left P Q d) (other p.right q.left P Q d)
   where
     none : (i a : Bool) (e : Bool) → (i && ((a && false) && e)) ≡ false

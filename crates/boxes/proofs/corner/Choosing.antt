@@ -11,7 +11,7 @@ use lib.Seq.{drop-cons}
 use Rattle.plane.specs.declared.geometry.Point.{Point}
 use Rattle.plane.specs.declared.geometry.Box.{Box}
 use Rattle.std.specs.Prelude.{Option, Some}
-use Rattle.boxes.specs.Corner.{cost_key, clears, clearing, cheaper, cheapest}
+use Rattle.boxes.specs.Corner.{cost_key, avoids, avoiding, cheaper, cheapest}
 
 -- one more point beside the cheapest so far, d
 module _ (p q c d : Point) (best : Option Point) (a b : ℕ) (e : best ≡ Some d) (f : a ≡ cost_key p q c) (g : b ≡ cost_key p q d) where
@@ -40,22 +40,22 @@ all_taken p q l i best h = ap (cheapest p q best) (sym (drop_of_length-le l h))
 module _ (p q : Point) (b : Box) where
   -- the cheapest so far after one more point, where that clears the box
   abbrev after : Option Point → Point → Option Point
-  after best c = cond (clears p q b c) (cheaper p q best c) best
+  after best c = cond (avoids p q b c) (cheaper p q best c) best
 
-  clear_step : (best : Option Point) (c : Point) (cs : List Point) → cheapest p q best (clearing p q b (c ∷ cs)) ≡ cheapest p q (after best c) (clearing p q b cs)
-  unfolding cheapest clearing
-  clear_step best c cs = go (clears p q b c)
+  clear_step : (best : Option Point) (c : Point) (cs : List Point) → cheapest p q best (avoiding p q b (c ∷ cs)) ≡ cheapest p q (after best c) (avoiding p q b cs)
+  unfolding cheapest avoiding
+  clear_step best c cs = go (avoids p q b c)
     where
-      go : (t : Bool) → cheapest p q best (cond t (c ∷ clearing p q b cs) (clearing p q b cs)) ≡ cheapest p q (cond t (cheaper p q best c) best) (clearing p q b cs)
+      go : (t : Bool) → cheapest p q best (cond t (c ∷ avoiding p q b cs) (avoiding p q b cs)) ≡ cheapest p q (cond t (cheaper p q best c) best) (avoiding p q b cs)
       go true = refl
       go false = refl
 
   pub clear_more : (l : List Point) (i : ℕ) (best x : Option Point) (d : Point) → i < length l → x ≡ after best (get_or l i d)
-      → cheapest p q best (clearing p q b (drop i l)) ≡ cheapest p q x (clearing p q b (drop (i + 1) l))
+      → cheapest p q best (avoiding p q b (drop i l)) ≡ cheapest p q x (avoiding p q b (drop (i + 1) l))
   clear_more l i best x d h e =
-      ap (λ (z : List Point). cheapest p q best (clearing p q b z)) (drop-cons l i d h ∙ ap (λ (n : ℕ). get_or l i d ∷ drop n l) (sym (add-one i)))
-      ∙ clear_step best (get_or l i d) (drop (i + 1) l) ∙ ap (λ (z : Option Point). cheapest p q z (clearing p q b (drop (i + 1) l))) (sym e)
+      ap (λ (z : List Point). cheapest p q best (avoiding p q b z)) (drop-cons l i d h ∙ ap (λ (n : ℕ). get_or l i d ∷ drop n l) (sym (add-one i)))
+      ∙ clear_step best (get_or l i d) (drop (i + 1) l) ∙ ap (λ (z : Option Point). cheapest p q z (avoiding p q b (drop (i + 1) l))) (sym e)
 
-  pub all_clear_taken : (l : List Point) (i : ℕ) (best : Option Point) → length l ≤ i → best ≡ cheapest p q best (clearing p q b (drop i l))
-  unfolding cheapest clearing
-  all_clear_taken l i best h = ap (λ (z : List Point). cheapest p q best (clearing p q b z)) (sym (drop_of_length-le l h))
+  pub all_clear_taken : (l : List Point) (i : ℕ) (best : Option Point) → length l ≤ i → best ≡ cheapest p q best (avoiding p q b (drop i l))
+  unfolding cheapest avoiding
+  all_clear_taken l i best h = ap (λ (z : List Point). cheapest p q best (avoiding p q b z)) (sym (drop_of_length-le l h))

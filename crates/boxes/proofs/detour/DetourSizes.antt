@@ -1,4 +1,4 @@
--- A path led round boxes keeps its bound: each point put in lies half a gap off a corner of a box. Assumes nothing.
+-- A path led round boxes keeps its bound: each point put in lies half a clearance off a corner of a box. Assumes nothing.
 use Prim.Native.Nat.{ℕ, zero, suc, ◌+◌, ◌-◌, ◌≤◌}
 use native.Mathlib.Omega.{arith}
 use mathlib.Core.Bool.{Bool, true, false, cond}
@@ -14,8 +14,9 @@ use Rattle.plane.proofs.geometry.PointSizes.{Near, Edges}
 use Rattle.plane.specs.Plane.{box_in}
 use Rattle.std.specs.Prelude.{Option, Some, None, unwrap_or}
 use Rattle.boxes.specs.First.{first_hit}
-use Rattle.boxes.specs.Corner.{corners_of, cost_key, clears, clearing, cheaper, cheapest, corner}
+use Rattle.boxes.specs.Corner.{corners_of, cost_key, avoids, avoiding, cheaper, cheapest, corner}
 use Rattle.boxes.specs.Detour.{detour_on, detour_to, detour}
+use Rattle.boxes.specs.Laws.{PointsAtMost, DetourIsFinite}
 
 -- every point of a list lies within 2 ^ (k - 1074)
 abbrev pub Points : ℕ → List Point → Type 0
@@ -39,12 +40,12 @@ module _ (k : ℕ) (K : 1074 + 71 ≤ k) (L : k ≤ 2097) where
         ),
       )
 
-  clearing_near : (p q : Point) (b : Box) (cs : List Point) → Points k cs → Points k (clearing p q b cs)
-  unfolding clearing
-  clearing_near p q b [] h = tt
-  clearing_near p q b (c ∷ cs) h = go (clears p q b c) (clearing_near p q b cs h.1)
+  avoiding_near : (p q : Point) (b : Box) (cs : List Point) → Points k cs → Points k (avoiding p q b cs)
+  unfolding avoiding
+  avoiding_near p q b [] h = tt
+  avoiding_near p q b (c ∷ cs) h = go (avoids p q b c) (avoiding_near p q b cs h.1)
     where
-      go : (t : Bool) → Points k (clearing p q b cs) → Points k (cond t (c ∷ clearing p q b cs) (clearing p q b cs))
+      go : (t : Bool) → Points k (avoiding p q b cs) → Points k (cond t (c ∷ avoiding p q b cs) (avoiding p q b cs))
       go true r = (h.0, r)
       go false r = r
 
@@ -70,32 +71,45 @@ module _ (k : ℕ) (K : 1074 + 71 ≤ k) (L : k ≤ 2097) where
   else_near None other h i = i
   else_near (Some c) other h i = h
 
-  corner_near : (p q : Point) (b : Box) (gap : Float) → Near k p → Edges (1074 + 70) b → AtMost (1074 + 46) gap → Near k (corner p q b gap)
+  corner_near : (p q : Point) (b : Box) (clearance : Float) → Near k p → Edges (1074 + 70) b → AtMost (1074 + 46) clearance → Near k (corner p q b clearance)
   unfolding corner
-  corner_near p q b gap P B G =
-      let cs = corners_of b (gap ⊗ f½) in
-      let C : Points k cs = corners_near b (gap ⊗ f½) B (mul_most (1074 + 46) (1074 - 1) (1074 + 46) gap f½ (lit≤ tt) (lit≤ tt) G f½_most) in
-      else_near (cheapest p q None (clearing p q b cs)) (unwrap_or (cheapest p q None cs) p) (cheapest_near p q None (clearing p q b cs) tt (clearing_near p q b cs C))
+  corner_near p q b clearance P B G =
+      let cs = corners_of b (clearance ⊗ f½) in
+      let C : Points k cs = corners_near b (clearance ⊗ f½) B (mul_most (1074 + 46) (1074 - 1) (1074 + 46) clearance f½ (lit≤ tt) (lit≤ tt) G f½_most) in
+      else_near (cheapest p q None (avoiding p q b cs)) (unwrap_or (cheapest p q None cs) p) (cheapest_near p q None (avoiding p q b cs) tt (avoiding_near p q b cs C))
       (else_near (cheapest p q None cs) p (cheapest_near p q None cs tt C) P)
 
-  module _ (boxes : List Box) (occupied : List ℕ) (gap : Float) (a b : ℕ) (B : (s : ℕ) → Edges (1074 + 70) (box_in boxes s)) (G : AtMost (1074 + 46) gap) where
+  module _ (boxes : List Box) (occupied : List ℕ) (clearance : Float) (a b : ℕ) (B : (s : ℕ) → Edges (1074 + 70) (box_in boxes s)) (G : AtMost (1074 + 46) clearance) where
     on_near : (again : List Point → List Point) → ((l : List Point) → Points k l → Points k (again l)) → (p : Point) (rest : List Point) → Near k p → Points k rest
-        → Points k (detour_on boxes occupied gap a b again p rest)
+        → Points k (detour_on boxes occupied clearance a b again p rest)
     unfolding detour_on
     on_near again f p [] P R = (P, tt)
     on_near again f p (q ∷ rest) P R = go (first_hit boxes occupied p q a b) (on_near again f q rest R.0 R.1)
       where
-        go : (x : Option ℕ) → Points k (detour_on boxes occupied gap a b again q rest)
-            → Points k (elim x [ None ↦ p ∷ detour_on boxes occupied gap a b again q rest | Some s ↦ again (p ∷ corner p q (box_in boxes s) gap ∷ q ∷ rest) ])
+        go : (x : Option ℕ) → Points k (detour_on boxes occupied clearance a b again q rest)
+            → Points k (elim x [ None ↦ p ∷ detour_on boxes occupied clearance a b again q rest | Some s ↦ again (p ∷ corner p q (box_in boxes s) clearance ∷ q ∷ rest) ])
         go None r = (P, r)
-        go (Some s) r = f (p ∷ corner p q (box_in boxes s) gap ∷ q ∷ rest) (P, (corner_near p q (box_in boxes s) gap P (B s) G, (R.0, R.1)))
+        go (Some s) r = f (p ∷ corner p q (box_in boxes s) clearance ∷ q ∷ rest) (P, (corner_near p q (box_in boxes s) clearance P (B s) G, (R.0, R.1)))
 
-    to_near : (n : ℕ) (l : List Point) → Points k l → Points k (detour_to boxes occupied gap a b n l)
+    to_near : (n : ℕ) (l : List Point) → Points k l → Points k (detour_to boxes occupied clearance a b n l)
     unfolding detour_to
     to_near zero l h = h
     to_near (suc n) [] h = tt
-    to_near (suc n) (p ∷ rest) h = on_near (detour_to boxes occupied gap a b n) (to_near n) p rest h.0 h.1
+    to_near (suc n) (p ∷ rest) h = on_near (detour_to boxes occupied clearance a b n) (to_near n) p rest h.0 h.1
 
-    pub detour_near : (l : List Point) → Points k l → Points k (detour boxes occupied gap a b l)
+    pub detour_near : (l : List Point) → Points k l → Points k (detour boxes occupied clearance a b l)
     unfolding detour
     detour_near l h = to_near 4 l h
+
+-- ---- in the words of specs/Laws
+points_of : (k : ℕ) (l : List Point) → PointsAtMost k l → Points k l
+points_of k [] h = tt
+points_of k (p ∷ ps) h = let q = h.0 in (record { x = q.0; y = q.1 }, points_of k ps h.1)
+
+of_points : (k : ℕ) (l : List Point) → Points k l → PointsAtMost k l
+of_points k [] h = tt
+of_points k (p ∷ ps) h = let q = h.0 in ((q.x, q.y), of_points k ps h.1)
+
+pub detour_is_finite : DetourIsFinite
+detour_is_finite k K L boxes occupied clearance a b B G path h =
+    of_points k (detour boxes occupied clearance a b path) (detour_near k K L boxes occupied clearance a b B G path (points_of k path h))

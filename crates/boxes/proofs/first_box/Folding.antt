@@ -15,8 +15,8 @@ use Rattle.plane.specs.declared.geometry.Point.{Point}
 use Rattle.plane.specs.declared.geometry.Box.{Box}
 use Rattle.std.specs.Prelude.{Option, Some, None}
 use Rattle.plane.specs.Clip.{hits}
-use Rattle.plane.specs.Entry.{enters, place_of}
-use Rattle.plane.proofs.geometry.Entries.{enters_place, place_plus}
+use Rattle.plane.specs.Entry.{enters, entry_of}
+use Rattle.plane.proofs.geometry.Entries.{enters_entry, place_plus}
 use Rattle.plane.specs.Plane.{box_in}
 use Rattle.boxes.specs.First.{entry_at, comes_first, sooner, look}
 use Rattle.numbers.proofs.float.Ordered.{lift, le_left, le_right, float_trans, not_below, below_through, same_le, le_same}
@@ -137,10 +137,10 @@ swap s r (Some t) (Some u) h k same (Some (v, w)) = three t s u r h k (λ e. pla
 
 pub proper_entry : (p q : Point) (b : Box) → Proper (enters p q b)
 unfolding Proper
-proper_entry p q b = subst Proper (sym (enters_place p q b)) (by (hits p q b))
+proper_entry p q b = subst Proper (sym (enters_entry p q b)) (by (hits p q b))
   where
-    by : (x : Bool) → Proper (cond x (Some (place_of p q b)) None)
-    by true = plus_number (place_of p q b) (place_plus p q b)
+    by : (x : Bool) → Proper (cond x (Some (entry_of p q b)) None)
+    by true = plus_number (entry_of p q b) (place_plus p q b)
     by false = tt
 
 -- ---- lists of stations

@@ -44,9 +44,9 @@ grid_held boxes stations l g k e many h indexed some = ∥∥₁_elim indexed (h
 -- ---- the answer
 hit_found : (n : Near) → hit_of n ≡ option_map (λ (first : Float × ℕ). first.1) (best_of n)
 unfolding hit_of best_of
-hit_found n = go (le n.place f1)
+hit_found n = go (le n.entry f1)
   where
-    go : (x : Bool) → cond x (Some n.station) None ≡ option_map (λ (first : Float × ℕ). first.1) (cond x (Some (n.place, n.station)) None)
+    go : (x : Bool) → cond x (Some n.station) None ≡ option_map (λ (first : Float × ℕ). first.1) (cond x (Some (n.entry, n.station)) None)
     go true = refl
     go false = refl
 

@@ -22,9 +22,9 @@ unfoldable pub Low : Option Float → Type 0
 Low None = Unit {0}
 Low (Some v) = T (le v f1)
 
--- the place is at most 1, or 2
+-- the entry is at most 1, or 2
 abbrev pub Fair : Near → Type 0
-Fair n = le n.place f1 ≡ false → n.place ≡ f2
+Fair n = le n.entry f1 ≡ false → n.entry ≡ f2
 
 one_below_two : lt f1 f2 ≡ true
 unfolding lt of_bits of_fields odd
@@ -44,14 +44,14 @@ best_low v s h = ap (λ (x : Bool). cond x (Some (v, s)) None) h
 pub closer_best : (s : ℕ) (e : Option Float) (n : Near) → Low e → Fair n → best_of (closer s e n) ≡ sooner s e (best_of n)
 unfolding closer best_of sooner near Low
 closer_best s None n h f = refl
-closer_best s (Some v) n h f = go (le n.place f1) refl
+closer_best s (Some v) n h f = go (le n.entry f1) refl
   where
-    go : (x : Bool) → le n.place f1 ≡ x → best_of (cond (comes_first v s n.place n.station) (near v s) n) ≡ sooner s (Some v) (cond x (Some (n.place, n.station)) None)
-    go true e = by (comes_first v s n.place n.station)
+    go : (x : Bool) → le n.entry f1 ≡ x → best_of (cond (comes_first v s n.entry n.station) (near v s) n) ≡ sooner s (Some v) (cond x (Some (n.entry, n.station)) None)
+    go true e = by (comes_first v s n.entry n.station)
       where
-        by : (y : Bool) → best_of (cond y (near v s) n) ≡ cond y (Some (v, s)) (Some (n.place, n.station))
+        by : (y : Bool) → best_of (cond y (near v s) n) ≡ cond y (Some (v, s)) (Some (n.entry, n.station))
         by true = best_low v s (fall (le v f1) h)
-        by false = ap (λ (x : Bool). cond x (Some (n.place, n.station)) None) e
+        by false = ap (λ (x : Bool). cond x (Some (n.entry, n.station)) None) e
     go false e =
         ap (λ (y : Float). best_of (cond (comes_first v s y n.station) (near v s) n)) (f e)
         ∙ ap (λ (y : Bool). best_of (cond y (near v s) n)) (before_two v s n.station h)
@@ -60,7 +60,7 @@ closer_best s (Some v) n h f = go (le n.place f1) refl
 pub closer_fair : (s : ℕ) (e : Option Float) (n : Near) → Low e → Fair n → Fair (closer s e n)
 unfolding closer near Low
 closer_fair s None n h f = f
-closer_fair s (Some v) n h f = by (comes_first v s n.place n.station)
+closer_fair s (Some v) n h f = by (comes_first v s n.entry n.station)
   where
     by : (y : Bool) → Fair (cond y (near v s) n)
     by true = λ e. absurd (true≢false (sym (fall (le v f1) h) ∙ e))

@@ -61,28 +61,28 @@ missed : (s : ℕ) (e : Option Float) (best : Option (Float × ℕ)) → e ≡ N
 unfolding sooner
 missed s e best h = ap (λ (y : Option Float). sooner s y best) h
 
-done_by : (n : Near) (u : Float) → is_done n u ≡ true → le f1 u ≡ false → T (le n.place u)
+done_by : (n : Near) (u : Float) → is_done n u ≡ true → le f1 u ≡ false → T (le n.entry u)
 unfolding is_done
-done_by n u d h = lift (le n.place u) (rw h at d)
+done_by n u d h = lift (le n.entry u) (rw h at d)
 
--- a station entered after place u doesn't come before a box entered by then
+-- a station entered after u doesn't come before a box entered by then
 beyond : (n : Near) (u v : Float) (s : ℕ) → is_done n u ≡ true → T (le v f1) → lt u v ≡ true → sooner s (Some v) (best_of n) ≡ best_of n
 unfolding best_of sooner
 beyond n u v s d h k = go (le f1 u) refl
   where
     Stays : Bool → Type 0
-    Stays x = sooner s (Some v) (cond x (Some (n.place, n.station)) None) ≡ cond x (Some (n.place, n.station)) None
+    Stays x = sooner s (Some v) (cond x (Some (n.entry, n.station)) None) ≡ cond x (Some (n.entry, n.station)) None
 
-    behind-it : lt n.place v ≡ true → (y : Bool) → comes_first v s n.place n.station ≡ y → cond {A = Option (Float × ℕ)} y (Some (v, s)) (Some (n.place, n.station)) ≡ Some (n.place, n.station)
-    behind-it c true e = absurd (never_both v s n.place n.station (which_of v s n.place n.station e) (nearer c))
+    behind-it : lt n.entry v ≡ true → (y : Bool) → comes_first v s n.entry n.station ≡ y → cond {A = Option (Float × ℕ)} y (Some (v, s)) (Some (n.entry, n.station)) ≡ Some (n.entry, n.station)
+    behind-it c true e = absurd (never_both v s n.entry n.station (which_of v s n.entry n.station e) (nearer c))
     behind-it c false e = refl
 
-    go : (x : Bool) → le f1 u ≡ x → Stays (le n.place f1)
+    go : (x : Bool) → le f1 u ≡ x → Stays (le n.entry f1)
     go true e = absurd (not_both u v (lift (lt u v) k) (float_trans v f1 u h (lift (le f1 u) e)))
     go false e =
-        let c : lt n.place v ≡ true = below_through n.place u v v (done_by n u d e) k (le_self v (le_left v f1 h)) in
-        let z : T (le n.place f1) = float_trans n.place v f1 (le_of_lt_float n.place v (lift (lt n.place v) c)) h in
-        subst Stays (sym (fall (le n.place f1) z)) (behind-it c (comes_first v s n.place n.station) refl)
+        let c : lt n.entry v ≡ true = below_through n.entry u v v (done_by n u d e) k (le_self v (le_left v f1 h)) in
+        let z : T (le n.entry f1) = float_trans n.entry v f1 (le_of_lt_float n.entry v (lift (lt n.entry v) c)) h in
+        subst Stays (sym (fall (le n.entry f1) z)) (behind-it c (comes_first v s n.entry n.station) refl)
 
 module _ (boxes : List Box) (p q : Point) (a b : ℕ) where
   -- ---- where a station's box is entered
@@ -180,12 +180,12 @@ module _ (boxes : List Box) (p q : Point) (a b : ℕ) where
             (chain_of (grid_in boxes l) (box_in boxes r)) (reach_cells (grid_in boxes l) (4 * length boxes) w (box_in boxes r) e.sized h)
             (e.chained.each r i) n f).1
 
-  -- ---- from place t to place u
+  -- ---- from t to u
   module _ (l : List ℕ) (t u : Float) (w : Box) (plain : plain_piece p q ≡ true) (holds : window_holds p q t u w ≡ true) (n : Near) (m : Marched boxes p q a b l t n) where
     abbrev Then : Near
     Then = after_window boxes p q a b (length boxes) l w (grid_in boxes l) n
 
-    -- a station that isn't entered after place u
+    -- a station that isn't entered after u
     passed_by : (stations : List ℕ) → Entered boxes stations l → (s : ℕ) → In s stations → (v : Float) → entry_at boxes p q a b s ≡ Some v → lt u v ≡ false → Covered boxes p q a b s Then
     passed_by stations e s i v h k = go (lt v t) refl
       where

@@ -13,20 +13,20 @@ use Rattle.boxes.specs.declared.first_hit.search.Near.{Near}
 use Rattle.boxes.specs.Stages.Cells.{column_of, row_of, chain_at, next_at, Entered, In}
 use Rattle.plane.specs.Stages.Window.{is_apart}
 
--- ---- the box entered first so far, as a place and a station: a place above 1 is none
+-- ---- the box entered first so far, as an entry and a station: an entry above 1 is none
 unfoldable pub near : Float → ℕ → Near
-near t s = record { place = t; station = s }
+near t s = record { entry = t; station = s }
 
 unfoldable pub best_of : Near → Option (Float × ℕ)
-best_of n = cond (le n.place f1) (Some (n.place, n.station)) None
+best_of n = cond (le n.entry f1) (Some (n.entry, n.station)) None
 
 unfoldable pub hit_of : Near → Option ℕ
-hit_of n = cond (le n.place f1) (Some n.station) None
+hit_of n = cond (le n.entry f1) (Some n.station) None
 
 -- `sooner`, so written
 unfoldable pub closer : ℕ → Option Float → Near → Near
 closer s None n = n
-closer s (Some t) n = cond (comes_first t s n.place n.station) (near t s) n
+closer s (Some t) n = cond (comes_first t s n.entry n.station) (near t s) n
 
 -- ---- looks, k the number of stations and l the list
 module _ (boxes : List Box) (p q : Point) (a b k : ℕ) (l : List ℕ) (w : Box) where
@@ -63,18 +63,18 @@ module _ (boxes : List Box) (p q : Point) (a b k : ℕ) (l : List ℕ) (w : Box)
 
 -- ---- along a piece
 -- Of the stations entered in the list, whatever they are: a look at them all that goes on from n ends as one from
--- nothing, and those entered before place t don't come before n.
+-- nothing, and those entered before t don't come before n.
 pub record Marched (boxes : List Box) (p q : Point) (a b : ℕ) (l : List ℕ) (t : Float) (n : Near) : Type 0 where
-  pub fair : le n.place f1 ≡ false → n.place ≡ f2
+  pub fair : le n.entry f1 ≡ false → n.entry ≡ f2
   pub sound : (stations : List ℕ) → Entered boxes stations l
       → look boxes p q a b stations (best_of n) ≡ look boxes p q a b stations None
   pub before : (stations : List ℕ) → Entered boxes stations l
       → (s : ℕ) → In s stations → (v : Float) → entry_at boxes p q a b s ≡ Some v → lt v t ≡ true
       → sooner s (Some v) (best_of n) ≡ best_of n
 
--- the box entered first so far is entered by place u, or the piece ends there
+-- the box entered first so far is entered by u, or the piece ends there
 unfoldable pub is_done : Near → Float → Bool
-is_done n u = cond (le f1 u) true (le n.place u)
+is_done n u = cond (le f1 u) true (le n.entry u)
 
 -- what a search says of the stations entered in the list, whatever they are
 unfoldable pub Sure : List Box → Point → Point → ℕ → ℕ → List ℕ → Option Near → Type 0

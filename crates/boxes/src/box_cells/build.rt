@@ -5,7 +5,7 @@ ghost use Rattle.boxes.specs.Stages.Enter.{Empty, SameGrid, StationsTo};
 ghost use Rattle.boxes.specs.Stages.Cells.{Chained, Indexed, linked};
 ghost use Rattle.boxes.specs.Stages.Lent.{boxes_of, occupied_of, FiniteBoxes};
 
-use crate::box_cells::extent::{Counts, Extent, counts_for, extent_of};
+use crate::box_cells::extent::{Extent, GridSides, counts_for, extent_of};
 use crate::box_cells::finite::all_finite;
 use crate::first_box::box_in;
 use crate::grid::{Grid, chain_of, grid_of};
@@ -67,7 +67,7 @@ fn link_occupied(grid: Grid, few: &FewPlaced<'_>, index: &mut [u32])
 
 // Writes the grid as the list's numbers 1 to 6: the stations that give its extent, and how many
 // columns and rows it has.
-fn put_grid(extent: Extent, counts: Counts, index: &mut [u32])
+fn put_grid(extent: Extent, counts: GridSides, index: &mut [u32])
     requires has_room { 7 ≤ length index.old }
     requires few_stations { StationsTo 4096 extent }
     requires few_columns { counts.columns ≤ 16384 }

@@ -82,14 +82,14 @@ pub(crate) fn extent_of(few: &FewPlaced<'_>) -> Extent
 
 /// Numbers of columns and rows.
 #[derive(Clone, Copy)]
-pub(crate) struct Counts {
+pub(crate) struct GridSides {
     pub columns: usize,
     pub rows: usize,
 }
 
 // As many columns and rows as there are cells for, at most `most`, over an extent of `width` by
 // `height`, a column no narrower than `cell_width` and a row no lower than `cell_height`.
-fn counts_over(width: f64, height: f64, cell_width: f64, cell_height: f64, most: usize) -> Counts
+fn counts_over(width: f64, height: f64, cell_width: f64, cell_height: f64, most: usize) -> GridSides
     requires some_cells { 1 ≤ most }
     requires few_cells { most ≤ 16384 }
     ensures some_columns { 1 ≤ result.columns }
@@ -101,11 +101,11 @@ fn counts_over(width: f64, height: f64, cell_width: f64, cell_height: f64, most:
         let columns = 1 + cell(max(side, cell_width), 0.0, most, width);
         let rows = 1 + cell(max(side, cell_height), 0.0, most, height);
         if columns * rows <= most {
-            return Counts { columns, rows };
+            return GridSides { columns, rows };
         }
         side = side * 1.25;
     }
-    Counts {
+    GridSides {
         columns: 1,
         rows: 1,
     }
@@ -113,7 +113,7 @@ fn counts_over(width: f64, height: f64, cell_width: f64, cell_height: f64, most:
 
 /// The numbers of columns and rows for boxes of this extent, at most `most` cells: a cell is at
 /// least twice as large as a box in the mean.
-pub(crate) fn counts_for(placed: &Placed<'_>, extent: Extent, most: usize) -> Counts
+pub(crate) fn counts_for(placed: &Placed<'_>, extent: Extent, most: usize) -> GridSides
     requires few_counted { extent.count ≤ 4096 }
     requires some_cells { 1 ≤ most }
     requires few_cells { most ≤ 16384 }

@@ -16,11 +16,11 @@ use numbers::order::at;
 use plane::geometry::{Box, Point};
 use plane::windows::{holds, is_apart};
 
-/// The box entered first so far: the place where the piece enters it, above 1 for none, and its
+/// The box entered first so far: the entry of the piece, above 1 for none, and its
 /// station. (An Option in its place takes these loops twice the time.)
 #[derive(Clone, Copy)]
 pub(crate) struct Near {
-    pub place: f64,
+    pub entry: f64,
     pub station: usize,
 }
 
@@ -40,8 +40,8 @@ fn closer(station: usize, entry: Option<f64>, nearest: Near) -> Near
     let Some(t) = entry else {
         return nearest;
     };
-    if comes_first(t, station, nearest.place, nearest.station) {
-        Near { place: t, station }
+    if comes_first(t, station, nearest.entry, nearest.station) {
+        Near { entry: t, station }
     } else {
         nearest
     }
@@ -51,7 +51,7 @@ fn closer(station: usize, entry: Option<f64>, nearest: Near) -> Near
 fn hit_of(nearest: Near) -> Option<usize>
     ensures { result ≡ hit_of nearest }
 {
-    (nearest.place <= 1.0).then_some(nearest.station)
+    (nearest.entry <= 1.0).then_some(nearest.station)
 }
 
 // One more than the station behind a station in its chain, 0 for none; never above the station.
@@ -173,12 +173,12 @@ fn look_window(grid: Grid, index: &BoxIndex<'_>, piece: &Piece, window: Box, fir
     look_rows(grid, index, piece, window, i, j, r, end, n)
 }
 
-// Whether the box entered first so far is entered by a place, or the piece ends there.
+// Whether the box entered first so far is entered by a fraction, or the piece ends there.
 #[tactic(auto, unfolding(crate::specs::Stages::Looks::is_done))]
-fn is_done(nearest: Near, place: f64) -> bool
-    ensures { result ≡ is_done nearest place }
+fn is_done(nearest: Near, entry: f64) -> bool
+    ensures { result ≡ is_done nearest entry }
 {
-    1.0 <= place || nearest.place <= place
+    1.0 <= entry || nearest.entry <= entry
 }
 
 // The box entered first, looked for along the piece; none where it may be unsure, by rounding.
@@ -193,7 +193,7 @@ fn march(grid: Grid, index: &BoxIndex<'_>, piece: &Piece) -> Option<Near>
     let m = margins(piece.p, piece.q);
     let mut s = first_steps(grid, piece.p, piece.q);
     let mut n = Near {
-        place: 2.0,
+        entry: 2.0,
         station: 0,
     };
     let mut t = 0.0;

@@ -34,8 +34,8 @@ pub(crate) fn further(steps: Steps) -> Steps {
 }
 
 /// The place where the step from a place on ends.
-pub(crate) fn step_end(place: f64, steps: Steps) -> f64 {
-    let u = place + steps.next;
+pub(crate) fn step_end(entry: f64, steps: Steps) -> f64 {
+    let u = entry + steps.next;
     if u < 0.99 { u } else { 1.0 }
 }
 
@@ -48,7 +48,7 @@ pub(crate) fn margins(p: Point, q: Point) -> Point {
     }
 }
 
-/// A window of the part of the piece p q from place `start` to place `end`.
+/// A window of the part of the piece p q from `start` to `end`.
 pub(crate) fn window_of(p: Point, q: Point, margin: Point, start: f64, end: f64) -> Box {
     let dx = q.x - p.x;
     let dy = q.y - p.y;

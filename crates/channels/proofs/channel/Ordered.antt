@@ -107,9 +107,9 @@ module _ (a z : Float) (h : lt z a ≡ false) where
       go false false false false zp zq ar ak = h
 
 -- Ends that have passed one another become one number, and ends in order stay so.
-pub ends_ordered : (lo hi gap : Float) → lt (held lo hi gap).hi (held lo hi gap).lo ≡ false
+pub ends_ordered : (lo hi least_step : Float) → lt (held lo hi least_step).hi (held lo hi least_step).lo ≡ false
 unfolding held
-ends_ordered lo hi gap = go (lt hi lo) refl
+ends_ordered lo hi least_step = go (lt hi lo) refl
   where
     go : (b : Bool) → lt hi lo ≡ b → lt (clamp_of (cond b ((lo ⊕ hi) ⊘ f2) hi) f0 f1) (clamp_of (cond b ((lo ⊕ hi) ⊘ f2) lo) f0 f1) ≡ false
     go true e = lt_self (clamp_of ((lo ⊕ hi) ⊘ f2) f0 f1)

@@ -18,11 +18,11 @@ clamp_held x = go (lt x f0) (lt f1 x) refl refl
     go false true d e = record { low = refl; high = refl }
     go false false d e = record { low = d; high = e }
 
-held_in : (lo hi gap : Float) → InUnit (held lo hi gap).lo × InUnit (held lo hi gap).hi
+held_in : (lo hi least_step : Float) → InUnit (held lo hi least_step).lo × InUnit (held lo hi least_step).hi
 unfolding held
-held_in lo hi gap = (clamp_held _, clamp_held _)
+held_in lo hi least_step = (clamp_held _, clamp_held _)
 
 -- neither end is below 0 or above 1
-pub channel_in : (u w : Point) (bu bw : Box) (su sw gap : Float) → InUnit (channel_of u w bu bw su sw gap).lo × InUnit (channel_of u w bu bw su sw gap).hi
+pub channel_in : (u w : Point) (bu bw : Box) (su sw clearance : Float) → InUnit (channel_of u w bu bw su sw clearance).lo × InUnit (channel_of u w bu bw su sw clearance).hi
 unfolding channel_of
-channel_in u w bu bw su sw gap = held_in _ _ _
+channel_in u w bu bw su sw clearance = held_in _ _ _

@@ -1,4 +1,4 @@
--- A channel between two places that differ enough has finite numbers: its ends lie in 0..1, and its gap has a bound. 'Enough' is what crossed segments give (geometry, Crossing). Assumes nothing.
+-- A channel between two places that differ enough has finite numbers: its ends lie in 0..1, and its least step has a bound. 'Enough' is what crossed segments give (geometry, Crossing). Assumes nothing.
 use mathlib.Core.Path.{◌≡◌, refl, sym, subst}
 use mathlib.Core.Logic.{◌⊎◌, inl, inr}
 use Prim.Native.Nat.{ℕ, ◌+◌, ◌-◌, ◌*◌, ◌≤◌}
@@ -70,9 +70,9 @@ reach_most n b dx dy N B f g (inr h) =
     (reach_far n ((b.bottom ⊖ b.top) ⊘ f2) dy N (half_most n b.bottom b.top (omega arith) B.bottom B.top) h)
 
 -- ---- the ends
-pub held_most : (k : ℕ) (lo hi gap : Float) → k ≤ 2095 → AtMost k lo → AtMost k hi → AtMost 1074 (held lo hi gap).lo × AtMost 1074 (held lo hi gap).hi
+pub held_most : (k : ℕ) (lo hi least_step : Float) → k ≤ 2095 → AtMost k lo → AtMost k hi → AtMost 1074 (held lo hi least_step).lo × AtMost 1074 (held lo hi least_step).hi
 unfolding held
-held_most k lo hi gap K h i =
+held_most k lo hi least_step K h i =
     let mid : AtMost k ((lo ⊕ hi) ⊘ f2) = div_most (k + 1) (1074 + 1) k (lo ⊕ hi) f2 (omega arith) (omega arith) (add_under k k (k + 1) lo hi (omega arith) (omega arith) (omega arith) h i) f2_least in
     (unit (cond (lt hi lo) ((lo ⊕ hi) ⊘ f2) lo) (most_cond k (lt hi lo) ((lo ⊕ hi) ⊘ f2) lo mid h), unit (cond (lt hi lo) ((lo ⊕ hi) ⊘ f2) hi) (most_cond k (lt hi lo) ((lo ⊕ hi) ⊘ f2) hi mid i))
   where
@@ -119,12 +119,12 @@ module _ (m k : ℕ) (x y : Float) (M : m ≤ 2095) (K : 53 ≤ k) (L : k ≤ 20
           let l : num x * den y ≤ num y * den x = le_of_lt (lt_of_not-le g) in
           inr (subst (λ (v : Float). AtLeast 1073 (y ⊘ v)) (hypot_comm y x) (larger_side y x G F (most_weaken m 2096 y (omega arith) Y) X.finite l k L (second l D)).1)
 
--- ---- the channel: places and boxes at most 2 ^ (n - 1074), the gap's two parts at most d and e
-pub channel_most : (n k d e g : ℕ) (u w : Point) (bu bw : Box) (su sw gap : Float) → 53 ≤ k → k ≤ 2097 → n ≤ 2000 → d + e ≤ n + 40 + 1074 → n + 41 + 1074 ≤ 2094 + k → n + 40 + 1074 ≤ g + k → g ≤ 2097
-    → Near n u → Near n w → Boxed n bu → Boxed n bw → AtMost d gap → AtMost e su → AtMost e sw → AtLeast k (w.x ⊖ u.x) ⊎ AtLeast k (w.y ⊖ u.y)
-    → AtMost 1074 (channel_of u w bu bw su sw gap).lo × AtMost 1074 (channel_of u w bu bw su sw gap).hi × AtMost g (channel_of u w bu bw su sw gap).gap
+-- ---- the channel: places and boxes at most 2 ^ (n - 1074), the clearance's two parts at most d and e
+pub channel_most : (n k d e g : ℕ) (u w : Point) (bu bw : Box) (su sw clearance : Float) → 53 ≤ k → k ≤ 2097 → n ≤ 2000 → d + e ≤ n + 40 + 1074 → n + 41 + 1074 ≤ 2094 + k → n + 40 + 1074 ≤ g + k → g ≤ 2097
+    → Near n u → Near n w → Boxed n bu → Boxed n bw → AtMost d clearance → AtMost e su → AtMost e sw → AtLeast k (w.x ⊖ u.x) ⊎ AtLeast k (w.y ⊖ u.y)
+    → AtMost 1074 (channel_of u w bu bw su sw clearance).lo × AtMost 1074 (channel_of u w bu bw su sw clearance).hi × AtMost g (channel_of u w bu bw su sw clearance).least_step
 unfolding channel_of held
-channel_most n k d e g u w bu bw su sw gap K L N E H I G U W BU BW A B C D =
+channel_most n k d e g u w bu bw su sw clearance K L N E H I G U W BU BW A B C D =
     let ax = w.x ⊖ u.x in
     let ay = w.y ⊖ u.y in
     let len = max_of (hypot_of ax ay) least_normal in
@@ -138,12 +138,12 @@ channel_most n k d e g u w bu bw su sw gap K L N E H I G U W BU BW A B C D =
     let fx : T (is_finite dx) = part_finite (n + 1) k ax ay (omega arith) K L (omega arith) F F' X Y D ax X in
     let fy : T (is_finite dy) = part_finite (n + 1) k ax ay (omega arith) K L (omega arith) F F' X Y D ay Y in
     let one : AtLeast 1073 dx ⊎ AtLeast 1073 dy = larger_part (n + 1) k ax ay (omega arith) K L (omega arith) F F' X Y D in
-    let room : AtMost (n + 40) (gap ⊗ min_of su sw) = mul_most d e (n + 40) gap (min_of su sw) E (omega arith) A (min_most e su sw B C) in
-    let end : (b : Box) → Boxed n b → AtMost 2094 ((reach b dx dy ⊕ gap ⊗ min_of su sw) ⊘ len) = (λ b z.
-    div_most (n + 41) k 2094 (reach b dx dy ⊕ gap ⊗ min_of su sw) len (omega arith) (lit≤ tt)
-    (add_under (n + 40) (n + 40) (n + 41) (reach b dx dy) (gap ⊗ min_of su sw) (omega arith) (omega arith) (omega arith) (reach_most n b dx dy (omega arith) z fx fy one) room) far) in
-    let lo = (reach bu dx dy ⊕ gap ⊗ min_of su sw) ⊘ len in
-    let hi = f1 ⊖ (reach bw dx dy ⊕ gap ⊗ min_of su sw) ⊘ len in
-    let ends = held_most 2095 lo hi (gap ⊗ min_of su sw ⊘ len) (lit≤ tt) (most_weaken 2094 2095 lo (lit≤ tt) (end bu BU))
-    (sub_under 1074 2094 2095 f1 ((reach bw dx dy ⊕ gap ⊗ min_of su sw) ⊘ len) (lit≤ tt) (lit≤ tt) (lit≤ tt) f1_most (end bw BW)) in
-    (ends.0, ends.1, div_most (n + 40) k g (gap ⊗ min_of su sw) len I G room far)
+    let room : AtMost (n + 40) (clearance ⊗ min_of su sw) = mul_most d e (n + 40) clearance (min_of su sw) E (omega arith) A (min_most e su sw B C) in
+    let end : (b : Box) → Boxed n b → AtMost 2094 ((reach b dx dy ⊕ clearance ⊗ min_of su sw) ⊘ len) = (λ b z.
+    div_most (n + 41) k 2094 (reach b dx dy ⊕ clearance ⊗ min_of su sw) len (omega arith) (lit≤ tt)
+    (add_under (n + 40) (n + 40) (n + 41) (reach b dx dy) (clearance ⊗ min_of su sw) (omega arith) (omega arith) (omega arith) (reach_most n b dx dy (omega arith) z fx fy one) room) far) in
+    let lo = (reach bu dx dy ⊕ clearance ⊗ min_of su sw) ⊘ len in
+    let hi = f1 ⊖ (reach bw dx dy ⊕ clearance ⊗ min_of su sw) ⊘ len in
+    let ends = held_most 2095 lo hi (clearance ⊗ min_of su sw ⊘ len) (lit≤ tt) (most_weaken 2094 2095 lo (lit≤ tt) (end bu BU))
+    (sub_under 1074 2094 2095 f1 ((reach bw dx dy ⊕ clearance ⊗ min_of su sw) ⊘ len) (lit≤ tt) (lit≤ tt) (lit≤ tt) f1_most (end bw BW)) in
+    (ends.0, ends.1, div_most (n + 40) k g (clearance ⊗ min_of su sw) len I G room far)

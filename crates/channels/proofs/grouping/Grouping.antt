@@ -1,4 +1,4 @@
--- The loops that group crossings by channel, and that each channel's crossings stand in their stretch. Assumes nothing.
+-- The loops that group crossings by channel, and that each channel's crossings stand together. Assumes nothing.
 use mathlib.Core.Path.{◌≡◌, refl, sym, ap, ◌∙◌, subst}
 use mathlib.Core.Logic.{⊎_elim}
 use mathlib.Core.Bool.{Bool, true, false}
@@ -17,7 +17,7 @@ use Rattle.numbers.proofs.order.Merging.{le_or_lt}
 use Rattle.numbers.proofs.order.Tables.{how_many_le, table_ext}
 use Rattle.numbers.proofs.order.Strides.{is_table, strided_zero, strided_push, strided_other, strided_past, get_d_strided, length_strided}
 use Rattle.channels.specs.Round.{round_of, first_at, around}
-use Rattle.channels.proofs.half_edges.Rounds.{length_round, corner_at, before_first, from_first, around_first}
+use Rattle.channels.proofs.half_edges.Rounds.{length_round, vertex_at, before_first, from_first, around_first}
 use Rattle.channels.specs.Stages.Grouped.{start_in, member_in, Copied, Started, Grouped}
 
 -- ---- the order copied beside the crossings
@@ -98,7 +98,7 @@ module _ (m : ℕ) (keys before : List ℕ) where
           counts = strided_past 4 3 0 3 m (m + c) now j (omega arith) (omega arith) (omega arith) ∙ r.counts;
         }
 
--- ---- a channel's stretch
+-- ---- a channel's part
 
 -- where none from a on passes, none is kept
 keep_none : (p : ℕ → Bool) (l : List ℕ) (n a : ℕ) → length l ≤ a + n → ((j : ℕ) → a ≤ j → j < length l → p (get_or l j 0) ≡ false) → keep p (drop a l) ≡ []
@@ -111,14 +111,14 @@ keep_none p l (suc n) a h f =
     (le_or_lt (length l) a)
 
 -- where k from a on pass, and none behind them, those are kept
-keep_stretch : (p : ℕ → Bool) (l : List ℕ) (k a : ℕ) → a + k ≤ length l → ((j : ℕ) → a ≤ j → j < a + k → p (get_or l j 0) ≡ true)
+keep_consecutive : (p : ℕ → Bool) (l : List ℕ) (k a : ℕ) → a + k ≤ length l → ((j : ℕ) → a ≤ j → j < a + k → p (get_or l j 0) ≡ true)
     → ((j : ℕ) → a + k ≤ j → j < length l → p (get_or l j 0) ≡ false) → keep p (drop a l) ≡ take k (drop a l)
-keep_stretch p l zero a h f g = keep_none p l (length l) a (omega arith) (λ j i u. g j (omega arith) u)
-keep_stretch p l (suc k) a h f g =
+keep_consecutive p l zero a h f g = keep_none p l (length l) a (omega arith) (λ j i u. g j (omega arith) u)
+keep_consecutive p l (suc k) a h f g =
     let cons : drop a l ≡ get_or l a 0 ∷ drop (suc a) l = drop-cons l a 0 (omega arith) in
     ap (keep p) cons
     ∙ keep_yes p (get_or l a 0) (drop (suc a) l) (f a (omega arith) (omega arith))
-    ∙ ap (λ (t : List ℕ). get_or l a 0 ∷ t) (keep_stretch p l k (suc a) (omega arith) (λ j i u. f j (omega arith) (omega arith)) (λ j i u. g j (omega arith) u))
+    ∙ ap (λ (t : List ℕ). get_or l a 0 ∷ t) (keep_consecutive p l k (suc a) (omega arith) (λ j i u. f j (omega arith) (omega arith)) (λ j i u. g j (omega arith) u))
     ∙ sym (ap (take (suc k)) cons)
 
 module _ (keys : List ℕ) where
@@ -133,17 +133,17 @@ module _ (keys : List ℕ) where
       absurd (omega (arith, before_first keys v (first_at keys (v + 1)) h, from_first keys (v + 1) (first_at keys (v + 1)) (omega (arith, first_in v)) (omega arith))))
       (le_or_lt (first_at keys v) (first_at keys (v + 1)))
 
-  stretch : (v : ℕ) → around keys v ≡ table (λ i. get_or (round_of keys) (first_at keys v + i) 0) (first_at keys (v + 1) - first_at keys v)
-  stretch v =
+  consecutive : (v : ℕ) → around keys v ≡ table (λ i. get_or (round_of keys) (first_at keys v + i) 0) (first_at keys (v + 1) - first_at keys v)
+  consecutive v =
       let a = first_at keys v in
       let k = first_at keys (v + 1) - first_at keys v in
       let in₁ = first_in (v + 1) in
       let rise = first_rises v in
       let long = length_round keys in
       around_first keys v
-      ∙ keep_stretch _ (round_of keys) k a (omega arith)
-      (λ j i u. eq-eqb (corner_at keys j) v (omega (arith, from_first keys v j (omega arith) i, before_first keys (v + 1) j (omega arith))))
-      (λ j i u. ne_eqb (corner_at keys j) v (λ e. omega (arith, from_first keys (v + 1) j (omega arith) (omega arith))))
+      ∙ keep_consecutive _ (round_of keys) k a (omega arith)
+      (λ j i u. eq-eqb (vertex_at keys j) v (omega (arith, from_first keys v j (omega arith) i, before_first keys (v + 1) j (omega arith))))
+      (λ j i u. ne_eqb (vertex_at keys j) v (λ e. omega (arith, from_first keys (v + 1) j (omega arith) (omega arith))))
       ∙ is_table _ k (take k (drop a (round_of keys))) 0 (length-take-le k (drop a (round_of keys)) (simp length-drop (omega arith)))
       (λ i h. get_or-take k (drop a (round_of keys)) i 0 h ∙ get_or-drop a (round_of keys) i 0)
 
@@ -178,7 +178,7 @@ module _ (m channels n : ℕ) (ks order ends numbers ends' numbers' : List ℕ) 
       ap (λ (s : ℕ). table (λ i. member_in numbers' (s + i)) (start_in m ends' (c + 1) - s)) a
       ∙ ap (λ (t : ℕ). table (λ i. member_in numbers' (first_at ks c + i)) (t - first_at ks c)) b
       ∙ table_ext _ _ (first_at ks (c + 1) - first_at ks c) (λ i g. member_at (first_at ks c + i) (omega arith))
-      ∙ sym (stretch ks c)
+      ∙ sym (consecutive ks c)
       ∙ ap (λ (k : ℕ). which (λ x. eqb (get_or ks x 0) c) k) long
       ∙ ap (λ (l : List ℕ). which (λ x. eqb (get_or l x 0) c) n) hk
 

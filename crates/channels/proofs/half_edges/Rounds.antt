@@ -1,4 +1,4 @@
--- The half-edges in the order of their first corners: those of one corner stand in one stretch, by number, and those of lower corners before it. Assumes nothing.
+-- The half-edges in the order of their first vertices: those of one vertex stand together, by number, and those of lower vertices before it. Assumes nothing.
 use mathlib.Core.Path.{◌≡◌, sym, ap, ◌∙◌}
 use mathlib.Core.Logic.{◌⊎◌, ⊎_elim}
 use mathlib.Core.Bool.{Bool, true, false}
@@ -80,11 +80,11 @@ module _ (corners : List ℕ) where
   unfolding round_of
   round_below p h = below_sort (at corners) (length corners) p h
 
-  -- the corner that the half-edge at place p starts at
-  abbrev pub corner_at : ℕ → ℕ
-  corner_at p = at corners (get_or (round_of corners) p 0)
+  -- the vertex that the half-edge at place p starts at
+  abbrev pub vertex_at : ℕ → ℕ
+  vertex_at p = at corners (get_or (round_of corners) p 0)
 
-  pub round_rises : (i j : ℕ) → i ≤ j → j < length corners → corner_at i ≤ corner_at j
+  pub round_rises : (i j : ℕ) → i ≤ j → j < length corners → vertex_at i ≤ vertex_at j
   unfolding round_of
   round_rises i j h l = sorted (at corners) (up_from 0 (length corners)) i j h (rw (length_up 0 (length corners)) l)
 
@@ -97,11 +97,11 @@ module _ (corners : List ℕ) where
     unfolding round_of
     rises = rising_sort (at corners) (up_from 0 (length corners))
 
-    -- before v's half-edges stand those of lower corners, and from there on no others of those
-    pub before_first : (j : ℕ) → j < first_at corners v → corner_at j < v
+    -- before v's half-edges stand those of lower vertices, and from there on no others of those
+    pub before_first : (j : ℕ) → j < first_at corners v → vertex_at j < v
     before_first j h = lows_before (at corners) v (round_of corners) rises j (omega (arith, first_count))
 
-    pub from_first : (j : ℕ) → j < length corners → first_at corners v ≤ j → v ≤ corner_at j
+    pub from_first : (j : ℕ) → j < length corners → first_at corners v ≤ j → v ≤ vertex_at j
     from_first j l h = others_behind (at corners) v (round_of corners) rises j (omega (arith, length_round)) (omega (arith, first_count))
 
     first_within : first_at corners v ≤ length corners
@@ -109,7 +109,7 @@ module _ (corners : List ℕ) where
     first_within = how_many_le (low (at corners) v) (length corners)
 
     -- it is the only place of that kind
-    pub first_is : (p : ℕ) → p ≤ length corners → ((j : ℕ) → j < p → corner_at j < v) → ((j : ℕ) → p ≤ j → j < length corners → v ≤ corner_at j) → p ≡ first_at corners v
+    pub first_is : (p : ℕ) → p ≤ length corners → ((j : ℕ) → j < p → vertex_at j < v) → ((j : ℕ) → p ≤ j → j < length corners → v ≤ vertex_at j) → p ≡ first_at corners v
     first_is p l f g =
         ⊎_elim
         (λ (h : p ≤ first). ⊎_elim (λ (k : first ≤ p). omega arith) (λ (k : p < first). absurd (omega (arith, before_first p k, g p (omega arith) (omega (arith, first_within))))) (le_or_lt first p))
@@ -131,7 +131,7 @@ module _ (corners : List ℕ) where
     pub around_first : around corners v ≡ keep own (drop (first_at corners v) (round_of corners))
     around_first =
         around_kept
-        ∙ keep_past own (round_of corners) (first_at corners v) 0 (omega (arith, first_within, length_round)) (λ j g l. ne_eqb (corner_at j) v (λ e. omega (arith, before_first j (omega arith))))
+        ∙ keep_past own (round_of corners) (first_at corners v) 0 (omega (arith, first_within, length_round)) (λ j g l. ne_eqb (vertex_at j) v (λ e. omega (arith, before_first j (omega arith))))
         ∙ ap (λ (n : ℕ). keep own (drop n (round_of corners))) (zero-add (first_at corners v))
 
     -- there are none past the end
@@ -140,9 +140,9 @@ module _ (corners : List ℕ) where
     round_out p l = let short : length (round_of corners) ≤ p = omega (arith, length_round) in ap (keep own) (drop_of_length-le (round_of corners) short)
 
     -- nor from where another's stands
-    pub around_over : (p : ℕ) → p < length corners → first_at corners v ≤ p → (corner_at p ≡ v → ⊥) → keep own (drop p (round_of corners)) ≡ []
+    pub around_over : (p : ℕ) → p < length corners → first_at corners v ≤ p → (vertex_at p ≡ v → ⊥) → keep own (drop p (round_of corners)) ≡ []
     around_over p l h n =
-        keep_past own (round_of corners) (length corners - p) p (omega (arith, length_round)) (λ j g k. ne_eqb (corner_at j) v (λ e. n (omega (arith, from_first p l h, round_rises p j g (omega arith)))))
+        keep_past own (round_of corners) (length corners - p) p (omega (arith, length_round)) (λ j g k. ne_eqb (vertex_at j) v (λ e. n (omega (arith, from_first p l h, round_rises p j g (omega arith)))))
         ∙ round_out (p + (length corners - p)) (omega arith)
 
   -- where a list begins with this order, it is read there

@@ -8,9 +8,9 @@ use Rattle.numbers.specs.Key.{key_of}
 use Rattle.numbers.specs.Order.{insert_by, sort_by, up_from}
 use Rattle.channels.specs.Space.{wish_key, wish_order, in_order, even_at, forward, forward_all, backward, crowded, spaced, put_all, placed}
 
--- the places of wishes on a channel from lo to hi with a gap
+-- the places of wishes on a channel from lo to hi with a least step
 abbrev places : ℕ → ℕ → ℕ → List ℕ → List ℕ
-places lo hi gap ws = map (to_bits binary64) (placed (record { lo = of_bits binary64 lo; hi = of_bits binary64 hi; gap = of_bits binary64 gap }) (map (of_bits binary64) ws))
+places lo hi least_step ws = map (to_bits binary64) (placed (record { lo = of_bits binary64 lo; hi = of_bits binary64 hi; least_step = of_bits binary64 least_step }) (map (of_bits binary64) ws))
 
 -- 0.25, 0.5, 0.75, 1, -0
 abbrev b14 : ℕ
@@ -28,9 +28,9 @@ b1 = 0x3FF0_0000_0000_0000
 abbrev minus : ℕ
 minus = 0x8000_0000_0000_0000
 
--- three wishes 0.5 on 0 to 1, by their gaps
+-- three wishes 0.5 on 0 to 1, by their least steps
 abbrev three : ℕ → List ℕ
-three gap = places 0 b1 gap (b12 ∷ b12 ∷ b12 ∷ [])
+three least_step = places 0 b1 least_step (b12 ∷ b12 ∷ b12 ∷ [])
 
 -- 0.4 and 0.03: six wishes of 1 on 0.25 to 0.4, of which the first falls below 0.25 by rounding
 abbrev six : List ℕ

@@ -25,14 +25,14 @@ module _ (c : Channel) (t₀ : Float) (ws : List Float) where
   pub forth_start : Forth ws 0 t₀
   forth_start = record { done = []; count = refl; list = refl; all = refl }
 
-  pub forth_step : (now : List Float) (i : ℕ) (t y u : Float) → i < length ws → y ≡ clamp_of (get_or now i nan) c.lo c.hi → u ≡ max_of y (t ⊕ c.gap) → Forth now i t → Forth (set now i u) (i + 1) u
+  pub forth_step : (now : List Float) (i : ℕ) (t y u : Float) → i < length ws → y ≡ clamp_of (get_or now i nan) c.lo c.hi → u ≡ max_of y (t ⊕ c.least_step) → Forth now i t → Forth (set now i u) (i + 1) u
   unfolding forward
   forth_step now i t y u h f g r =
       let w : Float = get_or ws i nan in
       let cons : drop i ws ≡ w ∷ drop (suc i) ws = drop-cons ws i nan h in
       let at : now ≡ r.done ++ (w ∷ drop (suc i) ws) = r.list ∙ ap (λ z. r.done ++ z) cons in
       let read : get_or now i nan ≡ w = ap (λ z. get_or z i nan) at ∙ get_or_at r.done w (drop (suc i) ws) nan i r.count in
-      let value : u ≡ max_of (clamp_of w c.lo c.hi) (t ⊕ c.gap) = g ∙ ap (λ z. max_of z (t ⊕ c.gap)) (f ∙ ap (λ z. clamp_of z c.lo c.hi) read) in
+      let value : u ≡ max_of (clamp_of w c.lo c.hi) (t ⊕ c.least_step) = g ∙ ap (λ z. max_of z (t ⊕ c.least_step)) (f ∙ ap (λ z. clamp_of z c.lo c.hi) read) in
       record {
         done = r.done ++ (u ∷ []);
         count = length-append r.done (u ∷ []) ∙ ap (λ z. z + 1) r.count;
@@ -74,7 +74,7 @@ module _ (c : Channel) (t₀ : Float) (ws : List Float) where
         all = ap (back c t₀) (drop_of_length-le ws (omega arith));
       }
 
-  pub back_step : (now : List Float) (i : ℕ) (t u : Float) → 0 < i → i ≤ length ws → length now ≡ length ws → u ≡ min_of (get_or now (i - 1) nan) (t ⊖ c.gap) → Back now i t → Back (set now (i - 1) u) (i - 1) u
+  pub back_step : (now : List Float) (i : ℕ) (t u : Float) → 0 < i → i ≤ length ws → length now ≡ length ws → u ≡ min_of (get_or now (i - 1) nan) (t ⊖ c.least_step) → Back now i t → Back (set now (i - 1) u) (i - 1) u
   unfolding back
   back_step now i t u h k m g r =
       let j : ℕ = i - 1 in
@@ -85,7 +85,7 @@ module _ (c : Channel) (t₀ : Float) (ws : List Float) where
       let at : now ++ (t₀ ∷ []) ≡ take j ws ++ (w ∷ t ∷ r.rest) = r.list ∙ ap (λ z. z ++ (t ∷ r.rest)) front ∙ append_assoc (take j ws) (w ∷ []) (t ∷ r.rest) in
       let size : length (take j ws) ≡ j = length-take-le j ws (omega arith) in
       let read : get_or now j nan ≡ w = sym (get_or-append now (t₀ ∷ []) nan j (omega arith)) ∙ ap (λ z. get_or z j nan) at ∙ get_or_at (take j ws) w (t ∷ r.rest) nan j size in
-      let value : u ≡ min_of w (t ⊖ c.gap) = g ∙ ap (λ z. min_of z (t ⊖ c.gap)) read in
+      let value : u ≡ min_of w (t ⊖ c.least_step) = g ∙ ap (λ z. min_of z (t ⊖ c.least_step)) read in
       record {
         rest = t ∷ r.rest;
         list = sym (set-append_left now (t₀ ∷ []) j u (omega arith)) ∙ ap (λ z. set z j u) at ∙ set_at (take j ws) w (t ∷ r.rest) u j size;

@@ -1,4 +1,4 @@
--- Places of wishes on a channel are finite: within 2 ^ 32, for at most 2 ^ 28 wishes. Where wishes fit, the gap is at most 4, so each step of a pass adds at most 4, exactly. Assumes nothing.
+-- Places of wishes on a channel are finite: within 2 ^ 32, for at most 2 ^ 28 wishes. Where wishes fit, the least step is at most 4, so each step of a pass adds at most 4, exactly. Assumes nothing.
 use mathlib.Core.Path.{◌≡◌, refl, sym, subst}
 use mathlib.Core.Bool.{Bool, true, false, not, cond}
 use mathlib.Core.List.{List, [], ◌∷◌, map}
@@ -28,12 +28,12 @@ few_most n h = whole_most n 28 1102 h (lit≤ tt) (lit≤ tt)
 one_least : (n : ℕ) → 0 < n → n ≤ 2 ^ 28 → AtLeast 1074 (num n)
 one_least n p h = whole_least n 0 p (lit≤ tt) (few_most n h).finite
 
--- ---- a channel: its ends are at most 1 in size, its gap has its sign clear and a bound
+-- ---- a channel: its ends are at most 1 in size, its least step has its sign clear and a bound
 pub record Ready (g : ℕ) (c : Channel) : Type 0 where
   pub lo : AtMost 1074 c.lo
   pub hi : AtMost 1074 c.hi
-  pub gap : AtMost g c.gap
-  pub clear : T (plus c.gap)
+  pub least_step : AtMost g c.least_step
+  pub clear : T (plus c.least_step)
 
 module _ (g : ℕ) (c : Channel) (G : g ≤ 2000) (R : Ready g c) where
   width : AtMost 1075 (c.hi ⊖ c.lo)
@@ -57,15 +57,15 @@ module _ (g : ℕ) (c : Channel) (G : g ≤ 2000) (R : Ready g c) where
   evens last a zero m l = tt
   evens last a (suc n) m l = (even_most last a m (omega arith), evens last (suc a) n m (omega arith))
 
-  -- ---- wishes that fit: the gap is at most 4
-  gap_most : (last : ℕ) → 0 < last → last ≤ 2 ^ 28 → crowded c last ≡ false → Within 4 1 c.gap
+  -- ---- wishes that fit: the least step is at most 4
+  least_step_most : (last : ℕ) → 0 < last → last ≤ 2 ^ 28 → crowded c last ≡ false → Within 4 1 c.least_step
   unfolding crowded
-  gap_most last p l h =
-      let P = num last ⊗ c.gap in
-      let F : AtMost 2097 P = mul_most 1102 g 2097 (num last) c.gap (omega arith) (lit≤ tt) (few_most last l) R.gap in
-      let C : T (plus P) = (size_of P (mul_unsigned (num last) c.gap (plus_unsigned (num last) (whole_plus last)) (plus_unsigned c.gap R.clear)) F.finite).1 in
+  least_step_most last p l h =
+      let P = num last ⊗ c.least_step in
+      let F : AtMost 2097 P = mul_most 1102 g 2097 (num last) c.least_step (omega arith) (lit≤ tt) (few_most last l) R.least_step in
+      let C : T (plus P) = (size_of P (mul_unsigned (num last) c.least_step (plus_unsigned (num last) (whole_plus last)) (plus_unsigned c.least_step R.clear)) F.finite).1 in
       let B : AtMost 1075 P = size_most 1075 P (c.hi ⊖ c.lo) F.finite (subst (λ (v : Float). lt (c.hi ⊖ c.lo) v ≡ false) (sym (abs_plus P C)) h) width in
-      most_whole 2 c.gap (factor_most 1075 (num last) c.gap (lit≤ tt) R.gap.finite (one_least last p l) B)
+      most_whole 2 c.least_step (factor_most 1075 (num last) c.least_step (lit≤ tt) R.least_step.finite (one_least last p l) B)
 
   clamped : (w : Float) → T (not (is_nan w)) → Within 1 1 (clamp_of w c.lo c.hi)
   clamped w n = most_whole 0 (clamp_of w c.lo c.hi) (clamp_most 1074 w c.lo c.hi n R.lo R.hi)
@@ -73,14 +73,14 @@ module _ (g : ℕ) (c : Channel) (G : g ≤ 2000) (R : Ready g c) where
   end_one : Within 1 1 c.hi
   end_one = most_whole 0 c.hi R.hi
 
-  module _ (D : Within 4 1 c.gap) where
+  module _ (D : Within 4 1 c.least_step) where
     -- the pass up, after a place within b
     up_within : (b : ℕ) (t : Float) (ws : List Float) → 1 ≤ b → b + 4 * length ws ≤ 2 ^ 53 → Within b 1 t → Each (λ w. T (not (is_nan w))) ws → Each (Within (b + 4 * length ws) 1) (forward c t ws)
     unfolding forward
     up_within b t [] k l h n = tt
     up_within b t (w ∷ ws) k l h n =
-        let u = max_of (clamp_of w c.lo c.hi) (t ⊕ c.gap) in
-        let U : Within (b + 4) 1 u = max_within (b + 4) 1 (clamp_of w c.lo c.hi) (t ⊕ c.gap) (within_weaken 1 1 (b + 4) 1 (clamp_of w c.lo c.hi) (lit< tt) (omega arith) (clamped w n.0)) (add_within b 4 1 t c.gap (lit< tt) (exact_whole (b + 4) (omega arith)) h D) in
+        let u = max_of (clamp_of w c.lo c.hi) (t ⊕ c.least_step) in
+        let U : Within (b + 4) 1 u = max_within (b + 4) 1 (clamp_of w c.lo c.hi) (t ⊕ c.least_step) (within_weaken 1 1 (b + 4) 1 (clamp_of w c.lo c.hi) (lit< tt) (omega arith) (clamped w n.0)) (add_within b 4 1 t c.least_step (lit< tt) (exact_whole (b + 4) (omega arith)) h D) in
         let W : Each (Within (b + 4 + 4 * length ws) 1) (forward c u ws) = up_within (b + 4) u ws (omega arith) (omega arith) U n.1 in
         let e : b + 4 + 4 * length ws ≡ b + 4 * suc (length ws) = omega arith in
         (within_weaken (b + 4) 1 (b + 4 * suc (length ws)) 1 u (lit< tt) (omega arith) U, subst (λ (a : ℕ). Each (Within a 1) (forward c u ws)) e W)
@@ -102,7 +102,7 @@ module _ (g : ℕ) (c : Channel) (G : g ≤ 2000) (R : Ready g c) where
         more : (x : Float) → Within b 1 x → Within (b + 4) 1 x
         more x h = within_weaken b 1 (b + 4) 1 x (lit< tt) (omega arith) h
     back_within b t (u ∷ us) k l h n =
-        (min_within (b + 4) 1 t (u ⊖ c.gap) (more t h) (sub_within b 4 1 u c.gap (lit< tt) (exact_whole (b + 4) l) n.0 D), (more u n.0, each_map (Within b 1) (Within (b + 4) 1) more us n.1))
+        (min_within (b + 4) 1 t (u ⊖ c.least_step) (more t h) (sub_within b 4 1 u c.least_step (lit< tt) (exact_whole (b + 4) l) n.0 D), (more u n.0, each_map (Within b 1) (Within (b + 4) 1) more us n.1))
       where
         more : (x : Float) → Within b 1 x → Within (b + 4) 1 x
         more x h = within_weaken b 1 (b + 4) 1 x (lit< tt) (omega arith) h
@@ -141,7 +141,7 @@ module _ (g : ℕ) (c : Channel) (G : g ≤ 2000) (R : Ready g c) where
       fit : (ws : List Float) → length ws ≤ 2 ^ 28 → Each (λ w. T (not (is_nan w))) ws → crowded c (length ws - 1) ≡ false → Each (AtMost 1106) (backward c (forward_all c ws))
       fit [] l n e = unfold backward forward_all in tt
       fit (w ∷ []) l n e = unfold backward forward_all forward in (few w n.0, tt)
-      fit (w ∷ v ∷ ws) l n e = passes (gap_most (length (w ∷ v ∷ ws) - 1) (omega arith) (omega arith) e) (w ∷ v ∷ ws) l n
+      fit (w ∷ v ∷ ws) l n e = passes (least_step_most (length (w ∷ v ∷ ws) - 1) (omega arith) (omega arith) e) (w ∷ v ∷ ws) l n
 
   pub put_most : (xs : List ℕ) (ts ps : List Float) → Each (AtMost 1106) ts → Each (AtMost 1106) ps → Each (AtMost 1106) (put_all xs ts ps)
   unfolding put_all

@@ -20,7 +20,7 @@ module _ (c : Channel) where
   length_forward : (t : Float) (ws : List Float) → length (forward c t ws) ≡ length ws
   unfolding forward
   length_forward t [] = refl
-  length_forward t (w ∷ ws) = ap suc (length_forward (max_of (clamp_of w c.lo c.hi) (t ⊕ c.gap)) ws)
+  length_forward t (w ∷ ws) = ap suc (length_forward (max_of (clamp_of w c.lo c.hi) (t ⊕ c.least_step)) ws)
 
   pub length_forward_all : (ws : List Float) → length (forward_all c ws) ≡ length ws
   unfolding forward_all

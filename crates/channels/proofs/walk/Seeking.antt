@@ -1,4 +1,4 @@
--- The search round the first corner, as the loop of `start` takes it over one stretch of the half-edges by corner. Assumes nothing.
+-- The search round the first vertex, as the loop of `start` takes it over one part of the half-edges by vertex. Assumes nothing.
 use mathlib.Core.Path.{◌≡◌, refl, sym, ap, ◌∙◌}
 use mathlib.Core.List.{List, [], ◌∷◌}
 use Prim.Native.Nat.{ℕ, suc, ◌+◌, ◌≤◌, ◌<◌}
@@ -53,7 +53,7 @@ module _ (corners : List ℕ) (centre : ℕ → Point) (va vb : ℕ) where
   pub seek_end : (p : ℕ) → length corners ≤ p → Seeking p → Lost ≡ started corners centre va vb
   seek_end p l s = seek_none p (round_out corners va p l) s
 
-  -- by what the code read at place p of a list that begins with the half-edges by corner: h, and its corner k
+  -- by what the code read at place p of a list that begins with the half-edges by vertex: h, and its vertex k
   module _ (l : List ℕ) (e : take (length corners) l ≡ round_of corners) (p h k : ℕ) (inside : p < length corners) (q : h ≡ get_or l p 0) (r : k ≡ at corners h) (s : Seeking p) where
     here : h ≡ get_or (round_of corners) p 0
     here = q ∙ round_read corners l e p inside
@@ -82,5 +82,5 @@ module _ (corners : List ℕ) (centre : ℕ → Point) (va vb : ℕ) where
               same = answer ∙ sought_at h (rest (suc p)) Lost (sym w ∙ z) ∙ ap (λ (n : ℕ). sought corners centre va vb (rest n)) (sym (add-one p));
             }
 
--- what the search for the corner to start at knows
+-- what the search for the vertex to start at knows
 pub ruleset seek_laws = (seek_start, seek_end, seek_other, seek_found, seek_on, place_fits)

@@ -12,7 +12,7 @@ use Rattle.network.specs.Mesh.{next}
 use Rattle.network.proofs.mesh.Meshes.{next_below}
 use Rattle.channels.specs.declared.walk.Step.{Step}
 use Rattle.channels.specs.declared.walk.Step.TheVariants.{Out, Home, Lost}
-use Rattle.channels.specs.Trace.{Walk, home_of, started, after, walk, traced, Trailed}
+use Rattle.channels.specs.Trace.{Walk, home_of, started, after, walk, traced, WalkWritten}
 
 -- the half-edge after one below 2^32 - 1, a multiple of 3, is below it too
 pub in_u32 : (h : ℕ) → h < 4294967295 → next h < 4294967295
@@ -32,7 +32,7 @@ module _ (corners twins : List ℕ) (centre : ℕ → Point) (va vb : ℕ) where
     pub left : ℕ
     pub steps : n + left ≡ length corners
     pub list : now ≡ done ++ drop n before
-    pub edges : whole.edges ≡ done ++ (rest left x).edges
+    pub half_edges : whole.half_edges ≡ done ++ (rest left x).half_edges
     pub kept : whole.kept ≡ (rest left x).kept
 
   pub begin : (before : List ℕ) (x : Step) → x ≡ started corners centre va vb → Going before before 0 x
@@ -44,7 +44,7 @@ module _ (corners twins : List ℕ) (centre : ℕ → Point) (va vb : ℕ) where
         left = length corners;
         steps = omega arith;
         list = refl;
-        edges = ap (λ y. (rest (length corners) y).edges) (sym e);
+        half_edges = ap (λ y. (rest (length corners) y).half_edges) (sym e);
         kept = ap (λ y. (rest (length corners) y).kept) (sym e);
       }
 
@@ -65,13 +65,13 @@ module _ (corners twins : List ℕ) (centre : ℕ → Point) (va vb : ℕ) where
                   ap (λ z. set z n h) (g.list ∙ ap (λ z. g.done ++ z) (drop-cons before n 0 (omega arith)))
                   ∙ set_at g.done (get_or before n 0) (drop (suc n) before) h n g.count
                   ∙ simp (append_assoc, add-one);
-              edges = g.edges ∙ ap (λ z. g.done ++ (rest z (Out h)).edges) e ∙ sym (append_assoc g.done (h ∷ []) _);
+              half_edges = g.half_edges ∙ ap (λ z. g.done ++ (rest z (Out h)).half_edges) e ∙ sym (append_assoc g.done (h ∷ []) _);
               kept = g.kept ∙ ap (λ z. (rest z (Out h)).kept) e;
             }
 
     -- no crossing is left to make, or none is wanted
     abbrev Over : ℕ → Step → Type 0
-    Over k x = ((rest k x).edges ≡ []) × (home_of x ≡ (rest k x).kept)
+    Over k x = ((rest k x).half_edges ≡ []) × (home_of x ≡ (rest k x).kept)
 
     spent : (k : ℕ) (x : Step) → k ≡ 0 → Over k x
     unfolding walk
@@ -85,9 +85,9 @@ module _ (corners twins : List ℕ) (centre : ℕ → Point) (va vb : ℕ) where
     still (suc k) Home f = (refl, refl)
     still (suc k) Lost f = (refl, refl)
 
-    finish : (x : Step) (k : Bool) → k ≡ home_of x → (g : Going before now n x) → Over g.left x → Trailed whole before now n k
+    finish : (x : Step) (k : Bool) → k ≡ home_of x → (g : Going before now n x) → Over g.left x → WalkWritten whole before now n k
     finish x k e g o =
-        let all : whole.edges ≡ g.done = g.edges ∙ ap (λ z. g.done ++ z) o.0 ∙ append-nil g.done in
+        let all : whole.half_edges ≡ g.done = g.half_edges ∙ ap (λ z. g.done ++ z) o.0 ∙ append-nil g.done in
         record {
           written = g.list ∙ ap (λ z. z ++ drop n before) (sym all);
           counted = sym g.count ∙ ap length (sym all);
@@ -99,10 +99,10 @@ module _ (corners twins : List ℕ) (centre : ℕ → Point) (va vb : ℕ) where
         → Going before (set now n h) (n + 1) y
     going h x y l s e f g = subst (Going before (set now n h) (n + 1)) (sym f) (cross h l s (subst (Going before now n) e g))
 
-    pub ended : (x : Step) (k : Bool) → length corners ≤ n → k ≡ home_of x → Going before now n x → Trailed whole before now (length corners) k
+    pub ended : (x : Step) (k : Bool) → length corners ≤ n → k ≡ home_of x → Going before now n x → WalkWritten whole before now (length corners) k
     ended x k l e g =
         let over : n ≡ length corners = omega (arith, g.steps) in
-        subst (λ m. Trailed whole before now m k) over (finish x k e g (spent g.left x (omega (arith, g.steps))))
+        subst (λ m. WalkWritten whole before now m k) over (finish x k e g (spent g.left x (omega (arith, g.steps))))
 
-    pub stopped : (x : Step) (k : Bool) → ((h : ℕ) → x ≡ Out h → ⊥) → k ≡ home_of x → Going before now n x → Trailed whole before now n k
+    pub stopped : (x : Step) (k : Bool) → ((h : ℕ) → x ≡ Out h → ⊥) → k ≡ home_of x → Going before now n x → WalkWritten whole before now n k
     stopped x k f e g = finish x k e g (still g.left x f)

@@ -15,10 +15,10 @@ use Rattle.network.proofs.mesh.Meshes.{Sound, next_in}
 use Rattle.channels.specs.declared.walk.Step.{Step}
 use Rattle.channels.specs.declared.walk.Step.TheVariants.{Out, Home, Lost}
 use Rattle.channels.specs.Round.{around}
-use Rattle.channels.specs.Trace.{Walk, crosses_edge, leave, sought, started, out_by, pass_on, after, walk, traced, Trailed}
+use Rattle.channels.specs.Trace.{Walk, crosses_half_edge, leave, sought, started, out_by, pass_on, after, walk, traced, WalkWritten}
 
 module _ (corners twins : List ℕ) (centre : ℕ → Point) (va vb : ℕ) where
-  walk_short : (n : ℕ) (x : Step) → length (walk corners twins centre va vb n x).edges ≤ n
+  walk_short : (n : ℕ) (x : Step) → length (walk corners twins centre va vb n x).half_edges ≤ n
   unfolding walk
   walk_short zero x = zero-le
   walk_short (suc n) (Out h) = suc-le-suc (walk_short n (after corners twins centre va vb h))
@@ -26,7 +26,7 @@ module _ (corners twins : List ℕ) (centre : ℕ → Point) (va vb : ℕ) where
   walk_short (suc n) Lost = zero-le
 
   -- a line has at most as many crossings as the mesh is long
-  pub traced_short : length (traced corners twins centre va vb).edges ≤ length corners
+  pub traced_short : length (traced corners twins centre va vb).half_edges ≤ length corners
   unfolding traced
   traced_short = walk_short (length corners) (started corners centre va vb)
 
@@ -48,8 +48,8 @@ module _ (corners twins : List ℕ) (centre : ℕ → Point) (va vb : ℕ) where
     unfolding pass_on out_by
     pass_in g l =
         pick_in (eqb (at corners (next (next g))) vb) Home _ tt
-        (pick_in (crosses_edge corners centre va vb (next g)) (Out (next g)) _ (inside g l)
-        (pick_in (crosses_edge corners centre va vb (next (next g))) (Out (next (next g))) Lost (inside _ (inside g l)) tt))
+        (pick_in (crosses_half_edge corners centre va vb (next g)) (Out (next g)) _ (inside g l)
+        (pick_in (crosses_half_edge corners centre va vb (next (next g))) (Out (next (next g))) Lost (inside _ (inside g l)) tt))
 
     after_in : (h : ℕ) → h < length corners → InMesh (after corners twins centre va vb h)
     unfolding after
@@ -63,7 +63,7 @@ module _ (corners twins : List ℕ) (centre : ℕ → Point) (va vb : ℕ) where
     unfolding leave
     leave_in h l =
         pick_in (eqb (at corners (next h)) vb || eqb (at corners (next (next h))) vb) Home _ tt
-        (pick_in (crosses_edge corners centre va vb (next h)) (Out (next h)) Lost (inside h l) tt)
+        (pick_in (crosses_half_edge corners centre va vb (next h)) (Out (next h)) Lost (inside h l) tt)
 
     sought_in : (hs : List ℕ) → All (λ h. h < length corners) hs → InMesh (sought corners centre va vb hs)
     unfolding sought
@@ -79,7 +79,7 @@ module _ (corners twins : List ℕ) (centre : ℕ → Point) (va vb : ℕ) where
     unfolding started around
     started_in = sought_in (around corners va) (all_which (λ h. eqb (at corners h) va) (λ h. h < length corners) (length corners) (λ h l e. l))
 
-    walk_in : (k : ℕ) (x : Step) → InMesh x → All (λ h. h < length corners) (walk corners twins centre va vb k x).edges
+    walk_in : (k : ℕ) (x : Step) → InMesh x → All (λ h. h < length corners) (walk corners twins centre va vb k x).half_edges
     unfolding walk
     walk_in zero x i = tt
     walk_in (suc k) (Out h) i = (i, walk_in k (after corners twins centre va vb h) (after_in h i))
@@ -87,22 +87,22 @@ module _ (corners twins : List ℕ) (centre : ℕ → Point) (va vb : ℕ) where
     walk_in (suc k) Lost i = tt
 
     -- every half-edge that a line crosses is one of the mesh
-    pub traced_in : All (λ h. h < length corners) (traced corners twins centre va vb).edges
+    pub traced_in : All (λ h. h < length corners) (traced corners twins centre va vb).half_edges
     unfolding traced
     traced_in = walk_in (length corners) (started corners centre va vb) started_in
 
 -- ---- the list that `trace` leaves
 
-module _ (w : Walk) (before behind : List ℕ) (count : ℕ) (kept : Bool) (t : Trailed w before behind count kept) where
+module _ (w : Walk) (before behind : List ℕ) (count : ℕ) (kept : Bool) (t : WalkWritten w before behind count kept) where
   -- what stands at i is the walk's crossing i
-  pub trail_at : (i : ℕ) → i < count → get_or behind i 0 ≡ get_or w.edges i 0
-  trail_at i h = ap (λ (l : List ℕ). get_or l i 0) t.written ∙ get_or-append w.edges (drop count before) 0 i (omega (arith, t.counted))
+  pub walked_at : (i : ℕ) → i < count → get_or behind i 0 ≡ get_or w.half_edges i 0
+  walked_at i h = ap (λ (l : List ℕ). get_or l i 0) t.written ∙ get_or-append w.half_edges (drop count before) 0 i (omega (arith, t.counted))
 
-module _ (corners twins : List ℕ) (centre : ℕ → Point) (va vb : ℕ) (before behind : List ℕ) (count : ℕ) (kept : Bool) (t : Trailed (traced corners twins centre va vb) before behind count kept) where
-  pub trail_short : count ≤ length corners
-  trail_short = omega (arith, t.counted, traced_short corners twins centre va vb)
+module _ (corners twins : List ℕ) (centre : ℕ → Point) (va vb : ℕ) (before behind : List ℕ) (count : ℕ) (kept : Bool) (t : WalkWritten (traced corners twins centre va vb) before behind count kept) where
+  pub walked_short : count ≤ length corners
+  walked_short = omega (arith, t.counted, traced_short corners twins centre va vb)
 
-  pub trail_in : (n : ℕ) → Sound corners twins n → (i : ℕ) → i < count → get_or behind i 0 < length corners
-  trail_in n sound i h =
+  pub walked_in : (n : ℕ) → Sound corners twins n → (i : ℕ) → i < count → get_or behind i 0 < length corners
+  walked_in n sound i h =
       let w = traced corners twins centre va vb in
-      omega (arith, trail_at w before behind count kept t i h, all_at (λ e. e < length corners) w.edges i (omega (arith, t.counted)) (traced_in corners twins centre va vb n sound))
+      omega (arith, walked_at w before behind count kept t i h, all_at (λ e. e < length corners) w.half_edges i (omega (arith, t.counted)) (traced_in corners twins centre va vb n sound))

@@ -1,5 +1,5 @@
-//! The channel between two stations: the stretch outside both boxes, with a gap (docs/RULES.md,
-//! 'Channels').
+//! The channel between two stations: its part outside both boxes, with its least step
+//! (docs/RULES.md, 'Channels').
 ghost use Rattle.std.specs.Prelude.{◌≡◌, length};
 ghost use Rattle.plane.specs.Plane.{box_at};
 ghost use Rattle.channels.specs.Channel.{reach_on, reach, held, channel_of};
@@ -33,26 +33,26 @@ fn reach(sides: &[f64], dx: f64, dy: f64) -> f64
 
 // Ends that have passed one another both become their mean; then they are held to 0..1.
 #[tactic(auto, unfolding(crate::specs::Channel::held))]
-fn held(lo: f64, hi: f64, gap: f64) -> Channel
-    ensures { result ≡ held lo hi gap }
+fn held(lo: f64, hi: f64, least_step: f64) -> Channel
+    ensures { result ≡ held lo hi least_step }
 {
     if lo > hi {
         let mid = clamp((lo + hi) / 2.0, 0.0, 1.0);
         return Channel {
             lo: mid,
             hi: mid,
-            gap,
+            least_step,
         };
     }
     Channel {
         lo: clamp(lo, 0.0, 1.0),
         hi: clamp(hi, 0.0, 1.0),
-        gap,
+        least_step,
     }
 }
 
 /// The channel from a station's place to that of another: each with its box, as four sides, and its
-/// scale; `gap` is the clearance of the drawing.
+/// scale; `clearance` is the clearance of the drawing.
 #[tactic(auto, unfolding(crate::specs::Channel::channel_of))]
 pub fn channel(
     start: Point,
@@ -61,19 +61,19 @@ pub fn channel(
     end_box: &[f64],
     start_scale: f64,
     end_scale: f64,
-    gap: f64,
+    clearance: f64,
 ) -> Channel
     requires start_sides { length start_box.now ≡ 4 }
     requires end_sides { length end_box.now ≡ 4 }
     ensures { result ≡ channel_of start end (box_at start_box.now 0) (box_at end_box.now 0)
-        start_scale end_scale gap }
+        start_scale end_scale clearance }
 {
     let ax = end.x - start.x;
     let ay = end.y - start.y;
     let len = max(hypot(ax, ay), f64::MIN_POSITIVE);
     let dx = ax / len;
     let dy = ay / len;
-    let g = gap * min(start_scale, end_scale);
+    let g = clearance * min(start_scale, end_scale);
     held(
         (reach(start_box, dx, dy) + g) / len,
         1.0 - (reach(end_box, dx, dy) + g) / len,

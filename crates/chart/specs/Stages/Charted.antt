@@ -11,7 +11,7 @@ use Rattle.boxes.specs.Stages.Cells.{Indexed}
 use Rattle.runs.specs.Stages.Views.{held, lead, Fits}
 use Rattle.results.specs.Stages.Runs.{runs_in}
 use Rattle.results.specs.Stages.Bars.{bars_in}
-use Rattle.routing.specs.Gap.{gap_of}
+use Rattle.routing.specs.Clearance.{clearance_of}
 use Rattle.drawing.specs.Network.{Network, Work, Crossings}
 use Rattle.drawing.specs.Drawing.{measures_of, drawing}
 use Rattle.drawing.specs.Answer.{routed_by}
@@ -27,9 +27,9 @@ routed_late o N room =
 
 -- The course is the drawing's unit, or what refuses it; the lists hold the drawing, with its routes where nothing
 -- refuses it so far.
-pub record Charted (o : Options) (N : Network) (k room : ℕ) (course : Result Float Refusal)
+pub record Charted (o : Options) (N : Network) (k room : ℕ) (outcome : Result Float Refusal)
     (stations buses ends : List ℕ) (blocks places frames path ways : List Float) : Type 0 where
-  pub course_is : course ≡ unless (routed_late o N room) (drawing o N).unit
+  pub course_is : outcome ≡ unless (routed_late o N room) (drawing o N).unit
   pub counts : counts_in k stations ≡ (drawing o N).counts
   pub scales : scales_in k blocks ≡ (drawing o N).scales
   pub boxes : boxes_in k frames ≡ (drawing o N).boxes
@@ -37,7 +37,7 @@ pub record Charted (o : Options) (N : Network) (k room : ℕ) (course : Result F
   pub runs : routed_late o N room ≡ None
       → runs_in
       (held N.station (measures_of o (drawing o N).unit) buses ends blocks places frames
-      (lead (ltb 0 o.route_iterations) (gap_of (drawing o N).unit) k stations ways))
+      (lead (ltb 0 o.route_iterations) (clearance_of (drawing o N).unit) k stations ways))
       N.from
       N.to
       N.service
@@ -46,8 +46,8 @@ pub record Charted (o : Options) (N : Network) (k room : ℕ) (course : Result F
 
 -- The same of the work and crossing lists.
 abbrev pub ChartedIn : Options → Network → ℕ → ℕ → Result Float Refusal → Work → Crossings → Type 0
-ChartedIn o N k room course W X =
-    Charted o N k room course W.stations W.buses W.ends W.blocks W.places W.frames W.path X.ways
+ChartedIn o N k room outcome W X =
+    Charted o N k room outcome W.stations W.buses W.ends W.blocks W.places W.frames W.path X.ways
 
 -- The boxes of the occupied stations, of k, are entered by cell.
 abbrev pub IndexedIn : ℕ → Work → Type 0

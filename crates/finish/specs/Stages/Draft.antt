@@ -4,10 +4,10 @@ use Rattle.network.specs.declared.options.Options.{Options}
 use Rattle.network.specs.declared.refusals.Refusal.{Refusal}
 use Rattle.network.specs.declared.lists.Placed.{Placed}
 use Rattle.runs.specs.declared.laid.Laid.{Laid}
-use Rattle.runs.specs.declared.laid.Guide.{Guide}
-use Rattle.routing.specs.Gap.{gap_of}
+use Rattle.runs.specs.declared.laid.Obstacles.{Obstacles}
+use Rattle.routing.specs.Clearance.{clearance_of}
 use Rattle.drawing.specs.declared.answer.Plot.{Plot}
-use Rattle.drawing.specs.declared.room.Room.{Room}
+use Rattle.drawing.specs.declared.lengths.ListLengths.{ListLengths}
 use Rattle.drawing.specs.Network.{Network, Lists}
 use Rattle.drawing.specs.Drawing.{drawing}
 use Rattle.drawing.specs.Answer.{crossing_room, late, answer_for, lists_of, lists_after}
@@ -20,11 +20,11 @@ pub record Drew (o : Options) (N : Network) (l : Option Refusal) (L : Lists) (a 
   pub lists_are : L' ≡ lists_after l (lists_of (drawing o N)) L
 
 -- The same where the late refusal is that of the drawing, in lists of these lengths.
-abbrev pub DrewIn : Options → Network → Room → Lists → Result Plot Refusal → Lists → Type 0
+abbrev pub DrewIn : Options → Network → ListLengths → Lists → Result Plot Refusal → Lists → Type 0
 DrewIn o N R = Drew o N (late (drawing o N) R)
 
 -- The result lists have room for the buses, the branches and k stations, and the piece lists are as long as that.
-abbrev pub ResultRoom : Network → ℕ → Room → Lists → Type 0
+abbrev pub ResultRoom : Network → ℕ → ListLengths → Lists → Type 0
 ResultRoom N k R L =
     (2 * length N.station ≤ length L.positions)
     × (4 * length N.station ≤ length L.bars)
@@ -34,12 +34,12 @@ ResultRoom N k R L =
     × (R.pieces ≡ length L.pieces)
     × (R.branches ≡ length L.branches)
 
--- The gap that lines keep where they are led: where there are iterations.
-abbrev pub gap_led : Options → Float → Option Float
-gap_led o unit = cond (ltb 0 o.route_iterations) (Some (gap_of unit)) None
+-- The clearance that lines keep where they are led: where there are iterations.
+abbrev pub clearance_led : Options → Float → Option Float
+clearance_led o unit = cond (ltb 0 o.route_iterations) (Some (clearance_of unit)) None
 
 -- The lists hold a charted drawing that nothing refuses so far, with lists of these lengths.
-abbrev pub ChartedOver : Options → Network → Room → Laid → Placed → List Float → List Float → Type 0
+abbrev pub ChartedOver : Options → Network → ListLengths → Laid → Placed → List Float → List Float → Type 0
 ChartedOver o N R L P path ways =
     Charted
     o
@@ -56,5 +56,5 @@ ChartedOver o N R L P path ways =
     path
     ways
 
-abbrev pub ChartedBy : Options → Network → Room → Laid → Guide → List Float → Type 0
+abbrev pub ChartedBy : Options → Network → ListLengths → Laid → Obstacles → List Float → Type 0
 ChartedBy o N R L G path = ChartedOver o N R L G.index.placed path G.ways.now

@@ -1,4 +1,4 @@
--- What the mesh test promises: half-edges go round in threes, every place that a walk goes to is one of the mesh, every corner one of the occupied stations, and behind a twin stands a third corner. Assumes nothing.
+-- What the mesh test promises: half-edges go round in threes, every place that a walk goes to is one of the mesh, every vertex one of the occupied stations, and behind a twin stands a third vertex. Assumes nothing.
 use mathlib.Core.Path.{◌≡◌, refl, sym, ap, ◌∙◌}
 use mathlib.Core.Logic.{◌⊎◌, inl, inr, ⊎_elim}
 use mathlib.Core.Bool.{true, not, cond, ◌&&◌}
@@ -9,7 +9,7 @@ use native.Mathlib.Omega.{arith}
 use lib.Dec.{leb, ltb, eqb}
 use lib.ListN.{length}
 use borrow.Author.Tests.{ltb-true, leb-true, eqb-true, eqb-false, not-true, eq-eqb, ne_eqb}
-use Rattle.network.specs.Mesh.{next, end_at, no_twin, at, corner_ok, reversed, pairs, twin_ok, edge_ok, edges_ok, mesh_ok}
+use Rattle.network.specs.Mesh.{next, end_at, no_twin, at, corner_ok, reversed, pairs, twin_ok, half_edge_ok, half_edges_ok, mesh_ok}
 use Rattle.numbers.proofs.order.AllTo.{all_to_at}
 use Rattle.network.proofs.mesh.Tests.{both, other}
 
@@ -71,31 +71,31 @@ pub record Sound (corners twins : List ℕ) (n : ℕ) : Type 0 where
   pub twin : (h : ℕ) → h < length corners → (at twins h ≡ no_twin → ⊥) → Twin corners twins h (at twins h)
 
 pub mesh_sound : (corners twins : List ℕ) (n : ℕ) → mesh_ok corners twins n ≡ true → Sound corners twins n
-unfolding mesh_ok edges_ok corner_ok twin_ok pairs reversed
+unfolding mesh_ok half_edges_ok corner_ok twin_ok pairs reversed
 mesh_sound corners twins n t =
     record {
       same = eqb-true _ _ t1.0;
       triangles = eqb-true _ _ t2.0;
       most = leb-true _ _ t3.0;
-      below = λ h l. ltb-true _ _ (corner h l).0;
-      differ = λ h l. eqb-false _ _ (not-true _ (corner h l).1);
+      below = λ h l. ltb-true _ _ (vertex h l).0;
+      differ = λ h l. eqb-false _ _ (not-true _ (vertex h l).1);
       twin = twin;
     }
   where
-    t1 : (eqb (length twins) (length corners) ≡ true) × ((eqb (length corners % 3) 0 && (leb (length corners) 24576 && edges_ok corners twins n)) ≡ true)
+    t1 : (eqb (length twins) (length corners) ≡ true) × ((eqb (length corners % 3) 0 && (leb (length corners) 24576 && half_edges_ok corners twins n)) ≡ true)
     t1 = both _ _ t
 
-    t2 : (eqb (length corners % 3) 0 ≡ true) × ((leb (length corners) 24576 && edges_ok corners twins n) ≡ true)
+    t2 : (eqb (length corners % 3) 0 ≡ true) × ((leb (length corners) 24576 && half_edges_ok corners twins n) ≡ true)
     t2 = both _ _ t1.1
 
-    t3 : (leb (length corners) 24576 ≡ true) × (edges_ok corners twins n ≡ true)
+    t3 : (leb (length corners) 24576 ≡ true) × (half_edges_ok corners twins n ≡ true)
     t3 = both _ _ t2.1
 
     edge : (h : ℕ) → h < length corners → (corner_ok corners n h ≡ true) × (twin_ok corners twins h ≡ true)
-    edge h l = both _ _ (all_to_at (edge_ok corners twins n) (length corners) h l t3.1)
+    edge h l = both _ _ (all_to_at (half_edge_ok corners twins n) (length corners) h l t3.1)
 
-    corner : (h : ℕ) → h < length corners → (ltb (at corners h) n ≡ true) × (not (eqb (at corners h) (end_at corners h)) ≡ true)
-    corner h l = both _ _ (edge h l).0
+    vertex : (h : ℕ) → h < length corners → (ltb (at corners h) n ≡ true) × (not (eqb (at corners h) (end_at corners h)) ≡ true)
+    vertex h l = both _ _ (edge h l).0
 
     twin : (h : ℕ) → h < length corners → (at twins h ≡ no_twin → ⊥) → Twin corners twins h (at twins h)
     twin h l e =
@@ -109,7 +109,7 @@ module _ (corners twins : List ℕ) (n : ℕ) (sound : Sound corners twins n) wh
   pub next_in : (h : ℕ) → h < length corners → next h < length corners
   next_in h l = next_below (length corners) h sound.triangles l
 
-  -- Behind half-edge h, whose twin is g, the corner that is neither of h's ends stands at next (next g).
+  -- Behind half-edge h, whose twin is g, the vertex that is neither of h's ends stands at next (next g).
   pub third_start : (h : ℕ) → h < length corners → (at twins h ≡ no_twin → ⊥) → at corners (next (next (at twins h))) ≡ at corners h → ⊥
   unfolding end_at
   third_start h l e q = let w = sound.twin h l e in sound.differ (next (at twins h)) (next_in _ w.inside) (w.end ∙ sym q)

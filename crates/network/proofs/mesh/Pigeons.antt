@@ -65,7 +65,7 @@ pigeons f n k h = omega (arith, few (λ x. ltb x k) (table f n), covers k (table
         let w = h c e in
         count_at (λ x. eqb x c) (table f n) w.0 (omega (arith, w.1, length_table f n)) (eq-eqb _ c (get_d_table f n w.0 0 w.1 ∙ w.2))
 
--- Channels are as many as pairs of corners without direction: where each of k numbers is that of some half-edge's pair, k is at most the mesh length.
+-- Channels are as many as pairs of vertices without direction: where each of k numbers is that of some half-edge's pair, k is at most the mesh length.
 pub channels_few : (corners : List ℕ) (number : ℕ → ℕ → ℕ) (k : ℕ)
     → ((c : ℕ) → c < k → (h : ℕ) × (h < length corners) × (number (low_at corners h) (high_at corners h) ≡ c)) → k ≤ length corners
 channels_few corners number k h = pigeons (λ e. number (low_at corners e) (high_at corners e)) (length corners) k h

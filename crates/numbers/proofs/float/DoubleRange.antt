@@ -11,7 +11,7 @@ use lib.Ieee.Order.{drop, kept}
 use lib.Ieee.Scale.{round_same, grid}
 use Rattle.numbers.specs.Small.{abs_of, is_finite, max_of, min_of, clamp_of}
 use Rattle.numbers.specs.Hypot.{grains, nearest_root, hypot_of}
-use Rattle.numbers.specs.Rounding.{Value, gap, Nearest}
+use Rattle.numbers.specs.Rounding.{Value, distance_between, Nearest}
 use Rattle.numbers.specs.Double.{twice, Finite, Doublable, Stepped, Limit}
 use Rattle.numbers.proofs.float.Pack.{grains_of}
 use Rattle.numbers.proofs.float.Sums.{zero_round}
@@ -48,10 +48,10 @@ nearest_below s num den top x D l h N =
     let t = limit_value top l in
     go (dec_le N.v top) (N.nearest top t.0 t.1 t.2)
   where
-    clash : (n a b : ℕ) → n ≤ b → b < a → gap n a ≤ gap n b → ⊥
+    clash : (n a b : ℕ) → n ≤ b → b < a → distance_between n a ≤ distance_between n b → ⊥
     clash n a b h k g = omega arith
 
-    go : Dec (N.v ≤ top) → gap (num * 2 ^ 1074) (N.v * den) ≤ gap (num * 2 ^ 1074) (top * den) → N.v ≤ top
+    go : Dec (N.v ≤ top) → distance_between (num * 2 ^ 1074) (N.v * den) ≤ distance_between (num * 2 ^ 1074) (top * den) → N.v ≤ top
     go (yes k) g = k
     go (no f) g = absurd (clash (num * 2 ^ 1074) (N.v * den) (top * den) h (mul-lt-mul_of_pos_right (lt_of_not-le f) D) g)
 
@@ -59,10 +59,10 @@ nearest_below s num den top x D l h N =
 nearest_above : (s : Bool) (num den lo : ℕ) (x : Float) → 0 < den → lo ≤ 2045 → 2 ^ (52 + lo) * den ≤ num * 2 ^ 1074 → (N : Nearest s num den x) → 2 ^ (52 + lo) ≤ N.v
 nearest_above s num den lo x D r h N = go (dec_le (2 ^ (52 + lo)) N.v) (N.nearest (2 ^ (52 + lo)) (2 ^ 52) lo (record { is = pow-add 2 52 lo; digits = lit< tt; normal = λ _. lit≤ tt; range = r }))
   where
-    clash : (n a b : ℕ) → b ≤ n → a < b → gap n a ≤ gap n b → ⊥
+    clash : (n a b : ℕ) → b ≤ n → a < b → distance_between n a ≤ distance_between n b → ⊥
     clash n a b h k g = omega arith
 
-    go : Dec (2 ^ (52 + lo) ≤ N.v) → gap (num * 2 ^ 1074) (N.v * den) ≤ gap (num * 2 ^ 1074) (2 ^ (52 + lo) * den) → 2 ^ (52 + lo) ≤ N.v
+    go : Dec (2 ^ (52 + lo) ≤ N.v) → distance_between (num * 2 ^ 1074) (N.v * den) ≤ distance_between (num * 2 ^ 1074) (2 ^ (52 + lo) * den) → 2 ^ (52 + lo) ≤ N.v
     go (yes k) g = k
     go (no f) g = absurd (clash (num * 2 ^ 1074) (N.v * den) (2 ^ (52 + lo) * den) h (mul-lt-mul_of_pos_right (lt_of_not-le f) D) g)
 

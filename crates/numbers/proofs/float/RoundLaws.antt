@@ -14,7 +14,7 @@ use lib.Ieee.Order.{drop, kept, round_mono}
 use lib.Ieee.Bits.{of_bits-to_bits}
 use Rattle.numbers.specs.Small.{abs_of, is_finite}
 use Rattle.numbers.specs.Hypot.{grains, nearest_root, hypot_of}
-use Rattle.numbers.specs.Rounding.{Value, gap, Nearest, Rounded, RootNearest, RootRounded}
+use Rattle.numbers.specs.Rounding.{Value, distance_between, Nearest, Rounded, RootNearest, RootRounded}
 use Rattle.numbers.proofs.float.Pack.{carried, units_over, packed_value, grains_of, same_value}
 use Rattle.numbers.proofs.float.Keys.{parts}
 use Rattle.numbers.proofs.float.Whole.{finite_bits, abs_fits, abs_grains, grains_at, sides, both_finite}
@@ -62,22 +62,22 @@ apart q k w p j n h = go (dec_le k j)
 
 -- ---- n / d, in grains, lies r / d above a and u - r below the next multiple; b and the others are times d
 module _ (n a u r b : ℕ) (e : a + r ≡ n) (l : r < u) (o : (b ≤ a) ⊎ (a + u ≤ b)) where
-  low_best : r * 2 ≤ u → gap n a ≤ gap n b
+  low_best : r * 2 ≤ u → distance_between n a ≤ distance_between n b
   low_best h = elim o [ inl x ↦ omega arith | inr x ↦ omega arith ]
 
-  high_best : u ≤ r * 2 → gap n (a + u) ≤ gap n b
+  high_best : u ≤ r * 2 → distance_between n (a + u) ≤ distance_between n b
   high_best h = elim o [ inl x ↦ omega arith | inr x ↦ omega arith ]
 
-  low_only : r * 2 < u → gap n b ≡ gap n a → b ≡ a
+  low_only : r * 2 < u → distance_between n b ≡ distance_between n a → b ≡ a
   low_only h k = elim o [ inl x ↦ omega arith | inr x ↦ omega arith ]
 
-  high_only : u < r * 2 → gap n b ≡ gap n (a + u) → b ≡ a + u
+  high_only : u < r * 2 → distance_between n b ≡ distance_between n (a + u) → b ≡ a + u
   high_only h k = elim o [ inl x ↦ omega arith | inr x ↦ omega arith ]
 
 -- ---- the multiple c of 2 ^ k that `round` picks for n / d grains: no value lies nearer, and of two equally near ones c is even
 pub record Picked (n d c k : ℕ) : Type 0 where
-  pub best : (w p j : ℕ) → Unbounded w p j → gap n (c * 2 ^ k * d) ≤ gap n (w * d)
-  pub tie : (w p j : ℕ) → Unbounded w p j → (w ≡ c * 2 ^ k → ⊥) → gap n (w * d) ≡ gap n (c * 2 ^ k * d) → c % 2 ≡ 0
+  pub best : (w p j : ℕ) → Unbounded w p j → distance_between n (c * 2 ^ k * d) ≤ distance_between n (w * d)
+  pub tie : (w p j : ℕ) → Unbounded w p j → (w ≡ c * 2 ^ k → ⊥) → distance_between n (w * d) ≡ distance_between n (c * 2 ^ k * d) → c % 2 ≡ 0
 
 module _ (n d k q r : ℕ) (D : 0 < d) (N : 0 < k → 2 ^ 52 ≤ q) (E : q * (d * 2 ^ k) + r ≡ n) (L : r < d * 2 ^ k) where
   -- the distances are times d
@@ -104,9 +104,9 @@ module _ (n d k q r : ℕ) (D : 0 < d) (N : 0 < k → 2 ^ 52 ≤ q) (E : q * (d 
 
   pick_high : d * 2 ^ k < r * 2 → Picked n d (q + 1) k
   pick_high h = record {
-    best = λ w p j z. subst (λ (b : ℕ). gap n b ≤ gap n (w * d)) next_is (high_best n (q * 2 ^ k * d) (d * 2 ^ k) r (w * d) from_low L (around w p j z) (le_of_lt h));
+    best = λ w p j z. subst (λ (b : ℕ). distance_between n b ≤ distance_between n (w * d)) next_is (high_best n (q * 2 ^ k * d) (d * 2 ^ k) r (w * d) from_low L (around w p j z) (le_of_lt h));
     tie = λ w p j z f g.
-        absurd (f (eq_of_mul-eq-mul_right d D w ((q + 1) * 2 ^ k) (high_only n (q * 2 ^ k * d) (d * 2 ^ k) r (w * d) from_low L (around w p j z) h (g ∙ ap (gap n) (sym next_is)) ∙ next_is)));
+        absurd (f (eq_of_mul-eq-mul_right d D w ((q + 1) * 2 ^ k) (high_only n (q * 2 ^ k * d) (d * 2 ^ k) r (w * d) from_low L (around w p j z) h (g ∙ ap (distance_between n) (sym next_is)) ∙ next_is)));
   }
 
   pick_tie : r * 2 ≡ d * 2 ^ k → Picked n d (q + q % 2) k
@@ -125,11 +125,11 @@ module _ (n d k q r : ℕ) (D : 0 < d) (N : 0 < k → 2 ^ 52 ≤ q) (E : q * (d 
           at (yes l) = inl (omega arith)
           at (no f) = inr (omega arith)
 
-      go : (w : ℕ) → (w * d ≤ q * 2 ^ k * d) ⊎ (q * 2 ^ k * d + d * 2 ^ k ≤ w * d) → (q + q % 2 ≡ q) ⊎ (q + q % 2 ≡ q + 1) → gap n ((q + q % 2) * 2 ^ k * d) ≤ gap n (w * d)
-      go w o (inl e) = subst (λ (c : ℕ). gap n (c * 2 ^ k * d) ≤ gap n (w * d)) (sym e) (low_best n (q * 2 ^ k * d) (d * 2 ^ k) r (w * d) from_low L o (le_of_eq h))
+      go : (w : ℕ) → (w * d ≤ q * 2 ^ k * d) ⊎ (q * 2 ^ k * d + d * 2 ^ k ≤ w * d) → (q + q % 2 ≡ q) ⊎ (q + q % 2 ≡ q + 1) → distance_between n ((q + q % 2) * 2 ^ k * d) ≤ distance_between n (w * d)
+      go w o (inl e) = subst (λ (c : ℕ). distance_between n (c * 2 ^ k * d) ≤ distance_between n (w * d)) (sym e) (low_best n (q * 2 ^ k * d) (d * 2 ^ k) r (w * d) from_low L o (le_of_eq h))
       go w o (inr e) =
-          subst (λ (c : ℕ). gap n (c * 2 ^ k * d) ≤ gap n (w * d)) (sym e)
-          (subst (λ (b : ℕ). gap n b ≤ gap n (w * d)) next_is (high_best n (q * 2 ^ k * d) (d * 2 ^ k) r (w * d) from_low L o (le_of_eq (sym h))))
+          subst (λ (c : ℕ). distance_between n (c * 2 ^ k * d) ≤ distance_between n (w * d)) (sym e)
+          (subst (λ (b : ℕ). distance_between n b ≤ distance_between n (w * d)) next_is (high_best n (q * 2 ^ k * d) (d * 2 ^ k) r (w * d) from_low L o (le_of_eq (sym h))))
 
   picked_at : Picked n d (nearest q (compare (r * 2) (d * 2 ^ k))) k
   picked_at = go (dec_le (d * 2 ^ k) (r * 2))
@@ -215,7 +215,7 @@ held c k h n l = go (eq-or-lt_of_le h)
 under : (n d c k m b z : ℕ) → 0 < d → Picked n d c k → Unbounded m (2 ^ 53 - 1) 2045 → m < z → m + z ≡ 2 * b → n < b * d → c * 2 ^ k < z
 under n d c k m b z D P M l e h = lt_of_not-le (λ (g : z ≤ c * 2 ^ k). clash (c * 2 ^ k * d) (m * d) (z * d) (b * d) (mul-le-mul_right d g) (mul-lt-mul_of_pos_right l D) twice (P.best m (2 ^ 53 - 1) 2045 M) h)
   where
-    clash : (x y z e : ℕ) → z ≤ x → y < z → y + z ≡ 2 * e → gap n x ≤ gap n y → n < e → ⊥
+    clash : (x y z e : ℕ) → z ≤ x → y < z → y + z ≡ 2 * e → distance_between n x ≤ distance_between n y → n < e → ⊥
     clash x y z e a b c g h = omega arith
 
     twice : m * d + z * d ≡ 2 * (b * d)
@@ -338,7 +338,7 @@ module _ (s : Bool) (num den : ℕ) (D : 0 < den) (x y : Float) where
   not_above : (a : Nearest s num den x) (b : Nearest s num den y) → a.v < b.v → ⊥
   not_above a b l =
       let n = num * 2 ^ 1074 in
-      let e : gap n (b.v * den) ≡ gap n (a.v * den) = le_antisymm (b.nearest a.v a.q a.k a.value) (a.nearest b.v b.q b.k b.value) in
+      let e : distance_between n (b.v * den) ≡ distance_between n (a.v * den) = le_antisymm (b.nearest a.v a.q a.k a.value) (a.nearest b.v b.q b.k b.value) in
       let p : a.q % 2 ≡ 0 = a.even b.v b.q b.k b.value (λ h. lt_irrefl b.v (lt_of_le_of_lt (le_of_eq h) l)) e in
       let r : b.q % 2 ≡ 0 = b.even a.v a.q a.k a.value (λ h. lt_irrefl b.v (lt_of_le_of_lt (le_of_eq (sym h)) l)) (sym e) in
       let u = (a.q + 1) * 2 ^ a.k in
@@ -370,7 +370,7 @@ module _ (s : Bool) (num den : ℕ) (D : 0 < den) (x y : Float) where
         | inr h ↦ h
       ]
 
-      clash : (n x y z : ℕ) → x < y → y < z → gap n z ≡ gap n x → gap n x ≤ gap n y → ⊥
+      clash : (n x y z : ℕ) → x < y → y < z → distance_between n z ≡ distance_between n x → distance_between n x ≤ distance_between n y → ⊥
       clash n x y z a b e h = omega arith
 
 pub round_only : (s : Bool) (num den : ℕ) → 0 < den → (x : Float) → T (fits binary64 x) → Rounded s num den x → x ≡ round binary64 s num den
@@ -394,22 +394,22 @@ module _ (z v u w : ℕ) (W : 0 < w) where
   total : v * (4 * w) + u * (4 * w) ≡ 2 * (2 * (v + u) * w)
   total = omega arith
 
-  under_root : gap (z * w) (v * (4 * w)) ≤ gap (z * w) (u * (4 * w)) → u < v → 2 * (v + u) ≤ z
+  under_root : distance_between (z * w) (v * (4 * w)) ≤ distance_between (z * w) (u * (4 * w)) → u < v → 2 * (v + u) ≤ z
   under_root g l = le_of_mul-le-mul_right (at (z * w) (v * (4 * w)) (u * (4 * w)) (2 * (v + u) * w) g (mul-lt-mul_of_pos_right l (mul-pos (lit< {m = 0} {n = 4} tt) W)) total) W
     where
-      at : (n x y s : ℕ) → gap n x ≤ gap n y → y < x → x + y ≡ 2 * s → s ≤ n
+      at : (n x y s : ℕ) → distance_between n x ≤ distance_between n y → y < x → x + y ≡ 2 * s → s ≤ n
       at n x y s g l e = omega arith
 
-  over_root : gap (z * w) (v * (4 * w)) ≤ gap (z * w) (u * (4 * w)) → v < u → z ≤ 2 * (v + u)
+  over_root : distance_between (z * w) (v * (4 * w)) ≤ distance_between (z * w) (u * (4 * w)) → v < u → z ≤ 2 * (v + u)
   over_root g l = le_of_mul-le-mul_right (at (z * w) (v * (4 * w)) (u * (4 * w)) (2 * (v + u) * w) g (mul-lt-mul_of_pos_right l (mul-pos (lit< {m = 0} {n = 4} tt) W)) total) W
     where
-      at : (n x y s : ℕ) → gap n x ≤ gap n y → x < y → x + y ≡ 2 * s → n ≤ s
+      at : (n x y s : ℕ) → distance_between n x ≤ distance_between n y → x < y → x + y ≡ 2 * s → n ≤ s
       at n x y s g l e = omega arith
 
-  level : z ≡ 2 * (v + u) → gap (z * w) (u * (4 * w)) ≡ gap (z * w) (v * (4 * w))
+  level : z ≡ 2 * (v + u) → distance_between (z * w) (u * (4 * w)) ≡ distance_between (z * w) (v * (4 * w))
   level e = at (z * w) (v * (4 * w)) (u * (4 * w)) (2 * (v + u) * w) (ap (λ (a : ℕ). a * w) e) total
     where
-      at : (n x y s : ℕ) → n ≡ s → x + y ≡ 2 * s → gap n y ≡ gap n x
+      at : (n x y s : ℕ) → n ≡ s → x + y ≡ 2 * s → distance_between n y ≡ distance_between n x
       at n x y s g e = omega arith
 
 square_le : (n h : ℕ) → 2 * h ≤ quarters n → h * h ≤ 4 * n

@@ -275,8 +275,8 @@ zero_eq true = refl
 zero_eq false = refl
 
 -- the difference of the two, where it is not zero, is at least one
-gap : (g n p w c i j : ℕ) → 0 < g → 0 < w → n + g ≡ p → p * w ≡ i * c → n * w ≡ j * c → c ≤ g * w
-gap g n p w c i j G W e P N =
+distance_between : (g n p w c i j : ℕ) → 0 < g → 0 < w → n + g ≡ p → p * w ≡ i * c → n * w ≡ j * c → c ≤ g * w
+distance_between g n p w c i j G W e P N =
     let a : (n + g) * w ≡ i * c = ap (λ (x : ℕ). x * w) e ∙ P in
     let b : 0 < g * w = mul-pos G W in
     let l : j < i = lt_of_mul-lt-mul_right c (omega arith) in
@@ -293,12 +293,12 @@ rounds_zero v p n c i j (inl (g, e, r)) C P N = ap (λ (x : Float). eq x (fin fa
   where
     go : (g : ℕ) → n + g ≡ p → eq (round binary64 false g c) (fin false 0 (pos 0)) ≡ eqb p n
     go zero e = ap (λ (x : Float). eq x (fin false 0 (pos 0))) (zero_round false c C) ∙ zero_eq false ∙ sym (eq-eqb p n (sym e ∙ add-zero n))
-    go (suc g) e = some_round (suc g) c C (gap (suc g) n p (2 ^ 1074) c i j (zero-lt-suc g) (pow_pos 1074) e P N) ∙ sym (ne_eqb p n (differ g n p e))
+    go (suc g) e = some_round (suc g) c C (distance_between (suc g) n p (2 ^ 1074) c i j (zero-lt-suc g) (pow_pos 1074) e P N) ∙ sym (ne_eqb p n (differ g n p e))
 rounds_zero v p n c i j (inr (g, e, r)) C P N = ap (λ (x : Float). eq x (fin false 0 (pos 0))) (r ∙ sym (round_neg g c)) ∙ neg_zero (round binary64 false g c) ∙ go g e
   where
     go : (g : ℕ) → p + g ≡ n → eq (round binary64 false g c) (fin false 0 (pos 0)) ≡ eqb p n
     go zero e = ap (λ (x : Float). eq x (fin false 0 (pos 0))) (zero_round false c C) ∙ zero_eq false ∙ sym (eq-eqb p n (sym (add-zero p) ∙ e))
-    go (suc g) e = some_round (suc g) c C (gap (suc g) p n (2 ^ 1074) c j i (zero-lt-suc g) (pow_pos 1074) e N P) ∙ sym (ne_eqb p n (λ z. differ g p n e (sym z)))
+    go (suc g) e = some_round (suc g) c C (distance_between (suc g) p n (2 ^ 1074) c j i (zero-lt-suc g) (pow_pos 1074) e N P) ∙ sym (ne_eqb p n (λ z. differ g p n e (sym z)))
 
 -- ---- grains: a finite value that fits is a whole number of them
 whole_grains : (e : ℤ) → T (leb (down e) (2 ^ 1074)) → (w : ℕ) × (2 ^ 1074 ≡ w * down e)
@@ -444,7 +444,7 @@ rounds_sign v p n c i j (inr (g, e, r)) C P N = ap (λ (x : Float). lt x (fin fa
         at : (p n : ℕ) → p + 0 ≡ n → n ≤ p
         at p n e = omega arith
     go (suc g) e =
-        minus_below (round binary64 false (suc g) c) (plus_round (suc g) c) (some_round (suc g) c C (gap (suc g) p n (2 ^ 1074) c j i (zero-lt-suc g) (pow_pos 1074) e N P))
+        minus_below (round binary64 false (suc g) c) (plus_round (suc g) c) (some_round (suc g) c C (distance_between (suc g) p n (2 ^ 1074) c j i (zero-lt-suc g) (pow_pos 1074) e N P))
         ∙ sym (lt-ltb p n (at g p n e))
       where
         at : (g p n : ℕ) → p + suc g ≡ n → p < n

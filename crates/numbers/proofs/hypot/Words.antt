@@ -35,15 +35,15 @@ module _ (hi lo s : ℕ) (H : hi < 2 ^ 54) (L : lo < 2 ^ 54) (S : s ≤ 54) wher
   pub top_back : hi / 2 ^ s * 2 ^ s % 2 ^ 64 ≡ hi / 2 ^ s * 2 ^ s
   top_back = mod-eq_of_lt (lt_of_le_of_lt (div-mul-le_self hi (2 ^ s)) (lt_of_lt_of_le H (lit≤ tt)))
 
-  gap : (a b p q m : ℕ) → a < p → p * q ≡ m → b < q → a * q + b < m
-  gap a b p q m h e k = lt_of_lt_of_le (near a b q k) (le_trans (mul-le-mul_right q h) (le_of_eq e))
+  distance_between : (a b p q m : ℕ) → a < p → p * q ≡ m → b < q → a * q + b < m
+  distance_between a b p q m h e k = lt_of_lt_of_le (near a b q k) (le_trans (mul-le-mul_right q h) (le_of_eq e))
     where
       near : (a b q : ℕ) → b < q → a * q + b < suc a * q
       near a b q k = omega arith
 
   under : hi % 2 ^ s * 2 ^ (54 - s) + lo / 2 ^ s < 2 ^ 54
   under =
-      gap (hi % 2 ^ s) (lo / 2 ^ s) (2 ^ s) (2 ^ (54 - s)) (2 ^ 54) (mod-lt hi (pow_pos s)) whole
+      distance_between (hi % 2 ^ s) (lo / 2 ^ s) (2 ^ s) (2 ^ (54 - s)) (2 ^ 54) (mod-lt hi (pow_pos s)) whole
       ((div-lt_iff_lt-mul {k = 2 ^ s} {x = lo} {y = 2 ^ (54 - s)} (pow_pos s)).1 (subst (λ (m : ℕ). lo < m) (sym whole ∙ mul_comm (2 ^ s) (2 ^ (54 - s))) L))
 
   pub low_is : (hi - hi / 2 ^ s * 2 ^ s % 2 ^ 64) * 2 ^ (54 - s) % 2 ^ 64 ≡ hi % 2 ^ s * 2 ^ (54 - s)

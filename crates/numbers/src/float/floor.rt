@@ -4,8 +4,8 @@ ghost use Rattle.std.specs.Float.Ieee as Ieee;
 ghost use Rattle.std.specs.Float.{fin};
 ghost use Rattle.numbers.specs.Floor.{size_down, size_up, floor_of, floor_int};
 
-/// The whole part of a number above 0 and below 2^52.
-pub fn size_down(value: f64) -> u64
+// The whole part of a number above 0 and below 2^52.
+pub(crate) fn size_down(value: f64) -> u64
     requires above_zero { T (Ieee.lt (fin false 0 (pos 0)) value) }
     requires below_2_52 { T (Ieee.lt value (fin false 1 (pos 52))) }
     ensures whole_part { result ≡ size_down value }

@@ -1,4 +1,4 @@
--- The stretches of the columns of offsets: all places of one column have the same left and right edges, so the same stretch. Assumes nothing.
+-- The tested parts of the columns of offsets: all places of one column have the same left and right edges, so the same tested part. Assumes nothing.
 use mathlib.Core.Path.{◌≡◌, refl, sym, ap, subst, ◌∙◌}
 use mathlib.Core.Bool.{Bool, true, false, ◌&&◌}
 use mathlib.Core.List.{List}
@@ -12,12 +12,12 @@ use lib.Ieee.{Float}
 use borrow.Author.Tests.{leb-true, eqb-true, eqb-false}
 use Rattle.plane.specs.declared.geometry.Point.{Point}
 use Rattle.plane.specs.declared.geometry.Box.{Box}
-use Rattle.plane.specs.declared.box_order.Stretch.{Stretch}
+use Rattle.plane.specs.declared.box_order.TestedPart.{TestedPart}
 use Rattle.plane.specs.Stages.Cells.{shifted, cell_key, from}
 use Rattle.plane.specs.Stages.Kept.{Bounds}
 use Rattle.offsets.specs.declared.offset.Offset.{Offset}
 use Rattle.offset_table.specs.Table.{inside}
-use Rattle.placement.specs.Search.{Frame, place, buffered}
+use Rattle.placement.specs.Search.{HalfSides, place, buffered}
 use Rattle.placement.specs.Stages.Among.{column_of}
 
 -- an offset within the search has its first number within it
@@ -53,12 +53,12 @@ column_code z z' x h e f = go (f ∙ ap shifted e) (least z h) (column_small z h
     go : x ≡ shifted z → 4503599627370476 ≤ shifted z → shifted z - 4503599627370476 < 41 → (4503599627370476 ≤ x) × (x - 4503599627370476 ≡ shifted z - 4503599627370476) × (x - 4503599627370476 < 41)
     go g k l = (omega arith, omega arith, omega arith)
 
-module _ (unit : Float) (seed : Point) (r : Frame) (widening : Float) (most : ℕ) (keys : List ℕ) where
+module _ (unit : Float) (seed : Point) (r : HalfSides) (widening : Float) (most : ℕ) (keys : List ℕ) where
   -- the box with its buffer at the place of a column's middle offset
   abbrev box_in : ℤ → Box
   box_in z = buffered (place seed r.half widening (record { a = z; b = pos 0 })) r
 
-  -- where a column's end isn't 0, its two numbers are the stretch of its places
+  -- where a column's end isn't 0, its two numbers are the tested part of its places
   abbrev pub Columns : List ℕ → List ℕ → Type 0
   Columns firsts ends = (z : ℤ) → nat_abs z ≤ 20 → 0 < get_or ends (column_of z) 0
       → Bounds unit (box_in z).left (box_in z).right most keys (record { first = get_or firsts (column_of z) 0; end = get_or ends (column_of z) 0 })
@@ -84,7 +84,7 @@ module _ (unit : Float) (seed : Point) (r : Frame) (widening : Float) (most : �
         (subst (λ (j : ℕ). Bounds unit (box_in o.a).left (box_in o.a).right most keys (record { first = get_or firsts j 0; end = get_or ends j 0 })) (sym I)
         (C o.a w (subst (λ (j : ℕ). 0 < get_or ends j 0) I k))))
 
-    pub column_more : (t : Stretch) → Bounds unit p.left p.right most keys t → i < length firsts → i < length ends → Columns (set firsts i t.first) (set ends i t.end)
+    pub column_more : (t : TestedPart) → Bounds unit p.left p.right most keys t → i < length firsts → i < length ends → Columns (set firsts i t.first) (set ends i t.end)
     column_more t B f e z h k = go (eqb (column_of z) i) refl
       where
         same : column_of z ≡ i → Bounds unit (box_in z).left (box_in z).right most keys (record { first = get_or (set firsts i t.first) (column_of z) 0; end = get_or (set ends i t.end) (column_of z) 0 })

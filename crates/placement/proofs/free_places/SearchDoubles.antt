@@ -22,8 +22,8 @@ use Rattle.stations.specs.Size.{Size}
 use Rattle.stations.specs.Doubles.{DoublesPoint, DoublesSize, Paired}
 use Rattle.offsets.specs.declared.offset.Offset.{Offset}
 use Rattle.std.specs.Prelude.{Option, Some, None, unwrap_or}
-use Rattle.placement.specs.Search.{Frame, box_on, buffered, free, place, first_free, place_for}
-use Rattle.placement.specs.Doubles.{DoublesBox, DoublesFrame, DoublesFound, Small, Reach}
+use Rattle.placement.specs.Search.{HalfSides, box_on, buffered, free, place, first_free, place_for}
+use Rattle.placement.specs.Doubles.{DoublesBox, DoublesHalfSides, DoublesFound, Small, SearchLimits}
 
 -- ---- 1, 2 and 4
 one : Stepped 1074 (2 ^ 1074) f1
@@ -49,10 +49,10 @@ pub box_doubles : {lo t u : ℕ} (c c' : Point) (z z' : Size) → DoublesPoint l
 unfolding box_on
 box_doubles c c' z z' p q l = record { left = sub_doubles p.x q.w l; top_side = sub_doubles p.y q.h l; right = add_doubles p.x q.w l; bottom = add_doubles p.y q.h l }
 
-pub buffered_doubles : {lo t u : ℕ} (c c' : Point) (r r' : Frame) → DoublesPoint lo t c c' → DoublesFrame lo u r r' → Limit (8 * u) → Limit (t + u) → Limit (t + u + 8 * u) → DoublesBox lo (t + u + 8 * u) (buffered c r) (buffered c' r')
+pub buffered_doubles : {lo t u : ℕ} (c c' : Point) (r r' : HalfSides) → DoublesPoint lo t c c' → DoublesHalfSides lo u r r' → Limit (8 * u) → Limit (t + u) → Limit (t + u + 8 * u) → DoublesBox lo (t + u + 8 * u) (buffered c r) (buffered c' r')
 unfolding buffered
 buffered_doubles {lo} {t} {u} c c' r r' p q i l m =
-    let fine : Doubles (lo + 53) (8 * u) (r.f ⊗ r.buffer) (r'.f ⊗ r.buffer) = mul_doubles (lo + 53) (8 * u) q.f q.gap (digits lo) (enough lo) (le_of_eq (flat u (2 ^ 1074))) i in
+    let fine : Doubles (lo + 53) (8 * u) (r.f ⊗ r.buffer) (r'.f ⊗ r.buffer) = mul_doubles (lo + 53) (8 * u) q.f q.kept_free (digits lo) (enough lo) (le_of_eq (flat u (2 ^ 1074))) i in
     let g : Doubles lo (8 * u) (r.f ⊗ r.buffer) (r'.f ⊗ r'.buffer) = subst (λ (b : Float). Doubles lo (8 * u) (r.f ⊗ r.buffer) (r'.f ⊗ b)) (sym q.same) (widen_doubles lo (8 * u) (more lo 53) (le_refl (8 * u)) fine) in
     record {
       left = sub_doubles (sub_doubles p.x q.half.w l) g m;
@@ -88,7 +88,7 @@ free_of_doubles j u p p' (q ∷ qs) (q' ∷ qs') f h =
     ap (λ (b : Bool). not b && free p' qs') (overlap_of_doubles p p' q q' f h.0) ∙ ap (λ (b : Bool). not (overlap p q) && b) (free_of_doubles j u p p' qs qs' f h.1)
 
 -- ---- the place of an offset
-offset_doubles : {lo t u : ℕ} {x x' y y' widening : Float} (a : ℤ) → nat_abs a ≤ 20 → Doubles lo t x x' → Doubles lo u y y' → Stepped 1074 (4 * 2 ^ 1074) widening → Reach lo t u
+offset_doubles : {lo t u : ℕ} {x x' y y' widening : Float} (a : ℤ) → nat_abs a ≤ 20 → Doubles lo t x x' → Doubles lo u y y' → Stepped 1074 (4 * 2 ^ 1074) widening → SearchLimits lo t u
     → Doubles lo (t + 80 * u) (x ⊕ int a ⊗ y ⊗ widening) (x' ⊕ int a ⊗ y' ⊗ widening)
 offset_doubles {lo} {t} {u} {x} {x'} {y} {y'} a h f g w r =
     let p : Doubles lo (20 * u) (int a ⊗ y) (int a ⊗ y') = mul_doubles_2 lo (20 * u) (int_stepped a 20 h (lit≤ tt)) g refl r.fine (le_of_eq (flat u (2 ^ 1074))) r.offset in
@@ -102,7 +102,7 @@ offset_doubles {lo} {t} {u} {x} {x'} {y} {y'} a h f g w r =
     flat-2 u w = omega arith
 
 pub place_doubles : {lo t u : ℕ} (seed seed' : Point) (z z' : Size) (widening : Float) (o : Offset) → nat_abs o.a ≤ 20 → nat_abs o.b ≤ 20 → DoublesPoint lo t seed seed' → DoublesSize lo u z z'
-    → Stepped 1074 (4 * 2 ^ 1074) widening → Reach lo t u → DoublesPoint lo (t + 80 * u) (place seed z widening o) (place seed' z' widening o)
+    → Stepped 1074 (4 * 2 ^ 1074) widening → SearchLimits lo t u → DoublesPoint lo (t + 80 * u) (place seed z widening o) (place seed' z' widening o)
 unfolding place
 place_doubles seed seed' z z' widening o a b p q w r =
     let m = max_doubles q.w q.h in
@@ -119,7 +119,7 @@ next_doubles lo top (Some c) None d d' h k = absurd h
 next_doubles lo top None (Some c') d d' h k = absurd h
 next_doubles lo top None None d d' h k = k
 
-module _ {lo t u : ℕ} (j v : ℕ) (seed seed' : Point) (r r' : Frame) (earlier earlier' : List Box) (p : DoublesPoint lo t seed seed') (q : DoublesFrame lo u r r') (e : Paired (DoublesBox j v) earlier earlier') (R : Reach lo t u) where
+module _ {lo t u : ℕ} (j v : ℕ) (seed seed' : Point) (r r' : HalfSides) (earlier earlier' : List Box) (p : DoublesPoint lo t seed seed') (q : DoublesHalfSides lo u r r') (e : Paired (DoublesBox j v) earlier earlier') (R : SearchLimits lo t u) where
   pub found_doubles : (widening : Float) → Stepped 1074 (4 * 2 ^ 1074) widening → (os : List Offset) → Small os → DoublesFound lo (t + 80 * u) (first_free seed r earlier widening os) (first_free seed' r' earlier' widening os)
   unfolding first_free
   found_doubles widening w [] h = tt
@@ -130,7 +130,7 @@ module _ {lo t u : ℕ} (j v : ℕ) (seed seed' : Point) (r r' : Frame) (earlier
       let l' = first_free seed' r' earlier' widening os in
       let k : DoublesPoint lo (t + 80 * u) c c' = place_doubles seed seed' r.half r'.half widening o h.0 h.1 p q.half w R in
       subst (λ (b : Bool). DoublesFound lo (t + 80 * u) (pick (free (buffered c r) earlier) (Some c) l) (pick b (Some c') l'))
-      (sym (free_of_doubles j v (buffered c r) (buffered c' r') earlier earlier' (buffered_doubles c c' r r' k q R.gap R.box R.buffer) e))
+      (sym (free_of_doubles j v (buffered c r) (buffered c' r') earlier earlier' (buffered_doubles c c' r r' k q R.kept_free R.box R.buffer) e))
       (pick_found lo (t + 80 * u) (free (buffered c r) earlier) (Some c) (Some c') l l' k (found_doubles widening w os h.2))
 
   pub search_doubles : (os : List Offset) → Small os → DoublesPoint lo (t + 80 * u) (place_for seed r earlier os) (place_for seed' r' earlier' os)

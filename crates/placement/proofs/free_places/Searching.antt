@@ -18,15 +18,16 @@ use Rattle.plane.specs.declared.geometry.Point.{Point}
 use Rattle.plane.specs.declared.geometry.Box.{Box}
 use Rattle.plane.specs.Plane.{box_at}
 use Rattle.plane.specs.Overlap.{overlap}
-use Rattle.plane.specs.declared.box_order.Stretch.{Stretch}
+use Rattle.plane.specs.declared.box_order.TestedPart.{TestedPart}
 use Rattle.plane.specs.Stages.Cells.{cell_key, from}
 use Rattle.plane.specs.Stages.Kept.{Bounds}
-use Rattle.plane.proofs.cells.CellOrder.{stretch_count}
+use Rattle.plane.proofs.cells.CellOrder.{tested_part_count}
 use Rattle.plane.proofs.cells.CellHalving.{count_length}
-use Rattle.plane.proofs.box_order.Keeping.{same_length, stretch_part}
+use Rattle.plane.proofs.box_order.Keeping.{same_length, tested_part_is}
 use Rattle.offsets.specs.declared.offset.Offset.{Offset}
 use Rattle.std.specs.Prelude.{Option, Some, None, unwrap_or}
-use Rattle.placement.specs.Search.{Frame, free, place, buffered, first_free, place_for}
+use Rattle.std.specs.Option.{option_or}
+use Rattle.placement.specs.Search.{HalfSides, free, place, buffered, first_free, place_for, found_place}
 use Rattle.offset_table.specs.Table.{inside, skipped, pair_at}
 use Rattle.placement.specs.Stages.Among.{kept_boxes, boxes_among, Holds}
 
@@ -41,7 +42,7 @@ free_count box p (x ∷ xs) = go (overlap p (box x)) (free_count box p xs)
     go true ih = sym (eqb-suc-zero (count (λ s. overlap p (box s)) xs))
     go false ih = ih
 
--- ---- whether p overlaps none of the boxes of a stretch, by those from the j-th on
+-- ---- whether p overlaps none of the boxes of a tested part, by those from the j-th on
 abbrev pub Free : Box → List Float → List ℕ → ℕ → ℕ → ℕ → Type 0
 Free p fs sorted first end j = free p (boxes_among fs j end sorted) ≡ free p (boxes_among fs first end sorted)
 
@@ -76,31 +77,31 @@ module _ (p : Box) (fs : List Float) (sorted : List ℕ) (first end : ℕ) (l : 
       let e : end - j ≡ 0 = omega arith in
       sym (ap (λ (m : ℕ). free p (map (box_at fs) (take m (drop j sorted)))) e) ∙ i
 
--- ---- the boxes of the stretch that can overlap answer for all that are kept
+-- ---- the boxes of the tested part that can overlap answer for all that are kept
 all_front : (P : ℕ → Type 0) (a : ℕ) (l : List ℕ) → All P l → All P (take a l)
 all_front P zero l A = tt
 all_front P (suc a) [] A = tt
 all_front P (suc a) (x ∷ l) A = (A.0, all_front P a l A.1)
 
-module _ (unit : Float) (p : Box) (fs : List Float) (most : ℕ) (keys sorted : List ℕ) (H : Holds unit fs most keys sorted) (t : Stretch)
+module _ (unit : Float) (p : Box) (fs : List Float) (most : ℕ) (keys sorted : List ℕ) (H : Holds unit fs most keys sorted) (t : TestedPart)
     (B : Bounds unit p.left p.right most keys t) where
   end_most : t.end ≤ length sorted
   unfolding from
   end_most = omega (arith, B.ends, count_length (λ x. ltb x (cell_key unit p.right + 1)) keys, same_length unit fs keys sorted H.kept.ordered)
 
-  pub stretch_inside : (t.end ≤ length sorted) × All (λ s. 4 * s + 3 < length fs) (take t.end sorted)
-  stretch_inside = (end_most, all_front (λ s. 4 * s + 3 < length fs) t.end sorted H.inside)
+  pub part_inside : (t.end ≤ length sorted) × All (λ s. 4 * s + 3 < length fs) (take t.end sorted)
+  part_inside = (end_most, all_front (λ s. 4 * s + 3 < length fs) t.end sorted H.inside)
 
-  pub stretch_free : free p (boxes_among fs t.first t.end sorted) ≡ free p (kept_boxes fs sorted)
-  stretch_free =
+  pub part_free : free p (boxes_among fs t.first t.end sorted) ≡ free p (kept_boxes fs sorted)
+  part_free =
       free_count (box_at fs) p (take (t.end - t.first) (drop t.first sorted))
       ∙ ap (λ (c : ℕ). eqb c 0)
-      (ap (count (λ s. overlap p (box_at fs s))) (sym (stretch_part unit fs keys sorted H.kept.ordered most p t.first t.end B.begins B.ends))
-      ∙ sym (stretch_count unit (box_at fs) sorted most p H.kept.ordered.order H.kept.wide))
+      (ap (count (λ s. overlap p (box_at fs s))) (sym (tested_part_is unit fs keys sorted H.kept.ordered most p t.first t.end B.begins B.ends))
+      ∙ sym (tested_part_count unit (box_at fs) sorted most p H.kept.ordered.order H.kept.wide))
       ∙ sym (free_count (box_at fs) p sorted)
 
 -- ---- lists of boxes that are free of the same boxes
-module _ (seed : Point) (r : Frame) (e e' : List Box) (f : (q : Box) → free q e ≡ free q e') where
+module _ (seed : Point) (r : HalfSides) (e e' : List Box) (f : (q : Box) → free q e ≡ free q e') where
   first_same : (widening : Float) (os : List Offset) → first_free seed r e widening os ≡ first_free seed r e' widening os
   unfolding first_free
   first_same widening [] = refl
@@ -116,13 +117,20 @@ module _ (seed : Point) (r : Frame) (e e' : List Box) (f : (q : Box) → free q 
       ∙ ap (λ (x : Option Point). unwrap_or (first_free seed r e' f1 os) (unwrap_or x (unwrap_or (first_free seed r e f4 os) seed))) (first_same f2 os)
       ∙ ap (λ (x : Option Point). unwrap_or (first_free seed r e' f1 os) (unwrap_or (first_free seed r e' f2 os) (unwrap_or x seed))) (first_same f4 os)
 
+  pub found_same : (os : List Offset) → found_place seed r e os ≡ found_place seed r e' os
+  unfolding found_place
+  found_same os =
+      ap (λ (x : Option Point). option_or x (option_or (first_free seed r e f2 os) (first_free seed r e f4 os))) (first_same f1 os)
+      ∙ ap (λ (x : Option Point). option_or (first_free seed r e' f1 os) (option_or x (first_free seed r e f4 os))) (first_same f2 os)
+      ∙ ap (λ (x : Option Point). option_or (first_free seed r e' f1 os) (option_or (first_free seed r e' f2 os) x)) (first_same f4 os)
+
 -- ---- the pairs from the j-th on
 drop_more : (pairs : List Offset) (j : ℕ) → j < length pairs → drop j pairs ≡ pair_at pairs j ∷ drop (j + 1) pairs
 unfolding pair_at
 drop_more pairs j h = rw (add-one, drop-cons pairs j (record { a = pos 0; b = pos 0 }))
 
 -- ---- the first free place among the pairs of a list within the search
-module _ (seed : Point) (r : Frame) (earlier : List Box) (widening : Float) (pairs : List Offset) (search : ℕ) where
+module _ (seed : Point) (r : HalfSides) (earlier : List Box) (widening : Float) (pairs : List Offset) (search : ℕ) where
   abbrev found : List Offset → Option Point
   found os = first_free seed r earlier widening os
 
@@ -177,29 +185,39 @@ module _ (seed : Point) (r : Frame) (earlier : List Box) (widening : Float) (pai
   first_end j h i = sym (ap (λ (os : List Offset). found (skipped search os)) (drop_all j pairs h)) ∙ i
 
 -- ---- the three widenings
-module _ (seed : Point) (r : Frame) (earlier : List Box) (os : List Offset) (o : Option Point) (O : o ≡ first_free seed r earlier f1 os) where
+module _ (seed : Point) (r : HalfSides) (earlier : List Box) (os : List Offset) where
   abbrev at2 : Option Point
   at2 = first_free seed r earlier f2 os
 
   abbrev at4 : Option Point
   at4 = first_free seed r earlier f4 os
 
-  tried : unwrap_or o (unwrap_or at2 (unwrap_or at4 seed)) ≡ place_for seed r earlier os
-  unfolding place_for
-  tried = ap (λ (x : Option Point). unwrap_or x (unwrap_or at2 (unwrap_or at4 seed))) O
+  pub place_found : unwrap_or (found_place seed r earlier os) seed ≡ place_for seed r earlier os
+  unfolding found_place place_for
+  place_found = go (first_free seed r earlier f1 os) at2
+    where
+      go : (a b : Option Point) → unwrap_or (option_or a (option_or b at4)) seed ≡ unwrap_or a (unwrap_or b (unwrap_or at4 seed))
+      go (Some x) b = refl
+      go None (Some y) = refl
+      go None None = refl
 
-  pub found_near : (c : Point) → o ≡ Some c → c ≡ place_for seed r earlier os
-  found_near c e = sym (ap (λ (x : Option Point). unwrap_or x (unwrap_or at2 (unwrap_or at4 seed))) e) ∙ tried
+  module _ (o : Option Point) (O : o ≡ first_free seed r earlier f1 os) where
+    tried : option_or o (option_or at2 at4) ≡ found_place seed r earlier os
+    unfolding found_place
+    tried = ap (λ (x : Option Point). option_or x (option_or at2 at4)) O
 
-  module _ (e : o ≡ None) (p : Option Point) (P : p ≡ first_free seed r earlier f2 os) where
-    tried_2 : unwrap_or p (unwrap_or at4 seed) ≡ place_for seed r earlier os
-    tried_2 =
-        ap (λ (x : Option Point). unwrap_or x (unwrap_or at4 seed)) P
-        ∙ sym (ap (λ (x : Option Point). unwrap_or x (unwrap_or at2 (unwrap_or at4 seed))) e) ∙ tried
+    pub found_near : (c : Point) → o ≡ Some c → Some c ≡ found_place seed r earlier os
+    found_near c e = sym (ap (λ (x : Option Point). option_or x (option_or at2 at4)) e) ∙ tried
 
-    pub found_wide : (c : Point) → p ≡ Some c → c ≡ place_for seed r earlier os
-    found_wide c f = sym (ap (λ (x : Option Point). unwrap_or x (unwrap_or at4 seed)) f) ∙ tried_2
+    module _ (e : o ≡ None) (p : Option Point) (P : p ≡ first_free seed r earlier f2 os) where
+      tried_2 : option_or p at4 ≡ found_place seed r earlier os
+      tried_2 =
+          ap (λ (x : Option Point). option_or x at4) P
+          ∙ sym (ap (λ (x : Option Point). option_or x (option_or at2 at4)) e) ∙ tried
 
-    module _ (f : p ≡ None) (q : Option Point) (Q : q ≡ first_free seed r earlier f4 os) where
-      pub found_last : unwrap_or q seed ≡ place_for seed r earlier os
-      found_last = ap (λ (x : Option Point). unwrap_or x seed) Q ∙ sym (ap (λ (x : Option Point). unwrap_or x (unwrap_or at4 seed)) f) ∙ tried_2
+      pub found_wide : (c : Point) → p ≡ Some c → Some c ≡ found_place seed r earlier os
+      found_wide c f = sym (ap (λ (x : Option Point). option_or x at4) f) ∙ tried_2
+
+      module _ (f : p ≡ None) (q : Option Point) (Q : q ≡ first_free seed r earlier f4 os) where
+        pub found_last : q ≡ found_place seed r earlier os
+        found_last = Q ∙ sym (ap (λ (x : Option Point). option_or x at4) f) ∙ tried_2

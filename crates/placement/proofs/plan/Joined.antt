@@ -17,6 +17,7 @@ use Rattle.stations.specs.Column as Column
 use Rattle.stations.specs.Row as Row
 use Rattle.stations.specs.Size as Size
 use Rattle.stations.specs.Unit as Unit
+use Rattle.stations.specs.declared.measures.Typical.{Typical}
 use Rattle.stations.specs.Scale as Scale
 use Rattle.stations.specs.Stages.Views.{sizes_in, scales_in, row_counts_in}
 use Rattle.stations.proofs.sizes.Blocks.{sizes_view}
@@ -29,7 +30,7 @@ module _ (o : Options) (sub kv : List ℕ) (from to : List ℤ) (service : List 
   ss : List Point
   ss = Seed.seeds sub xy
 
-  pub interiors_joined : (unit : Float) (st₁ st₂ st buses ends : List ℕ) (places blocks : List Float)
+  pub interiors_joined : (typical : Typical) (st₁ st₂ st buses ends : List ℕ) (places blocks : List Float)
       → counts_in k st₁ ≡ bus_counts sub
       → points_in k places ≡ Seed.seeds sub xy
       → columns_in (length sub) buses ≡ Column.columns sub kv
@@ -38,21 +39,22 @@ module _ (o : Options) (sub kv : List ℕ) (from to : List ℤ) (service : List 
       → to_rows_in (length from) ends ≡ Row.to_rows sub (points_in k places) (kinds sub from to service)
       → strided 2 1 0 k st ≡ table (Row.rows_in sub (kinds sub from to service)) k
       → counts_in k st ≡ counts_in k st₂
-      → unit ≡ Unit.unit_for o.fill (Unit.spacing (points_in k places) (counts_in k st)) (Unit.typical (Size.sizes_for o.gaps (counts_in k st) (row_counts_in k st)) (counts_in k st))
-      → sizes_in k blocks ≡ Size.sizes_for o.gaps (counts_in k st) (row_counts_in k st)
+      → typical.spacing ≡ Unit.spacing (points_in k places) (counts_in k st)
+      → typical.side ≡ Unit.typical (Size.sizes_for o.block_options (counts_in k st) (row_counts_in k st)) (counts_in k st)
+      → sizes_in k blocks ≡ Size.sizes_for o.block_options (counts_in k st) (row_counts_in k st)
       → scales_in k blocks ≡ Scale.scales o (points_in k places) (counts_in k st) (Unit.spacing (points_in k places) (counts_in k st))
-      → Interiors o sub kv from to service xy k unit st buses ends places blocks
+      → Interiors o sub kv from to service xy k typical st buses ends blocks
   unfolding ks ss
-  interiors_joined unit st₁ st₂ st buses ends places blocks c₁ p col c₂ fr tr rs c₃ u z sc =
+  interiors_joined typical st₁ st₂ st buses ends places blocks c₁ p col c₂ fr tr rs c₃ sp sd z sc =
       let c : counts_in k st ≡ bus_counts sub = c₃ ∙ c₂ ∙ c₁ in
-      let v : Size.sizes_for o.gaps (counts_in k st) (row_counts_in k st) ≡ Size.sizes o.gaps sub ks (bus_counts sub) = sizes_view _ _ _ _ _ _ c rs in
+      let v : Size.sizes_for o.block_options (counts_in k st) (row_counts_in k st) ≡ Size.sizes o.block_options sub ks (bus_counts sub) = sizes_view _ _ _ _ _ _ c rs in
       record {
         counts = c;
         columns = col;
         from_rows = fr ∙ ap (λ (z : List Point). Row.from_rows sub z ks) p;
         to_rows = tr ∙ ap (λ (z : List Point). Row.to_rows sub z ks) p;
-        seeds = p;
         sizes = z ∙ v;
         scales = sc ∙ cc (p, c);
-        unit_is = u ∙ cc (p, c, v);
+        spacing = sp ∙ cc (p, c);
+        side = sd ∙ cc (c, v);
       }

@@ -6,21 +6,21 @@ use Rattle.numbers.specs.Lists.{All}
 use Rattle.plane.specs.Stages.Cells.{shifted}
 use Rattle.plane.specs.Stages.Kept.{Kept}
 use Rattle.stations.specs.Size.{Size}
-use Rattle.placement.specs.Search.{Frame}
+use Rattle.placement.specs.Search.{HalfSides}
 use Rattle.placement.specs.declared.free_places.Outline.{Outline}
 
 -- half sides, and what an interior is drawn in
 abbrev pub half : Float → Float → Size
 half a b = record { w = a; h = b }
 
-abbrev pub frame_of : Outline → Frame
-frame_of r = record { half = half r.w r.h; f = r.block; buffer = r.buffer }
+abbrev pub half_sides_of : Outline → HalfSides
+half_sides_of r = record { half = half r.w r.h; f = r.block; buffer = r.buffer }
 
 -- the boxes of a list of stations
 abbrev pub kept_boxes : List Float → List ℕ → List Box
 kept_boxes boxes sorted = map (box_at boxes) sorted
 
--- the boxes of a stretch of a list's stations
+-- the boxes of a tested part of a list's stations
 abbrev pub boxes_among : List Float → ℕ → ℕ → List ℕ → List Box
 boxes_among boxes first end sorted = map (box_at boxes) (take (end - first) (drop first sorted))
 

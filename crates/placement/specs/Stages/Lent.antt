@@ -4,13 +4,13 @@ use Rattle.offsets.specs.declared.offset.Offset.{Offset}
 use Rattle.offset_table.specs.Table.{skipped}
 use Rattle.stations.specs.declared.measures.Measures.{Measures}
 use Rattle.stations.specs.declared.sizes.Measured.{Measured}
-use Rattle.placement.specs.Search.{Frame}
-use Rattle.placement.specs.Stages.Views.{frames_in}
+use Rattle.placement.specs.Search.{HalfSides}
+use Rattle.placement.specs.Stages.Views.{half_sides_listed}
 use Rattle.placement.specs.declared.free_places.Tried.{Tried}
 
 -- what each station's interior is drawn in
-abbrev pub measured_frames : Measures → Measured → List Frame
-measured_frames measures measured = frames_in measures measured.k measured.blocks.now
+abbrev pub measured_half_sides : Measures → Measured → List HalfSides
+measured_half_sides measures measured = half_sides_listed measures measured.k measured.blocks.now
 
 -- the offsets that a search tries, in their order
 abbrev pub tried_offsets : Tried → List Offset

@@ -1,4 +1,4 @@
--- The cell of an edge rises with the edge, so a box that overlaps lies in the stretch: for every box and unit, held cells, infinite quotients and unit 0 included. Assumes nothing.
+-- The cell of an edge rises with the edge, so a box that overlaps lies in the tested part: for every box and unit, held cells, infinite quotients and unit 0 included. Assumes nothing.
 use mathlib.Core.Path.{◌≡◌, refl, sym, ◌∙◌, subst}
 use mathlib.Core.Bool.{Bool, true, false, ◌&&◌, cond, true≢false}
 use Prim.Native.Nat.{ℕ, zero, suc, ◌+◌, ◌-◌, ◌^◌, ◌≤◌, min}
@@ -115,7 +115,7 @@ module _ (unit : Float) where
   cell_lt : (x y : Float) → T (lt x y) → cell_key unit x ≤ cell_key unit y
   cell_lt x y h = cell_mono unit x y (le_of_lt_float x y h)
 
-  -- what overlaps is in the stretch
+  -- what overlaps is in the tested part
   pub overlap_near : (most : ℕ) (p q : Box) → span_of unit q ≤ most → T (overlap p q) → T (near unit most p q)
   unfolding overlap meet near span_of
   overlap_near most p q s h =

@@ -1,4 +1,4 @@
--- The stretch over cells as whole numbers with a sign is the one over the numbers stored. Assumes nothing.
+-- The tested part over cells as whole numbers with a sign is the one over the numbers stored. Assumes nothing.
 use mathlib.Core.Path.{◌≡◌, sym, ap, ◌∙◌, subst}
 use mathlib.Core.Logic.{◌⊎◌, inl, inr}
 use mathlib.Core.Bool.{Bool, true, false, cond, ◌&&◌}
@@ -13,7 +13,7 @@ use Rattle.numbers.specs.Floor.{floor_int}
 use Rattle.numbers.specs.Ops.{f0, ◌⊘◌}
 use Rattle.numbers.proofs.order.Merging.{le_or_lt}
 use Rattle.plane.specs.declared.geometry.Box.{Box}
-use Rattle.plane.specs.Stages.Cells.{held, cell_number, cell_of, shifted, cell_key, in_stretch, near}
+use Rattle.plane.specs.Stages.Cells.{held, cell_number, cell_of, shifted, cell_key, in_tested_part, near}
 use Rattle.plane.proofs.cells.CellLaws.{cell_mono}
 
 -- not below -2^52, and not above 2^52
@@ -111,9 +111,9 @@ cell_rises unit x y h =
     subst T (sym (le_cells (cell_of unit x) (cell_of unit y) (low_cell unit x) (low_cell unit y)))
     (le→leb (cell_key unit x) (cell_key unit y) (cell_mono unit x y h))
 
--- the stretch over signed cells is the one over what is stored
-pub stretch_words : (unit : Float) (most : ℕ) (p q : Box) → in_stretch unit most p q ≡ near unit most p q
-unfolding in_stretch near cell_key
-stretch_words unit most p q =
+-- the tested part over signed cells is the one over what is stored
+pub tested_part_words : (unit : Float) (most : ℕ) (p q : Box) → in_tested_part unit most p q ≡ near unit most p q
+unfolding in_tested_part near cell_key
+tested_part_words unit most p q =
     ap (λ (t : Bool). t && le_z (cell_of unit q.left) (cell_of unit p.right)) (less_cells (cell_of unit p.left) (cell_of unit q.left) most (low_cell unit p.left) (low_cell unit q.left))
     ∙ ap (λ (t : Bool). leb (shifted (cell_of unit p.left)) (shifted (cell_of unit q.left) + most) && t) (le_cells (cell_of unit q.left) (cell_of unit p.right) (low_cell unit q.left) (low_cell unit p.right))

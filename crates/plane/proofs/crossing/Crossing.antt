@@ -19,7 +19,7 @@ use Rattle.numbers.proofs.float.Bounds.{size_of, plus_unsigned, mul_unsigned, ma
 use Rattle.plane.specs.declared.geometry.Point.{Point}
 use Rattle.plane.proofs.geometry.PointSizes.{Near}
 use Rattle.plane.specs.declared.crossing.Param.TheVariants.{At, Parallel}
-use Rattle.plane.specs.Cross.{orient, crosses, parallel, param, place_or, tiny}
+use Rattle.plane.specs.Cross.{orient, crosses, parallel, param, fraction_or, tiny}
 
 -- ---- a turn round a short side
 -- the side's two parts are at most k, the coordinates at most m
@@ -114,8 +114,8 @@ module _ (n : ℕ) (r s : Point) (N : 2 * n ≤ 3168) (R : Near n r) (S : Near n
           (plus_unsigned least_normal normal_plus))) f).1
 
 -- the place is at most 1 in size, whatever the quotient
-pub place_most : (m : ℕ) (p q u w : Point) (other : Float) → m ≤ 1500 → Near m p → Near m q → Near m u → Near m w → AtMost 1074 other → AtMost 1074 (place_or (param p q u w) other)
-unfolding param place_or
+pub place_most : (m : ℕ) (p q u w : Point) (other : Float) → m ≤ 1500 → Near m p → Near m q → Near m u → Near m w → AtMost 1074 other → AtMost 1074 (fraction_or (param p q u w) other)
+unfolding param fraction_or
 place_most m p q u w other M P Q U W o = at (parallel denom r s) refl
   where
     r : Point
@@ -143,7 +143,7 @@ place_most m p q u w other M P Q U W o = at (parallel denom r s) refl
     cross-finite a b c d h i j k =
         (sub_most 2096 (a ⊗ b) (c ⊗ d) (lit≤ tt) (mul_most (m + 1) (m + 1) 2096 a b (omega arith) (lit≤ tt) h i) (mul_most (m + 1) (m + 1) 2096 c d (omega arith) (lit≤ tt) j k)).finite
 
-    at : (b : Bool) → parallel denom r s ≡ b → AtMost 1074 (place_or (cond b Parallel (At (clamp_of (over ⊘ denom) f0 f1))) other)
+    at : (b : Bool) → parallel denom r s ≡ b → AtMost 1074 (fraction_or (cond b Parallel (At (clamp_of (over ⊘ denom) f0 f1))) other)
     at true e = o
     at false e =
         clamp_most 1074 (over ⊘ denom) f0 f1

@@ -7,7 +7,7 @@ use Rattle.numbers.specs.Ops.{f0, f1}
 use Rattle.plane.specs.declared.geometry.Point.{Point}
 use Rattle.plane.specs.declared.crossing.Param.{Param}
 use Rattle.plane.specs.declared.crossing.Param.TheVariants.{At, Parallel}
-use Rattle.plane.specs.Cross.{parallel, param, place_or}
+use Rattle.plane.specs.Cross.{parallel, param, fraction_or}
 
 -- not below 0 and not above 1
 pub record InUnit (t : Float) : Type 0 where
@@ -25,9 +25,9 @@ clamp_held x = go (lt x f0) (lt f1 x) refl refl
 
 -- a place that is answered is held to 0..1
 pub place_held : (p q u w : Point) (t : Float) → param p q u w ≡ At t → InUnit t
-unfolding param place_or
+unfolding param fraction_or
 place_held p q u w t = go (parallel _ _ _) _
   where
     go : (b : Bool) (x : Float) → cond b Parallel (At (clamp_of x f0 f1)) ≡ At t → InUnit t
     go true x h = absurd (cc)
-    go false x h = subst InUnit (ap (λ (y : Param). place_or y f0) h) (clamp_held x)
+    go false x h = subst InUnit (ap (λ (y : Param). fraction_or y f0) h) (clamp_held x)

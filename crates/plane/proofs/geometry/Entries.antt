@@ -1,4 +1,4 @@
--- Laws of the clip test's place: a box is entered just where it is hit, and the place is the largest of 0 and, in each direction that
+-- Laws of the clip test's entry: a box is entered just where it is hit, and the entry is the largest of 0 and, in each direction that
 -- the piece moves in, (edge first met − start) / (end − start). Assumes nothing.
 use mathlib.Core.Path.{◌≡◌, refl, sym, ap, ◌∙◌, subst}
 use Prim.Native.Nat.{ℕ, zero, suc, ◌+◌, ◌-◌, ◌*◌, ◌≤◌, ◌<◌}
@@ -20,7 +20,7 @@ use Rattle.plane.specs.declared.geometry.Point.{Point}
 use Rattle.plane.specs.declared.geometry.Box.{Box}
 use Rattle.std.specs.Prelude.{Option, Some, None, is_some, option_map}
 use Rattle.plane.specs.Clip.{part, cut, clip_by, clipped, hits}
-use Rattle.plane.specs.Entry.{enters, along_side, place_of}
+use Rattle.plane.specs.Entry.{enters, along_side, entry_of}
 use Rattle.plane.proofs.geometry.Clips.{right_test}
 
 -- a box is entered just where it is hit
@@ -311,12 +311,12 @@ none_plus : T (plus f0)
 unfolding plus of_bits
 none_plus = tt
 
-pub place_plus : (p q : Point) (b : Box) → T (plus (place_of p q b))
-unfolding place_of
+pub place_plus : (p q : Point) (b : Box) → T (plus (entry_of p q b))
+unfolding entry_of
 place_plus p q b = along_plus b.top b.bottom p.y (q.y ⊖ p.y) _ (along_plus b.left b.right p.x (q.x ⊖ p.x) f0 none_plus)
 
-clipped_starts : (p q : Point) (b : Box) → StartsAt (clipped p q b) (place_of p q b)
-unfolding clipped place_of
+clipped_starts : (p q : Point) (b : Box) → StartsAt (clipped p q b) (entry_of p q b)
+unfolding clipped entry_of
 clipped_starts p q b = go (right_test p q b) (side_starts b.left b.right p.x (q.x ⊖ p.x) f0 f1 none_plus)
   where
     along-x : Float
@@ -332,10 +332,10 @@ clipped_starts p q b = go (right_test p q b) (side_starts b.left b.right p.x (q.
             (side_starts b.top b.bottom p.y (q.y ⊖ p.y) t u (subst (λ (x : Float). T (plus x)) (sym e) (along_plus b.left b.right p.x (q.x ⊖ p.x) f0 none_plus)))
 
 -- a box that is hit is entered at the largest of 0 and, in each direction that the piece moves in, (edge first met − start) / (end − start)
-pub enters_place : (p q : Point) (b : Box) → enters p q b ≡ cond (hits p q b) (Some (place_of p q b)) None
+pub enters_entry : (p q : Point) (b : Box) → enters p q b ≡ cond (hits p q b) (Some (entry_of p q b)) None
 unfolding enters hits
-enters_place p q b = go (clipped p q b) (clipped_starts p q b)
+enters_entry p q b = go (clipped p q b) (clipped_starts p q b)
   where
-    go : (c : Option (Float × Float)) → StartsAt c (place_of p q b) → option_map (λ part. part.0) c ≡ cond (is_some c) (Some (place_of p q b)) None
+    go : (c : Option (Float × Float)) → StartsAt c (entry_of p q b) → option_map (λ part. part.0) c ≡ cond (is_some c) (Some (entry_of p q b)) None
     go None h = refl
     go (Some (t0, t1)) h = unfold StartsAt in ap Some h

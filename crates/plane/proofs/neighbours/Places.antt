@@ -71,8 +71,8 @@ module _ (ps : List Float) (n : ℕ) (o : List ℕ) (S : Swept ps n o) where
   place_once q c h k e =
       sym (place_law (x_key ps) n q h) ∙ ap (rank (x_key ps) n) (sym (at_place q h) ∙ e ∙ at_place c k) ∙ place_law (x_key ps) n c k
 
-  pub place_of : (j : ℕ) → j < n → (q : ℕ) × (q < n) × (get_or o q 0 ≡ j)
-  place_of j h = let r = rank_found (x_key ps) n j h in (rank (x_key ps) n j, r.0, at_place (rank (x_key ps) n j) r.0 ∙ r.1)
+  pub entry_of : (j : ℕ) → j < n → (q : ℕ) × (q < n) × (get_or o q 0 ≡ j)
+  entry_of j h = let r = rank_found (x_key ps) n j h in (rank (x_key ps) n j, r.0, at_place (rank (x_key ps) n j) r.0 ∙ r.1)
 
   -- as many of the first n numbers pass a test as of those at the places
   pub place_count : (p : ℕ → Bool) → how_many (λ q. p (get_or o q 0)) n ≡ how_many p n

@@ -18,36 +18,36 @@ use Rattle.plane.proofs.neighbours.Fills.{fill_none, fill_more}
 
 module _ (ps : List Float) (i : ℕ) where
   -- the distance to point j, as the code has it
-  abbrev pub reach : ℕ → Float
-  reach j = hypot_of (get_or ps (2 * j) nan ⊖ get_or ps (2 * i) nan) (get_or ps (2 * j + 1) nan ⊖ get_or ps (2 * i + 1) nan)
+  abbrev pub away_by : ℕ → Float
+  away_by j = hypot_of (get_or ps (2 * j) nan ⊖ get_or ps (2 * i) nan) (get_or ps (2 * j + 1) nan ⊖ get_or ps (2 * i + 1) nan)
 
   -- point i itself changes nothing, another is taken where it is nearer
   pub nearest_same : (j : ℕ) (b : Float) → b ≡ nearest_to ps i j → j ≡ i → b ≡ nearest_to ps i (j + 1)
   unfolding nearest_to
   nearest_same j b e h = rw (add-one, eq-eqb j i h) e
 
-  pub nearest_other : (j : ℕ) (b r : Float) → b ≡ nearest_to ps i j → (j ≡ i → ⊥) → r ≡ nearer b (reach j) → r ≡ nearest_to ps i (j + 1)
+  pub nearest_other : (j : ℕ) (b r : Float) → b ≡ nearest_to ps i j → (j ≡ i → ⊥) → r ≡ nearer b (away_by j) → r ≡ nearest_to ps i (j + 1)
   unfolding nearest_to distance
-  nearest_other j b r e h k = rw (add-one, ne_eqb j i h) (k ∙ ap (λ (t : Float). nearer t (reach j)) e)
+  nearest_other j b r e h k = rw (add-one, ne_eqb j i h) (k ∙ ap (λ (t : Float). nearer t (away_by j)) e)
 
   -- the count goes up where the point is another and near
   module _ (radius : Float) where
     own : (j : ℕ) → j ≡ i → near ps radius i j ≡ false
     unfolding near distance
-    own j h = ap (λ (t : Bool). not t && le (reach j) radius) (eq-eqb j i h)
+    own j h = ap (λ (t : Bool). not t && le (away_by j) radius) (eq-eqb j i h)
 
-    other : (j : ℕ) (v : Bool) → (j ≡ i → ⊥) → v ≡ le (reach j) radius → near ps radius i j ≡ v
+    other : (j : ℕ) (v : Bool) → (j ≡ i → ⊥) → v ≡ le (away_by j) radius → near ps radius i j ≡ v
     unfolding near distance
-    other j v h e = ap (λ (t : Bool). not t && le (reach j) radius) (ne_eqb j i h) ∙ sym e
+    other j v h e = ap (λ (t : Bool). not t && le (away_by j) radius) (ne_eqb j i h) ∙ sym e
 
     pub near_same : (j c : ℕ) → c ≡ how_many (near ps radius i) j → j ≡ i → c ≡ how_many (near ps radius i) (j + 1)
     near_same j c e h = rw add-one (e ∙ sym (how_many_no (near ps radius i) j (own j h)))
 
-    pub near_more : (j c : ℕ) (v : Bool) → c ≡ how_many (near ps radius i) j → (j ≡ i → ⊥) → v ≡ le (reach j) radius → v ≡ true
+    pub near_more : (j c : ℕ) (v : Bool) → c ≡ how_many (near ps radius i) j → (j ≡ i → ⊥) → v ≡ le (away_by j) radius → v ≡ true
         → c + 1 ≡ how_many (near ps radius i) (j + 1)
     near_more j c v e h k y = rw (add-one c, add-one j) (ap suc e ∙ sym (how_many_yes (near ps radius i) j (other j v h k ∙ y)))
 
-    pub near_less : (j c : ℕ) (v : Bool) → c ≡ how_many (near ps radius i) j → (j ≡ i → ⊥) → v ≡ le (reach j) radius → v ≡ false
+    pub near_less : (j c : ℕ) (v : Bool) → c ≡ how_many (near ps radius i) j → (j ≡ i → ⊥) → v ≡ le (away_by j) radius → v ≡ false
         → c ≡ how_many (near ps radius i) (j + 1)
     near_less j c v e h k y = rw add-one (e ∙ sym (how_many_no (near ps radius i) j (other j v h k ∙ y)))
 

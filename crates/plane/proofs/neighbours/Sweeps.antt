@@ -21,10 +21,10 @@ use Rattle.numbers.specs.Table.{how_many}
 use Rattle.numbers.proofs.order.Merging.{le_or_lt}
 use Rattle.numbers.proofs.order.Tables.{how_many_yes, how_many_no, how_many_zero, how_many_ext}
 use Rattle.plane.specs.Near.{distance, nearer, nearest_to, nearest, near, within}
-use Rattle.plane.specs.Stages.Sweep.{x_at, Swept, away, in_reach, Others, Least}
-use Rattle.plane.proofs.neighbours.Scans.{reach, neighbours_none}
+use Rattle.plane.specs.Stages.Sweep.{x_at, Swept, away, in_radius, Others, Least}
+use Rattle.plane.proofs.neighbours.Scans.{away_by, neighbours_none}
 use Rattle.plane.proofs.neighbours.Leasts.{least_above, least_none, least_same, least_more, least_one}
-use Rattle.plane.proofs.neighbours.Places.{place_below, place_once, place_of, place_count}
+use Rattle.plane.proofs.neighbours.Places.{place_below, place_once, entry_of, place_count}
 use Rattle.plane.proofs.neighbours.Stops.{stop_right, stop_left}
 
 hypot_fits : (x y : Float) → T (fits binary64 (hypot_of x y))
@@ -54,10 +54,10 @@ module _ (c : ℕ) where
       over : l < q → l + 1 ≤ q
       over k = omega arith
 
--- whether a point is in reach, by the number j that the scan reads at place h
-pub reach_by : (ps : List Float) (o : List ℕ) (x y radius : Float) (h j : ℕ) (v : Bool) → j ≡ get_or o h 0
-    → v ≡ le (hypot_of (get_or ps (2 * j) nan ⊖ x) (get_or ps (2 * j + 1) nan ⊖ y)) radius → v ≡ in_reach ps o x y radius h
-reach_by ps o x y radius h j v e m = m ∙ ap (λ (i : ℕ). le (hypot_of (get_or ps (2 * i) nan ⊖ x) (get_or ps (2 * i + 1) nan ⊖ y)) radius) e
+-- whether a point is within the radius, by the number j that the scan reads at place h
+pub radius_by : (ps : List Float) (o : List ℕ) (x y radius : Float) (h j : ℕ) (v : Bool) → j ≡ get_or o h 0
+    → v ≡ le (hypot_of (get_or ps (2 * j) nan ⊖ x) (get_or ps (2 * j + 1) nan ⊖ y)) radius → v ≡ in_radius ps o x y radius h
+radius_by ps o x y radius h j v e m = m ∙ ap (λ (i : ℕ). le (hypot_of (get_or ps (2 * i) nan ⊖ x) (get_or ps (2 * i + 1) nan ⊖ y)) radius) e
 
 -- ---- the least distance along the order
 module _ (ps : List Float) (n : ℕ) (o : List ℕ) (x y : Float) (c : ℕ) where
@@ -116,28 +116,28 @@ module _ (ps : List Float) (n : ℕ) (o : List ℕ) (x y : Float) (c : ℕ) wher
 
 -- ---- the least distance by the points' numbers
 module _ (ps : List Float) (i : ℕ) where
-  reach_fits : (j : ℕ) → T (fits binary64 (reach ps i j))
-  reach_fits j = hypot_fits (get_or ps (2 * j) nan ⊖ get_or ps (2 * i) nan) (get_or ps (2 * j + 1) nan ⊖ get_or ps (2 * i + 1) nan)
+  away_fits : (j : ℕ) → T (fits binary64 (away_by ps i j))
+  away_fits j = hypot_fits (get_or ps (2 * j) nan ⊖ get_or ps (2 * i) nan) (get_or ps (2 * j + 1) nan ⊖ get_or ps (2 * i + 1) nan)
 
-  nearest_least : (n : ℕ) → Least (reach ps i) (Others i 0 n) (nearest_to ps i n)
+  nearest_least : (n : ℕ) → Least (away_by ps i) (Others i 0 n) (nearest_to ps i n)
   unfolding nearest_to distance
-  nearest_least zero = least_none (reach ps i) reach_fits (Others i 0 0) (λ q z. omega (arith, z.1))
+  nearest_least zero = least_none (away_by ps i) away_fits (Others i 0 0) (λ q z. omega (arith, z.1))
   nearest_least (suc j) = go (eqb j i) refl (nearest_least j)
     where
       up : (q : ℕ) → Others i 0 j q → Others i 0 (suc j) q
       up q z = (z.0, omega (arith, z.1), z.2)
 
-      own : j ≡ i → (q : ℕ) → Others i 0 j q ⊎ (q ≡ j) → Others i 0 (suc j) q → Others i 0 j q ⊎ (le (reach ps i q) (nearest_to ps i j) ≡ false)
+      own : j ≡ i → (q : ℕ) → Others i 0 j q ⊎ (q ≡ j) → Others i 0 (suc j) q → Others i 0 j q ⊎ (le (away_by ps i q) (nearest_to ps i j) ≡ false)
       own e q (inl k) z = inl k
       own e q (inr k) z = absurd (z.2 (k ∙ e))
 
       split : (q : ℕ) → Others i 0 (suc j) q → Others i 0 j q ⊎ (q ≡ j)
       split q z = last_or i 0 j q (subst (λ (t : ℕ). Others i 0 t q) (sym (add-one j)) z)
 
-      go : (t : Bool) → eqb j i ≡ t → Least (reach ps i) (Others i 0 j) (nearest_to ps i j)
-          → Least (reach ps i) (Others i 0 (suc j)) (pick t (nearest_to ps i j) (nearer (nearest_to ps i j) (reach ps i j)))
-      go true e k = least_same (reach ps i) reach_fits (Others i 0 j) (Others i 0 (suc j)) (nearest_to ps i j) k up (λ q z. own (eqb-true j i e) q (split q z) z)
-      go false e k = least_more (reach ps i) reach_fits (Others i 0 j) (Others i 0 (suc j)) (nearest_to ps i j) k up j (omega arith, omega arith, eqb-false j i e) split
+      go : (t : Bool) → eqb j i ≡ t → Least (away_by ps i) (Others i 0 j) (nearest_to ps i j)
+          → Least (away_by ps i) (Others i 0 (suc j)) (pick t (nearest_to ps i j) (nearer (nearest_to ps i j) (away_by ps i j)))
+      go true e k = least_same (away_by ps i) away_fits (Others i 0 j) (Others i 0 (suc j)) (nearest_to ps i j) k up (λ q z. own (eqb-true j i e) q (split q z) z)
+      go false e k = least_more (away_by ps i) away_fits (Others i 0 j) (Others i 0 (suc j)) (nearest_to ps i j) k up j (omega arith, omega arith, eqb-false j i e) split
 
 module _ (ps : List Float) (n : ℕ) (o : List ℕ) (S : Swept ps n o) (c : ℕ) (h : c < n) where
   abbrev point : ℕ
@@ -145,23 +145,23 @@ module _ (ps : List Float) (n : ℕ) (o : List ℕ) (S : Swept ps n o) (c : ℕ)
 
   pub least_nearest : (r : Float) → Least (away ps o (get_or ps (2 * point) nan) (get_or ps (2 * point + 1) nan)) (Others c 0 n) r → r ≡ nearest ps n point
   unfolding nearest
-  least_nearest r k = least_one (reach ps point) (reach_fits ps point) (Others point 0 n) r (nearest_to ps point n) moved (nearest_least ps point n)
+  least_nearest r k = least_one (away_by ps point) (away_fits ps point) (Others point 0 n) r (nearest_to ps point n) moved (nearest_least ps point n)
     where
-      hit : (r ≡ inf false) ⊎ ((q : ℕ) × Others c 0 n q × (r ≡ reach ps point (get_or o q 0)) × (lt f0 (reach ps point (get_or o q 0)) ≡ true))
-          → (r ≡ inf false) ⊎ ((j : ℕ) × Others point 0 n j × (r ≡ reach ps point j) × (lt f0 (reach ps point j) ≡ true))
+      hit : (r ≡ inf false) ⊎ ((q : ℕ) × Others c 0 n q × (r ≡ away_by ps point (get_or o q 0)) × (lt f0 (away_by ps point (get_or o q 0)) ≡ true))
+          → (r ≡ inf false) ⊎ ((j : ℕ) × Others point 0 n j × (r ≡ away_by ps point j) × (lt f0 (away_by ps point j) ≡ true))
       hit (inl e) = inl e
       hit (inr z) = inr (get_or o z.0 0, (omega arith, place_below ps n o S z.0 z.1.1, λ e. z.1.2 (place_once ps n o S z.0 c z.1.1 h e)), z.2, z.3)
 
-      moved : Least (reach ps point) (Others point 0 n) r
+      moved : Least (away_by ps point) (Others point 0 n) r
       moved = record {
         hit = hit k.hit;
         under = λ j z p.
-            let q = place_of ps n o S j z.1 in
-            subst (λ (t : ℕ). order_key r ≤ order_key (reach ps point t)) q.2
-            (k.under q.0 (omega arith, q.1, λ e. z.2 (sym q.2 ∙ ap (λ (t : ℕ). get_or o t 0) e)) (subst (λ (t : ℕ). lt f0 (reach ps point t) ≡ true) (sym q.2) p));
+            let q = entry_of ps n o S j z.1 in
+            subst (λ (t : ℕ). order_key r ≤ order_key (away_by ps point t)) q.2
+            (k.under q.0 (omega arith, q.1, λ e. z.2 (sym q.2 ∙ ap (λ (t : ℕ). get_or o t 0) e)) (subst (λ (t : ℕ). lt f0 (away_by ps point t) ≡ true) (sym q.2) p));
       }
 
--- ---- how many are in reach
+-- ---- how many are within the radius
 -- after a place, and before one
 module _ (f : ℕ → Bool) where
   pub many_none : (h n : ℕ) → h ≤ n → ((q : ℕ) → h ≤ q → q < n → f q ≡ false) → how_many f h ≡ how_many f n
@@ -206,21 +206,21 @@ module _ (f : ℕ → Bool) where
   all_left a l k e m = omega (arith, e, m)
 
 module _ (ps : List Float) (n : ℕ) (o : List ℕ) (x y radius : Float) (S : Swept ps n o) (X : is_finite x ≡ true) (R : lt f0 radius ≡ true) where
-  pub many_stop_right : (h j : ℕ) → j ≡ get_or o h 0 → h ≤ n → lt radius (x_at ps j ⊖ x) ≡ true → how_many (in_reach ps o x y radius) h ≡ how_many (in_reach ps o x y radius) n
-  many_stop_right h j e m t = many_none (in_reach ps o x y radius) h n m (λ q a b. stop_right ps n o S x y radius X R h (subst (λ (i : ℕ). lt radius (x_at ps i ⊖ x) ≡ true) e t) q a b)
+  pub many_stop_right : (h j : ℕ) → j ≡ get_or o h 0 → h ≤ n → lt radius (x_at ps j ⊖ x) ≡ true → how_many (in_radius ps o x y radius) h ≡ how_many (in_radius ps o x y radius) n
+  many_stop_right h j e m t = many_none (in_radius ps o x y radius) h n m (λ q a b. stop_right ps n o S x y radius X R h (subst (λ (i : ℕ). lt radius (x_at ps i ⊖ x) ≡ true) e t) q a b)
 
-  pub many_stop_left : (l h j : ℕ) → j ≡ get_or o h 0 → l ≡ h + 1 → l ≤ n → lt radius (neg (x_at ps j ⊖ x)) ≡ true → how_many (in_reach ps o x y radius) l ≡ 0
+  pub many_stop_left : (l h j : ℕ) → j ≡ get_or o h 0 → l ≡ h + 1 → l ≤ n → lt radius (neg (x_at ps j ⊖ x)) ≡ true → how_many (in_radius ps o x y radius) l ≡ 0
   many_stop_left l h j e f m t =
       let s : lt radius (neg (x_at ps (get_or o h 0) ⊖ x)) ≡ true = subst (λ (i : ℕ). lt radius (neg (x_at ps i ⊖ x)) ≡ true) e t in
-      sym (many_none (in_reach ps o x y radius) 0 l (omega arith) (λ q a b. stop_left ps n o S x y radius X R h (omega (arith, f, m)) s q (omega (arith, f, b))))
-      ∙ how_many_zero (in_reach ps o x y radius)
+      sym (many_none (in_radius ps o x y radius) 0 l (omega arith) (λ q a b. stop_left ps n o S x y radius X R h (omega (arith, f, m)) s q (omega (arith, f, b))))
+      ∙ how_many_zero (in_radius ps o x y radius)
 
 module _ (ps : List Float) (n : ℕ) (o : List ℕ) (radius : Float) (S : Swept ps n o) (c : ℕ) (h : c < n) where
   abbrev middle : ℕ
   middle = get_or o c 0
 
   abbrev reached : ℕ → Bool
-  reached = in_reach ps o (get_or ps (2 * middle) nan) (get_or ps (2 * middle + 1) nan) radius
+  reached = in_radius ps o (get_or ps (2 * middle) nan) (get_or ps (2 * middle + 1) nan) radius
 
   pub many_within : (a b : ℕ) → a + how_many reached (c + 1) ≡ how_many reached n → b ≡ how_many reached c → a + b ≡ within ps n radius middle
   unfolding within near distance

@@ -33,8 +33,8 @@ abbrev pub away : List Float → List ℕ → Float → Float → ℕ → Float
 away ps o x y q = hypot_of (get_or ps (2 * get_or o q 0) nan ⊖ x) (get_or ps (2 * get_or o q 0 + 1) nan ⊖ y)
 
 -- whether that distance is at most so much
-abbrev pub in_reach : List Float → List ℕ → Float → Float → Float → ℕ → Bool
-in_reach ps o x y reach q = le (away ps o x y q) reach
+abbrev pub in_radius : List Float → List ℕ → Float → Float → Float → ℕ → Bool
+in_radius ps o x y radius q = le (away ps o x y q) radius
 
 -- q is one of lo, .., hi - 1 and another than c
 abbrev pub Others : ℕ → ℕ → ℕ → ℕ → Type 0

@@ -14,7 +14,7 @@ plain_piece p q = is_finite p.x && (is_finite p.y && (is_finite (q.x ⊖ p.x) &&
 unfoldable pub finite_box : Box → Bool
 finite_box b = is_finite b.left && (is_finite b.top && (is_finite b.right && is_finite b.bottom))
 
--- In one direction, from start on by d, low and high bound the part of a piece from place t to place u: by the clip
+-- In one direction, from start on by d, low and high bound the part of a piece from t to u: by the clip
 -- test's own quotients what ends at low is left before t and what begins at high is entered after u, or the other way
 -- round where d is below 0. Where the piece doesn't move, they lie on both sides of it, by the clip test's own
 -- differences.
@@ -26,7 +26,7 @@ range_holds start d t u low high =
     (lt ((start ⊖ high) ⊘ neg d) t && lt u ((low ⊖ start) ⊘ d))
     (lt (low ⊖ start) f0 && lt (start ⊖ high) f0))
 
--- the box w is a window of the part from place t to place u of the piece p q
+-- the box w is a window of the part from t to u of the piece p q
 unfoldable pub window_holds : Point → Point → Float → Float → Box → Bool
 window_holds p q t u w =
     range_holds p.x (q.x ⊖ p.x) t u w.left w.right

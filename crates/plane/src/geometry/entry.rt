@@ -1,4 +1,4 @@
-//! The clip test with its place: where a piece enters a box.
+//! The clip test with its entry: where a piece enters a box.
 ghost use Rattle.std.specs.Prelude.{◌≡◌, length};
 ghost use Rattle.plane.specs.Plane.{box_at};
 ghost use Rattle.plane.specs.Entry.{enters};

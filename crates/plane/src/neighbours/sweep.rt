@@ -7,7 +7,7 @@ ghost use Rattle.numbers.specs.Small.{is_finite};
 ghost use Rattle.numbers.specs.Ops.{f0};
 ghost use Rattle.numbers.specs.Table.{table, how_many};
 ghost use Rattle.plane.specs.Near.{nearest, neighbours};
-ghost use Rattle.plane.specs.Stages.Sweep.{Numbered, Swept, Others, Least, away, in_reach};
+ghost use Rattle.plane.specs.Stages.Sweep.{Numbered, Swept, Others, Least, away, in_radius};
 
 use crate::neighbours::points::Points;
 use crate::proximity::{closer, is_near};
@@ -147,9 +147,9 @@ fn count_right(sweep: &Sweep<'_>, position: usize, from_x: f64, from_y: f64, rad
     requires finite_x { is_finite from_x ≡ true }
     requires positive { lt f0 radius ≡ true }
     ensures { result
-        + how_many (in_reach sweep.now.points.xy.now sweep.now.order.now from_x from_y radius)
+        + how_many (in_radius sweep.now.points.xy.now sweep.now.order.now from_x from_y radius)
         (position + 1)
-        ≡ how_many (in_reach sweep.now.points.xy.now sweep.now.order.now from_x from_y radius)
+        ≡ how_many (in_radius sweep.now.points.xy.now sweep.now.order.now from_x from_y radius)
         sweep.now.points.n }
 {
     let xy = sweep.points.xy;
@@ -174,7 +174,7 @@ fn count_left(sweep: &Sweep<'_>, position: usize, from_x: f64, from_y: f64, radi
     requires finite_x { is_finite from_x ≡ true }
     requires positive { lt f0 radius ≡ true }
     ensures { result
-        ≡ how_many (in_reach sweep.now.points.xy.now sweep.now.order.now from_x from_y radius)
+        ≡ how_many (in_radius sweep.now.points.xy.now sweep.now.order.now from_x from_y radius)
         position }
 {
     let xy = sweep.points.xy;

@@ -6,7 +6,7 @@ use Rattle.stations.specs.declared.measures.Measures.{Measures}
 use Rattle.stations.specs.declared.bars.Bar.{Bar}
 use Rattle.runs.specs.Stages.Views.{bar_of}
 
--- by the buses' stations, the unit with the gaps, and the lists of buses, blocks and boxes
+-- by the buses' stations, the unit with the block options, and the lists of buses, blocks and boxes
 unfoldable pub bars_in : List ℕ → Measures → List ℕ → List Float → List Float → List Bar
 bars_in sub measures buses blocks frames =
     table (λ i. bar_of measures buses blocks frames (station_of sub i) i) (length sub)

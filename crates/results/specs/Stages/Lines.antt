@@ -4,7 +4,7 @@ use Rattle.numbers.specs.Order.{pick}
 use Rattle.numbers.specs.Table.{joined}
 use Rattle.plane.specs.declared.geometry.Point.{Point}
 use Rattle.runs.specs.Run.{Piece, pieces}
-use Rattle.runs.specs.Stages.Views.{Lead, led_run, way_of, way_count, Fits}
+use Rattle.runs.specs.Stages.Views.{Lead, led_run, first_waypoint, waypoint_count, Fits}
 use Rattle.runs.specs.declared.requests.LineRequest.{LineRequest}
 use Rattle.runs.specs.Stages.Requests.{nothing_at}
 
@@ -14,7 +14,8 @@ request_run L frames ends r =
     pick
     (eqb r.sa r.sb)
     []
-    (led_run L frames r.sa r.sb r.slot_a r.slot_b r.exit_a r.exit_b (way_of ends r.e) (way_count ends r.e))
+    (led_run L frames r.sa r.sb r.row_end_a r.row_end_b r.exit_a r.exit_b (first_waypoint ends r.e)
+    (waypoint_count ends r.e))
 
 unfoldable pub request_pieces : Lead → List Float → List ℕ → LineRequest → List Piece
 request_pieces L frames ends r = pieces r.e (request_run L frames ends r)

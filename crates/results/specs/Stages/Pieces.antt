@@ -15,8 +15,8 @@ abbrev pub Counted : ℕ → List Point → Type 0
 Counted r points = (e : ℕ) → r ≡ length (pieces e points)
 
 -- pieces from number `at` on fit the two lists
-abbrev pub Room : ℕ → List Piece → List Float → List ℕ → Type 0
-Room at ps numbers branches = (4 * (at + length ps) ≤ length numbers) × (at + length ps ≤ length branches)
+abbrev pub PieceRoom : ℕ → List Piece → List Float → List ℕ → Type 0
+PieceRoom at ps numbers branches = (4 * (at + length ps) ≤ length numbers) × (at + length ps ≤ length branches)
 
 -- The pieces ps have the numbers at, .., r - 1: four numbers of each stand in one list, its branch in another, and the
 -- rest is as before.

@@ -36,8 +36,8 @@ others_in sub measures buses ends blocks frames from to service =
     (length from)
 
 -- those of the lines among 16 branches from `start` on
-unfoldable pub block_in : RunLists → List ℤ → List ℤ → List ℕ → ℕ → List Piece
-block_in H from to service start = joined (λ i. pass_at true H from to service (start + i)) 16
+unfoldable pub batch_in : RunLists → List ℤ → List ℤ → List ℕ → ℕ → List Piece
+batch_in H from to service start = joined (λ i. pass_at true H from to service (start + i)) 16
 
 -- a list has room for the run of every branch
 abbrev pub FitAll : List ℤ → List ℕ → List Float → Type 0

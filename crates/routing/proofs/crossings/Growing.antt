@@ -14,8 +14,8 @@ use Rattle.numbers.specs.Order.{pick}
 use Rattle.numbers.specs.Table.{strided}
 use Rattle.numbers.proofs.order.Strides.{strided_push, strided_other, first_push, first_other}
 use Rattle.network.specs.Mesh.{low_at, high_at}
-use Rattle.routing.specs.Route.{Scene, Routing, Keyed, Crossing, number_of, make_channel, with_channel, crossing_of, cross, cross_all}
-use Rattle.routing.specs.Stages.Store.{number_for, marks_for, with_marks, count_with, place_on, Marked, Stock, stock, Stocked, meshed, Grown}
+use Rattle.routing.specs.Route.{MeshScene, Routing, Keyed, Crossing, number_of, make_channel, with_channel, crossing_of, cross, cross_all}
+use Rattle.routing.specs.Stages.Store.{number_for, marks_for, with_marks, count_with, fraction_on, Marked, Stock, stock, Stocked, meshed, Grown}
 use Rattle.routing.proofs.crossings.Numbers.{with_old, with_new}
 use Rattle.routing.proofs.crossings.Marks.{mark_none, mark_some, marked_more, with_beside}
 
@@ -30,12 +30,12 @@ unfolding count_with
 count_less k c h = let n : c ≡ k → ⊥ = (λ e. omega arith) in ap (λ (t : Bool). pick t (k + 1) k) (ne_eqb c k n)
 
 -- The number that the mark gives is the channel's, and the list with it holds the channels with it.
-record Channelled (m : ℕ) (corners : List ℕ) (S : Scene) (ks : List Keyed) (ends : List ℕ) (h y : ℕ) : Type 0 where
+record Channelled (m : ℕ) (corners : List ℕ) (S : MeshScene) (ks : List Keyed) (ends : List ℕ) (h y : ℕ) : Type 0 where
   number : number_for (length ks) y ≡ number_of (low_at corners h) (high_at corners h) ks
   many : count_with (length ks) (number_for (length ks) y) ≡ length (with_channel S (low_at corners h) (high_at corners h) ks)
   marked : Marked m corners (with_channel S (low_at corners h) (high_at corners h) ks) (marks_for corners m h (length ks) y ends)
 
-channelled : (m : ℕ) (corners : List ℕ) (S : Scene) (ks : List Keyed) (ends : List ℕ) (h y : ℕ) → y ≡ get_or ends (4 * (m + h) + 1) 0 → h < length corners → 4 * (m + length corners) + 4 ≤ length ends
+channelled : (m : ℕ) (corners : List ℕ) (S : MeshScene) (ks : List Keyed) (ends : List ℕ) (h y : ℕ) → y ≡ get_or ends (4 * (m + h) + 1) 0 → h < length corners → 4 * (m + length corners) + 4 ≤ length ends
     → Marked m corners ks ends → Channelled m corners S ks ends h y
 unfolding number_for marks_for
 channelled m corners S ks ends h zero e l room v =
@@ -84,7 +84,7 @@ module _ (numbers : List ℕ) (x c e : ℕ) (l : 3 * x + 1 < length numbers) whe
 mapped : {A : Type 0} (f : Crossing → A) (xs : List Crossing) (y : Crossing) (l k : List A) (a : A) → l ≡ k ++ (a ∷ []) → k ≡ map f xs → a ≡ f y → l ≡ map f (xs ++ (y ∷ []))
 mapped f xs y l k a p q r = let s : map f (xs ++ (y ∷ [])) ≡ map f xs ++ (f y ∷ []) = map-append f xs (y ∷ []) in cc
 
-module _ (m : ℕ) (S : Scene) (r : Routing) (s : Stock) (v : Stocked m S.corners r s) (va vb e j h : ℕ) where
+module _ (m : ℕ) (S : MeshScene) (r : Routing) (s : Stock) (v : Stocked m S.corners r s) (va vb e j h : ℕ) where
   abbrev corners : List ℕ
   corners = S.corners
 
@@ -92,10 +92,10 @@ module _ (m : ℕ) (S : Scene) (r : Routing) (s : Stock) (v : Stocked m S.corner
   y = get_or s.ends (4 * (m + h) + 1) 0
 
   pub held_cross : (c k : ℕ) (t : Float) (ends numbers : List ℕ) (places : List Float) → h < length S.corners → 4 * (m + length S.corners) + 4 ≤ length s.ends
-      → 3 * s.crossings + 1 < length s.numbers → s.crossings < length s.places → t ≡ place_on S.corners S.centres va vb h → c ≡ number_for s.channels y
+      → 3 * s.crossings + 1 < length s.numbers → s.crossings < length s.places → t ≡ fraction_on S.corners S.centres va vb h → c ≡ number_for s.channels y
       → ends ≡ marks_for S.corners m h s.channels y s.ends → numbers ≡ set (set s.numbers (3 * s.crossings) c) (3 * s.crossings + 1) e
       → places ≡ set s.places s.crossings t → k ≡ count_with s.channels c → Stocked m S.corners (cross S va vb e j h r) (stock k (s.crossings + 1) ends numbers places)
-  unfolding cross crossing_of place_on
+  unfolding cross crossing_of fraction_on
   held_cross c k t ends numbers places l room space wide qt qc qe qn qp qk =
       let x = s.crossings in
       let ks = r.channels in
@@ -110,14 +110,14 @@ module _ (m : ℕ) (S : Scene) (r : Routing) (s : Stock) (v : Stocked m S.corner
         channels = mapped (λ (z : Crossing). z.channel) r.crossings new _ _ c (ap (strided 3 0 0 (x + 1)) qn ∙ stored_channels s.numbers x c e space) v.channels number;
         branches = mapped (λ (z : Crossing). z.branch) r.crossings new _ _ e (ap (strided 3 1 0 (x + 1)) qn ∙ stored_branches s.numbers x c e space) v.branches refl;
         placed =
-            mapped (λ (z : Crossing). z.place) r.crossings new _ _ t
+            mapped (λ (z : Crossing). z.fraction) r.crossings new _ _ t
             (ap (take (x + 1)) qp ∙ ap (λ (z : ℕ). take z (set s.places x t)) (add-one x) ∙ take-suc-set s.places x t wide)
             v.placed qt;
       }
 
 module _ (m : ℕ) (corners : List ℕ) (points : List Float) (va vb e h : ℕ) where
   pub grown_cross : (x k c k' : ℕ) (t : Float) (ends numbers ends' numbers' : List ℕ) (places places' : List Float) → h < length corners → 4 * (m + length corners) + 4 ≤ length ends
-      → 3 * x + 1 < length numbers → x < length places → t ≡ place_on corners points va vb h → c ≡ number_for k (get_or ends (4 * (m + h) + 1) 0)
+      → 3 * x + 1 < length numbers → x < length places → t ≡ fraction_on corners points va vb h → c ≡ number_for k (get_or ends (4 * (m + h) + 1) 0)
       → ends' ≡ marks_for corners m h k (get_or ends (4 * (m + h) + 1) 0) ends → numbers' ≡ set (set numbers (3 * x) c) (3 * x + 1) e → places' ≡ set places x t → k' ≡ count_with k c
       → (j : ℕ) → Grown m corners points (λ S s. cross S va vb e j h s) (stock k x ends numbers places) (stock k' (x + 1) ends' numbers' places')
   grown_cross x k c k' t ends numbers ends' numbers' places places' l room space wide qt qc qe qn qp qk j =
@@ -128,62 +128,62 @@ module _ (m : ℕ) (corners : List ℕ) (points : List Float) (va vb e h : ℕ) 
 
 -- ---- one after another
 
-cross_more : (S : Scene) (va vb e k h : ℕ) (hs : List ℕ) (r : Routing) → cross_all S va vb e k (hs ++ (h ∷ [])) r ≡ cross S va vb e (k + length hs) h (cross_all S va vb e k hs r)
+cross_more : (S : MeshScene) (va vb e k h : ℕ) (hs : List ℕ) (r : Routing) → cross_all S va vb e k (hs ++ (h ∷ [])) r ≡ cross S va vb e (k + length hs) h (cross_all S va vb e k hs r)
 unfolding cross_all
 cross_more S va vb e k h [] r = ap (λ (n : ℕ). cross S va vb e n h r) (sym (add-zero k))
 cross_more S va vb e k h (g ∷ hs) r =
     cross_more S va vb e (suc k) h hs (cross S va vb e k g r)
     ∙ ap (λ (n : ℕ). cross S va vb e n h (cross_all S va vb e (suc k) hs (cross S va vb e k g r))) (suc-add k (length hs) ∙ sym (add-suc k (length hs)))
 
-module _ (m : ℕ) (corners : List ℕ) (points : List Float) (va vb e : ℕ) (trail : List ℕ) where
-  -- the crossings with the first i of a trail
-  abbrev pub up_to : ℕ → Scene → Routing → Routing
-  up_to i S r = cross_all S va vb e 0 (take i trail) r
+module _ (m : ℕ) (corners : List ℕ) (points : List Float) (va vb e : ℕ) (walked : List ℕ) where
+  -- the crossings with the first i half-edges of a walk
+  abbrev pub up_to : ℕ → MeshScene → Routing → Routing
+  up_to i S r = cross_all S va vb e 0 (take i walked) r
 
   pub grown_start : (s : Stock) → Grown m corners points (up_to 0) s s
   unfolding cross_all
   grown_start s = record { beside = refl; grown = λ S r v. v }
 
-  pub grown_more : (i h : ℕ) (a b c : Stock) → i < length trail → h ≡ get_or trail i 0 → Grown m corners points (up_to i) a b
+  pub grown_more : (i h : ℕ) (a b c : Stock) → i < length walked → h ≡ get_or walked i 0 → Grown m corners points (up_to i) a b
       → ((j : ℕ) → Grown m corners points (λ S s. cross S va vb e j h s) b c) → Grown m corners points (up_to (i + 1)) a c
   grown_more i h a b c l q p f =
       record {
         beside = (f 0).beside ∙ p.beside;
-        grown = λ S r v. subst (λ (z : Routing). Stocked m corners z c) (sym (same S r)) ((f (length (take i trail))).grown S (up_to i (scene S) r) (p.grown S r v));
+        grown = λ S r v. subst (λ (z : Routing). Stocked m corners z c) (sym (same S r)) ((f (length (take i walked))).grown S (up_to i (scene S) r) (p.grown S r v));
       }
     where
-      scene : Scene → Scene
+      scene : MeshScene → MeshScene
       scene S = meshed corners S.twins points S
 
-      same : (S : Scene) (r : Routing) → up_to (i + 1) (scene S) r ≡ cross (scene S) va vb e (length (take i trail)) h (up_to i (scene S) r)
+      same : (S : MeshScene) (r : Routing) → up_to (i + 1) (scene S) r ≡ cross (scene S) va vb e (length (take i walked)) h (up_to i (scene S) r)
       same S r =
-          ap (λ (n : ℕ). up_to n (scene S) r) (add-one i) ∙ ap (λ (hs : List ℕ). cross_all (scene S) va vb e 0 hs r) (take-suc trail i 0 l)
-          ∙ ap (λ (z : ℕ). cross_all (scene S) va vb e 0 (take i trail ++ (z ∷ [])) r) (sym q) ∙ cross_more (scene S) va vb e 0 h (take i trail) r
-          ∙ ap (λ (n : ℕ). cross (scene S) va vb e n h (up_to i (scene S) r)) (zero-add (length (take i trail)))
+          ap (λ (n : ℕ). up_to n (scene S) r) (add-one i) ∙ ap (λ (hs : List ℕ). cross_all (scene S) va vb e 0 hs r) (take-suc walked i 0 l)
+          ∙ ap (λ (z : ℕ). cross_all (scene S) va vb e 0 (take i walked ++ (z ∷ [])) r) (sym q) ∙ cross_more (scene S) va vb e 0 h (take i walked) r
+          ∙ ap (λ (n : ℕ). cross (scene S) va vb e n h (up_to i (scene S) r)) (zero-add (length (take i walked)))
 
-  -- k channels then, as the loop of `store_trail` has it: x crossings before
-  unfoldable pub Trailed : ℕ → Stock → ℕ → ℕ → List ℕ → List ℕ → List Float → Type 0
-  Trailed i a x k ends numbers places = Grown m corners points (up_to i) a (stock k (x + i) ends numbers places)
+  -- k channels then, as the loop of `store_walked` has it: x crossings before
+  unfoldable pub WalkWritten : ℕ → Stock → ℕ → ℕ → List ℕ → List ℕ → List Float → Type 0
+  WalkWritten i a x k ends numbers places = Grown m corners points (up_to i) a (stock k (x + i) ends numbers places)
 
-  pub trail_start : (k x : ℕ) (ends numbers : List ℕ) (places : List Float) → Trailed 0 (stock k x ends numbers places) x k ends numbers places
-  unfolding Trailed
-  trail_start k x ends numbers places =
+  pub walked_start : (k x : ℕ) (ends numbers : List ℕ) (places : List Float) → WalkWritten 0 (stock k x ends numbers places) x k ends numbers places
+  unfolding WalkWritten
+  walked_start k x ends numbers places =
       subst (λ (n : ℕ). Grown m corners points (up_to 0) (stock k x ends numbers places) (stock k n ends numbers places)) (sym (add-zero x)) (grown_start (stock k x ends numbers places))
 
-  pub trail_more : (i x k k' : ℕ) (a : Stock) (ends numbers ends' numbers' : List ℕ) (places places' : List Float) → i < length trail → Trailed i a x k ends numbers places
-      → ((j : ℕ) → Grown m corners points (λ S s. cross S va vb e j (get_or trail i 0) s) (stock k (x + i) ends numbers places) (stock k' (x + i + 1) ends' numbers' places'))
-      → Trailed (i + 1) a x k' ends' numbers' places'
-  unfolding Trailed
-  trail_more i x k k' a ends numbers ends' numbers' places places' l p f =
+  pub walked_more : (i x k k' : ℕ) (a : Stock) (ends numbers ends' numbers' : List ℕ) (places places' : List Float) → i < length walked → WalkWritten i a x k ends numbers places
+      → ((j : ℕ) → Grown m corners points (λ S s. cross S va vb e j (get_or walked i 0) s) (stock k (x + i) ends numbers places) (stock k' (x + i + 1) ends' numbers' places'))
+      → WalkWritten (i + 1) a x k' ends' numbers' places'
+  unfolding WalkWritten
+  walked_more i x k k' a ends numbers ends' numbers' places places' l p f =
       let z : x + i + 1 ≡ x + (i + 1) = omega arith in
       subst (λ (n : ℕ). Grown m corners points (up_to (i + 1)) a (stock k' n ends' numbers' places')) z
-      (grown_more i (get_or trail i 0) a (stock k (x + i) ends numbers places) (stock k' (x + i + 1) ends' numbers' places') l refl p f)
+      (grown_more i (get_or walked i 0) a (stock k (x + i) ends numbers places) (stock k' (x + i + 1) ends' numbers' places') l refl p f)
 
-  pub trail_end : (i x k : ℕ) (a : Stock) (ends numbers : List ℕ) (places : List Float) → i ≡ length trail → Trailed i a x k ends numbers places
-      → Grown m corners points (λ S r. cross_all S va vb e 0 trail r) a (stock k (x + length trail) ends numbers places)
-  unfolding Trailed
-  trail_end i x k a ends numbers places q p =
-      subst (λ (t : List ℕ). Grown m corners points (λ S r. cross_all S va vb e 0 t r) a (stock k (x + length trail) ends numbers places)) (take_all (length trail) trail (omega arith))
+  pub walked_end : (i x k : ℕ) (a : Stock) (ends numbers : List ℕ) (places : List Float) → i ≡ length walked → WalkWritten i a x k ends numbers places
+      → Grown m corners points (λ S r. cross_all S va vb e 0 walked r) a (stock k (x + length walked) ends numbers places)
+  unfolding WalkWritten
+  walked_end i x k a ends numbers places q p =
+      subst (λ (t : List ℕ). Grown m corners points (λ S r. cross_all S va vb e 0 t r) a (stock k (x + length walked) ends numbers places)) (take_all (length walked) walked (omega arith))
       (subst (λ (j : ℕ). Grown m corners points (up_to j) a (stock k (x + j) ends numbers places)) q p)
 
-pub ruleset trailed = (trail_start, trail_more)
+pub ruleset walk_written = (walked_start, walked_more)

@@ -1,4 +1,4 @@
--- Marking the half-edges between two corners, as the loop of `mark_from` takes them in one stretch of the half-edges by corner. Assumes nothing.
+-- Marking the half-edges between two vertices, as the loop of `mark_from` takes them in one part of the half-edges by vertex. Assumes nothing.
 use mathlib.Core.Path.{◌≡◌, refl, sym, ap, ◌∙◌}
 use mathlib.Core.Bool.{Bool}
 use mathlib.Core.List.{List, [], ◌∷◌}
@@ -14,7 +14,7 @@ use Rattle.numbers.proofs.order.Laws.{keep_yes, keep_no}
 use Rattle.network.specs.Mesh.{at, end_at}
 use Rattle.channels.specs.Round.{round_of, first_at}
 use Rattle.channels.proofs.half_edges.Rounds.{own, length_round, around_first, around_over, round_out, round_read}
-use Rattle.routing.specs.Stages.Store.{edges_from, stamp}
+use Rattle.routing.specs.Stages.Store.{half_edges_from, stamp}
 
 keep_nil : (p : ℕ → Bool) → keep p [] ≡ []
 unfolding keep
@@ -29,14 +29,14 @@ module _ (corners : List ℕ) (m v w mark : ℕ) where
   rest p = keep ends_there (keep (own corners v) (drop p (round_of corners)))
 
   abbrev whole : List ℕ → List ℕ
-  whole l = stamp m mark (edges_from corners v w) l
+  whole l = stamp m mark (half_edges_from corners v w) l
 
   -- the loop has come to place p
   unfoldable pub Marking : List ℕ → List ℕ → ℕ → Type 0
   Marking before now p = (first_at corners v ≤ p) × (whole before ≡ stamp m mark (rest p) now)
 
   pub mark_start : (l : List ℕ) (p : ℕ) → p ≡ first_at corners v → Marking l l p
-  unfolding Marking edges_from
+  unfolding Marking half_edges_from
   mark_start l p e =
       (omega arith, ap (λ (hs : List ℕ). stamp m mark (keep ends_there hs) l) (around_first corners v) ∙ ap (λ (n : ℕ). stamp m mark (rest n) l) (sym e))
 
@@ -48,7 +48,7 @@ module _ (corners : List ℕ) (m v w mark : ℕ) where
     pub mark_end : length corners ≤ p → now ≡ whole before
     mark_end l = mark_none (round_out corners v p l)
 
-    -- the half-edge at place p of a list that begins with the half-edges by corner
+    -- the half-edge at place p of a list that begins with the half-edges by vertex
     module _ (l : List ℕ) (e : take (length corners) l ≡ round_of corners) (inside : p < length corners) where
       abbrev h : ℕ
       h = get_or l p 0

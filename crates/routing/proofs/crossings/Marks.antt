@@ -14,9 +14,9 @@ use Rattle.numbers.proofs.order.Merging.{le_or_lt}
 use Rattle.network.specs.Mesh.{at, end_at, low_at, high_at}
 use Rattle.network.proofs.mesh.Pigeons.{channels_few}
 use Rattle.network.proofs.mesh.Tests.{both}
-use Rattle.routing.specs.Route.{Scene, Keyed, no_channel, number_of, make_channel}
-use Rattle.routing.specs.Stages.Views.{Edged}
-use Rattle.routing.specs.Stages.Store.{edges_from, stamp, with_marks, mark_of, Marked}
+use Rattle.routing.specs.Route.{MeshScene, Keyed, no_channel, number_of, make_channel}
+use Rattle.routing.specs.Stages.Views.{HalfEdged}
+use Rattle.routing.specs.Stages.Store.{half_edges_from, stamp, with_marks, mark_of, Marked}
 use Rattle.routing.proofs.crossings.Numbers.{keyed, same_key, number_le, number_front, number_new, number_other, made_low, made_high}
 use Rattle.routing.proofs.crossings.Stamps.{Has, length_stamp, stamp_rest, stamp_beside, stamp_out, stamp_in, edges_from_has, edges_from_is}
 
@@ -28,7 +28,7 @@ mark_no : (k c : ℕ) → k ≤ c → mark_of k c ≡ 0
 unfolding mark_of
 mark_no k c h = ap (λ (t : Bool). pick t (suc c) 0) (le-ltb c k h)
 
--- two corners without direction are those of another pair, one way or the other
+-- two vertices without direction are those of another pair, one way or the other
 ways_round : (a b c d : ℕ) → min a b ≡ min c d → max a b ≡ max c d → ((a ≡ c) × (b ≡ d)) ⊎ ((a ≡ d) × (b ≡ c))
 ways_round a b c d p q = ⊎_elim (λ (h : a ≤ b). ⊎_elim (λ (k : c ≤ d). inl (omega arith, omega arith)) (λ (k : d < c). inr (omega arith, omega arith)) (le_or_lt c d)) (λ (h : b < a). ⊎_elim (λ (k : c ≤ d). inr (omega arith, omega arith)) (λ (k : d < c). inl (omega arith, omega arith)) (le_or_lt c d)) (le_or_lt a b)
 
@@ -42,7 +42,7 @@ module _ (m : ℕ) (corners : List ℕ) where
       where
         each : (c : ℕ) → c < length ks → (h : ℕ) × (h < length corners) × (number_at ks h ≡ c)
         each c l =
-            let e = v.edges c l in
+            let e = v.half_edges c l in
             let p : low_at corners (get_or ends (4 * (m + c) + 2) 0) ≡ (get_or ks c no_channel).low = e.low in
             let q : high_at corners (get_or ends (4 * (m + c) + 2) 0) ≡ (get_or ks c no_channel).high = e.high in
             let o : number_of (get_or ks c no_channel).low (get_or ks c no_channel).high ks ≡ c = v.own c l in
@@ -80,49 +80,49 @@ module _ (m : ℕ) (corners : List ℕ) where
     noted = set ends (4 * (m + k) + 2) h
 
     abbrev first : List ℕ
-    first = stamp m (suc k) (edges_from corners from to) noted
+    first = stamp m (suc k) (half_edges_from corners from to) noted
 
     pub with_beside : take (4 * m) (with_marks corners m h k ends) ≡ take (4 * m) ends
     unfolding with_marks
     with_beside =
-        stamp_beside m (suc k) (edges_from corners to from) first ∙ stamp_beside m (suc k) (edges_from corners from to) noted ∙ take-set-le (4 * m) ends (4 * (m + k) + 2) h (omega arith)
+        stamp_beside m (suc k) (half_edges_from corners to from) first ∙ stamp_beside m (suc k) (half_edges_from corners from to) noted ∙ take-set-le (4 * m) ends (4 * (m + k) + 2) h (omega arith)
 
     with_rest : (i : ℕ) → ((g : ℕ) → i ≡ 4 * (m + g) + 1 → ⊥) → get_or (with_marks corners m h k ends) i 0 ≡ get_or noted i 0
     unfolding with_marks
-    with_rest i n = stamp_rest m (suc k) (edges_from corners to from) first i n ∙ stamp_rest m (suc k) (edges_from corners from to) noted i n
+    with_rest i n = stamp_rest m (suc k) (half_edges_from corners to from) first i n ∙ stamp_rest m (suc k) (half_edges_from corners from to) noted i n
 
     module _ (g : ℕ) where
       abbrev place : ℕ
       place = 4 * (m + g) + 1
 
-      with_in : place < length ends → Has g (edges_from corners from to) ⊎ Has g (edges_from corners to from) → get_or (with_marks corners m h k ends) place 0 ≡ suc k
+      with_in : place < length ends → Has g (half_edges_from corners from to) ⊎ Has g (half_edges_from corners to from) → get_or (with_marks corners m h k ends) place 0 ≡ suc k
       unfolding with_marks
       with_in l e =
           let i : place < length noted = omega (arith, length-set ends (4 * (m + k) + 2) h) in
-          let j : place < length first = omega (arith, length_stamp m (suc k) (edges_from corners from to) noted) in
+          let j : place < length first = omega (arith, length_stamp m (suc k) (half_edges_from corners from to) noted) in
           ⊎_elim
-          (λ (z : count (λ x. eqb x g) (edges_from corners to from) ≤ 0).
-          stamp_out m (suc k) g (edges_from corners to from) first (λ y. omega arith)
-          ∙ stamp_in m (suc k) g (edges_from corners from to) noted i (⊎_elim (λ (y : Has g (edges_from corners from to)). y) (λ (y : Has g (edges_from corners to from)). absurd (omega arith)) e))
-          (λ (z : 0 < count (λ x. eqb x g) (edges_from corners to from)). stamp_in m (suc k) g (edges_from corners to from) first j z)
-          (le_or_lt (count (λ x. eqb x g) (edges_from corners to from)) 0)
+          (λ (z : count (λ x. eqb x g) (half_edges_from corners to from) ≤ 0).
+          stamp_out m (suc k) g (half_edges_from corners to from) first (λ y. omega arith)
+          ∙ stamp_in m (suc k) g (half_edges_from corners from to) noted i (⊎_elim (λ (y : Has g (half_edges_from corners from to)). y) (λ (y : Has g (half_edges_from corners to from)). absurd (omega arith)) e))
+          (λ (z : 0 < count (λ x. eqb x g) (half_edges_from corners to from)). stamp_in m (suc k) g (half_edges_from corners to from) first j z)
+          (le_or_lt (count (λ x. eqb x g) (half_edges_from corners to from)) 0)
 
-      with_out : (Has g (edges_from corners from to) → ⊥) → (Has g (edges_from corners to from) → ⊥) → get_or (with_marks corners m h k ends) place 0 ≡ get_or ends place 0
+      with_out : (Has g (half_edges_from corners from to) → ⊥) → (Has g (half_edges_from corners to from) → ⊥) → get_or (with_marks corners m h k ends) place 0 ≡ get_or ends place 0
       unfolding with_marks
       with_out p q =
-          stamp_out m (suc k) g (edges_from corners to from) first q ∙ stamp_out m (suc k) g (edges_from corners from to) noted p
+          stamp_out m (suc k) g (half_edges_from corners to from) first q ∙ stamp_out m (suc k) g (half_edges_from corners from to) noted p
           ∙ get_or-set_other ends (4 * (m + k) + 2) place h 0 (λ z. omega arith)
 
-      -- a marked half-edge has the two corners of h
-      has_key : Has g (edges_from corners from to) ⊎ Has g (edges_from corners to from) → (low_at corners g ≡ low_at corners h) × (high_at corners g ≡ high_at corners h)
+      -- a marked half-edge has the two vertices of h
+      has_key : Has g (half_edges_from corners from to) ⊎ Has g (half_edges_from corners to from) → (low_at corners g ≡ low_at corners h) × (high_at corners g ≡ high_at corners h)
       unfolding low_at high_at
       has_key e =
           ⊎_elim
-          (λ (y : Has g (edges_from corners from to)). let w = edges_from_is corners from to g y in (omega (arith, w.0, w.1), omega (arith, w.0, w.1)))
-          (λ (y : Has g (edges_from corners to from)). let w = edges_from_is corners to from g y in (omega (arith, w.0, w.1), omega (arith, w.0, w.1)))
+          (λ (y : Has g (half_edges_from corners from to)). let w = edges_from_is corners from to g y in (omega (arith, w.0, w.1), omega (arith, w.0, w.1)))
+          (λ (y : Has g (half_edges_from corners to from)). let w = edges_from_is corners to from g y in (omega (arith, w.0, w.1), omega (arith, w.0, w.1)))
           e
 
-      key_has : g < length corners → low_at corners g ≡ low_at corners h → high_at corners g ≡ high_at corners h → Has g (edges_from corners from to) ⊎ Has g (edges_from corners to from)
+      key_has : g < length corners → low_at corners g ≡ low_at corners h → high_at corners g ≡ high_at corners h → Has g (half_edges_from corners from to) ⊎ Has g (half_edges_from corners to from)
       unfolding low_at high_at
       key_has l p q =
           ⊎_elim
@@ -130,7 +130,7 @@ module _ (m : ℕ) (corners : List ℕ) where
           (λ (w : (at corners g ≡ to) × (end_at corners g ≡ from)). inr (edges_from_has corners to from g l w.0 w.1))
           (ways_round (at corners g) (end_at corners g) from to p q)
 
-  module _ (S : Scene) (ks : List Keyed) (ends : List ℕ) (h : ℕ) (v : Marked m corners ks ends) (inside : h < length corners) (room : 4 * (m + length corners) + 4 ≤ length ends) (none : number_at ks h ≡ length ks) where
+  module _ (S : MeshScene) (ks : List Keyed) (ends : List ℕ) (h : ℕ) (v : Marked m corners ks ends) (inside : h < length corners) (room : 4 * (m + length corners) + 4 ≤ length ends) (none : number_at ks h ≡ length ks) where
     abbrev k : ℕ
     k = length ks
 
@@ -164,13 +164,13 @@ module _ (m : ℕ) (corners : List ℕ) where
     new_edge : get_or list (4 * (m + k) + 2) 0 ≡ h
     new_edge = with_rest h k ends (4 * (m + k) + 2) (λ g z. omega arith) ∙ get_or-set_same ends (4 * (m + k) + 2) h 0 (omega (arith, marked_few ks ends v))
 
-    edges : (c : ℕ) → c < length more → Edged corners (get_or more c no_channel) (get_or list (4 * (m + c) + 2) 0)
-    edges c l = ⊎_elim (λ (z : k ≤ c). last c (omega (arith, long))) (λ (z : c < k). old c z) (le_or_lt k c)
+    half_edges : (c : ℕ) → c < length more → HalfEdged corners (get_or more c no_channel) (get_or list (4 * (m + c) + 2) 0)
+    half_edges c l = ⊎_elim (λ (z : k ≤ c). last c (omega (arith, long))) (λ (z : c < k). old c z) (le_or_lt k c)
       where
-        old : (c : ℕ) → c < k → Edged corners (get_or more c no_channel) (get_or list (4 * (m + c) + 2) 0)
-        old c z = rw (old_channel c z, old_edge c z) (v.edges c z)
+        old : (c : ℕ) → c < k → HalfEdged corners (get_or more c no_channel) (get_or list (4 * (m + c) + 2) 0)
+        old c z = rw (old_channel c z, old_edge c z) (v.half_edges c z)
 
-        last : (c : ℕ) → c ≡ k → Edged corners (get_or more c no_channel) (get_or list (4 * (m + c) + 2) 0)
+        last : (c : ℕ) → c ≡ k → HalfEdged corners (get_or more c no_channel) (get_or list (4 * (m + c) + 2) 0)
         last c e = rw (e, new_channel, new_edge) (record { inside = inside; low = sym low; high = sym high })
 
     own : (c : ℕ) → c < length more → number_of (get_or more c no_channel).low (get_or more c no_channel).high more ≡ c
@@ -222,4 +222,4 @@ module _ (m : ℕ) (corners : List ℕ) where
           (le_or_lt k (number_at ks g))
 
     pub marked_more : Marked m corners more list
-    marked_more = record { edges = edges; own = own; marks = marks }
+    marked_more = record { half_edges = half_edges; own = own; marks = marks }

@@ -9,7 +9,7 @@ use lib.Dec.{eqb}
 use lib.ListN.{length, get_or}
 use borrow.Author.Tests.{lt-ltb, le-ltb, eq-eqb, eqb-true}
 use Rattle.network.proofs.mesh.Tests.{both}
-use Rattle.routing.specs.Route.{Scene, Keyed, no_channel, number_of, make_channel, with_channel}
+use Rattle.routing.specs.Route.{MeshScene, Keyed, no_channel, number_of, make_channel, with_channel}
 
 -- whether a channel is between a and b
 abbrev pub keyed : ℕ → ℕ → Keyed → Bool
@@ -63,7 +63,7 @@ number_new a b ks k e h = omega (arith, number_past a b ks (k ∷ []) e, one_yes
 pub number_other : (a b : ℕ) (ks : List Keyed) (k : Keyed) → number_of a b ks ≡ length ks → keyed a b k ≡ false → number_of a b (ks ++ (k ∷ [])) ≡ suc (length ks)
 number_other a b ks k e h = omega (arith, number_past a b ks (k ∷ []) e, one_no a b k h)
 
--- the channel that has a number is between its corners
+-- the channel that has a number is between its vertices
 pub number_keyed : (a b : ℕ) (ks : List Keyed) → number_of a b ks < length ks
     → ((get_or ks (number_of a b ks) no_channel).low ≡ a) × ((get_or ks (number_of a b ks) no_channel).high ≡ b)
 unfolding number_of
@@ -78,7 +78,7 @@ number_keyed a b (k ∷ ks) h = go (keyed a b k) refl (number_keyed a b ks) h
     go false e f g = f (le_of_suc-le-suc g)
 
 -- the channels with one between a and b: either it was there, or it is the last
-module _ (S : Scene) (a b : ℕ) (ks : List Keyed) where
+module _ (S : MeshScene) (a b : ℕ) (ks : List Keyed) where
   pub with_old : number_of a b ks < length ks → with_channel S a b ks ≡ ks
   unfolding with_channel
   with_old h = ap (λ (t : Bool). cond t ks (ks ++ (make_channel S a b ∷ []))) (lt-ltb (number_of a b ks) (length ks) h)

@@ -1,4 +1,4 @@
--- The corners: occupied stations in order as they are written, and a station found among them by halving. Assumes nothing.
+-- The vertices: occupied stations in order as they are written, and a station found among them by halving. Assumes nothing.
 use mathlib.Core.Path.{◌≡◌, refl, sym, ap, ◌∙◌, subst}
 use mathlib.Core.Logic.{⊎_elim}
 use mathlib.Core.Bool.{Bool, true, cond}

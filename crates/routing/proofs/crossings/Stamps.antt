@@ -15,7 +15,7 @@ use Rattle.numbers.proofs.order.Laws.{count_nil, count_yes, count_no, count_at, 
 use Rattle.numbers.proofs.order.Merging.{le_or_lt}
 use Rattle.network.specs.Mesh.{at, end_at}
 use Rattle.channels.specs.Round.{around}
-use Rattle.routing.specs.Stages.Store.{edges_from, stamp}
+use Rattle.routing.specs.Stages.Store.{half_edges_from, stamp}
 
 -- g is one of a list
 abbrev pub Has : ℕ → List ℕ → Type 0
@@ -76,13 +76,13 @@ module _ (corners : List ℕ) (v w g : ℕ) where
   abbrev test : ℕ → Bool
   test j = pick (eqb (at corners j) v) (pick (eqb (end_at corners j) w) (eqb j g) false) false
 
-  counted : count (λ x. eqb x g) (edges_from corners v w) ≡ count test (up_from 0 (length corners))
-  unfolding edges_from around
+  counted : count (λ x. eqb x g) (half_edges_from corners v w) ≡ count test (up_from 0 (length corners))
+  unfolding half_edges_from around
   counted =
       count_keep (λ h. eqb (end_at corners h) w) (λ x. eqb x g) (keep (λ h. eqb (at corners h) v) (up_from 0 (length corners)))
       ∙ count_keep (λ h. eqb (at corners h) v) (λ j. pick (eqb (end_at corners j) w) (eqb j g) false) (up_from 0 (length corners))
 
-  pub edges_from_has : g < length corners → at corners g ≡ v → end_at corners g ≡ w → Has g (edges_from corners v w)
+  pub edges_from_has : g < length corners → at corners g ≡ v → end_at corners g ≡ w → Has g (half_edges_from corners v w)
   edges_from_has l p q =
       let i : g < length (up_from 0 (length corners)) = omega (arith, length_up 0 (length corners)) in
       let e : get_or (up_from 0 (length corners)) g 0 ≡ g = get_d_up 0 (length corners) g l ∙ zero-add g in
@@ -102,7 +102,7 @@ module _ (corners : List ℕ) (v w g : ℕ) where
       go true p false q c r z = absurd (true≢false (sym z))
       go false p b q c r z = absurd (true≢false (sym z))
 
-  pub edges_from_is : Has g (edges_from corners v w) → (at corners g ≡ v) × (end_at corners g ≡ w)
+  pub edges_from_is : Has g (half_edges_from corners v w) → (at corners g ≡ v) × (end_at corners g ≡ w)
   edges_from_is h =
       let z : 0 < count test (up_from 0 (length corners)) = omega (arith, counted) in
       let o = occurs test (up_from 0 (length corners)) z in

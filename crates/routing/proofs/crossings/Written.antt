@@ -8,8 +8,8 @@ use lib.ListN.{length, get_or, set, length-set}
 use lib.Seq.{get_or-set_same}
 use Rattle.numbers.proofs.order.Merging.{le_or_lt}
 use Rattle.numbers.proofs.order.Strides.{read_other, strided_other}
-use Rattle.routing.specs.Stages.Store.{SameRows, Wayed}
-use Rattle.routing.specs.declared.crossings.ways.Way.{Way}
+use Rattle.routing.specs.Stages.Store.{SameRows, HoldVertices}
+use Rattle.routing.specs.declared.crossings.line_vertices.LineVertices.{LineVertices}
 
 -- ---- ways
 
@@ -44,12 +44,12 @@ rows_then m a b c p q = record { from = q.from ∙ p.from; to = q.to ∙ p.to }
 pub rows_same : (m : ℕ) (a : List ℕ) → SameRows m a a
 rows_same m a = record { from = refl; to = refl }
 
-module _ (ways : ℕ → Way) (m : ℕ) (before : List ℕ) where
-  pub ways_more : (n : ℕ) (now : List ℕ) (w : Way) → 4 * n + 3 < length now → w ≡ ways n → Wayed ways m n before now
-      → Wayed ways m (n + 1) before (put_pair now n w.start w.end)
-  ways_more n now w l q v =
+module _ (ways : ℕ → LineVertices) (m : ℕ) (before : List ℕ) where
+  pub vertices_more : (n : ℕ) (now : List ℕ) (w : LineVertices) → 4 * n + 3 < length now → w ≡ ways n → HoldVertices ways m n before now
+      → HoldVertices ways m (n + 1) before (put_pair now n w.start w.end)
+  vertices_more n now w l q v =
       record {
         rows = rows_then m before now (put_pair now n w.start w.end) v.rows (pair_rows now n w.start w.end m);
-        starts = λ j h. ⊎_elim (λ (g : n ≤ j). let z : j ≡ n = omega arith in rw z (pair_first now n w.start w.end l ∙ ap (λ (x : Way). x.start) q)) (λ (g : j < n). pair_other now n w.start w.end j 2 (omega arith) (λ z. omega arith) ∙ v.starts j g) (le_or_lt n j);
-        ends = λ j h. ⊎_elim (λ (g : n ≤ j). let z : j ≡ n = omega arith in rw z (pair_second now n w.start w.end l ∙ ap (λ (x : Way). x.end) q)) (λ (g : j < n). pair_other now n w.start w.end j 3 (omega arith) (λ z. omega arith) ∙ v.ends j g) (le_or_lt n j);
+        starts = λ j h. ⊎_elim (λ (g : n ≤ j). let z : j ≡ n = omega arith in rw z (pair_first now n w.start w.end l ∙ ap (λ (x : LineVertices). x.start) q)) (λ (g : j < n). pair_other now n w.start w.end j 2 (omega arith) (λ z. omega arith) ∙ v.starts j g) (le_or_lt n j);
+        ends = λ j h. ⊎_elim (λ (g : n ≤ j). let z : j ≡ n = omega arith in rw z (pair_second now n w.start w.end l ∙ ap (λ (x : LineVertices). x.end) q)) (λ (g : j < n). pair_other now n w.start w.end j 3 (omega arith) (λ z. omega arith) ∙ v.ends j g) (le_or_lt n j);
       }

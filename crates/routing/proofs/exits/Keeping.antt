@@ -2,7 +2,7 @@
 use mathlib.Core.Path.{◌≡◌, refl, sym, ap, ◌∙◌, subst}
 use mathlib.Core.Logic.{⊎_elim}
 use mathlib.Core.List.{List}
-use mathlib.Core.Option.{Option}
+use Rattle.std.specs.Prelude.{Option}
 use Prim.Native.Nat.{ℕ, ◌+◌, ◌*◌, ◌≤◌, ◌<◌}
 use native.Mathlib.Omega.{arith}
 use lib.IntN.{ℤ}
@@ -20,7 +20,7 @@ use Rattle.network.proofs.Views.{put_point, point_same, point_other}
 use Rattle.stations.specs.declared.measures.Measures.{Measures}
 use Rattle.runs.specs.Stages.Views.{exit_of, first_exit, second_exit}
 use Rattle.routing.specs.Route as Route
-use Rattle.routing.specs.Stages.Views.{Grid, grid, exit_at, line_between, line_for, line_in}
+use Rattle.routing.specs.Stages.Views.{TracedLists, grid, exit_at, line_between, line_for, line_in}
 use Rattle.routing.specs.declared.exits.Exits.{Exits}
 use Rattle.routing.specs.Stages.Exits.{exits_of, exits_in, Exited}
 
@@ -31,7 +31,7 @@ not_a_number = refl
 -- ---- in a list, from branch to branch
 
 module _ (sub : List ℕ) (from to : List ℤ) (service : List ℕ) (measures : Measures) (ends : List ℕ) (blocks frames : List Float) where
-  abbrev pub grid_by : List Float → Grid
+  abbrev pub grid_by : List Float → TracedLists
   grid_by places = grid sub from to service measures ends blocks places frames
 
   -- the first e branches' exits stand in the list l, which was l₀
@@ -116,7 +116,7 @@ pub ruleset exited = (exited_none, exited_kept, exited_more, exited_first, exite
 -- ---- by rows alone: whatever routes are written beside them
 
 module _ (sub : List ℕ) (from to : List ℤ) (service : List ℕ) (measures : Measures) (blocks places frames : List Float) (before behind : List ℕ) where
-  abbrev with : List ℕ → Grid
+  abbrev with : List ℕ → TracedLists
   with ends = grid sub from to service measures ends blocks places frames
 
   line_for_lem : (ra rb : ℕ) (x : Kind) → line_for (with behind) ra rb x ≡ line_for (with before) ra rb x
@@ -141,6 +141,6 @@ module _ (sub : List ℕ) (from to : List ℤ) (service : List ℕ) (measures : 
     unfolding exits_in
     exited_rows E =
         record {
-          first = λ e h. E.first e h ∙ ap (λ (l : Option Route.Line). (exits_of l).first) (sym (line_same e h));
-          second = λ e h. E.second e h ∙ ap (λ (l : Option Route.Line). (exits_of l).second) (sym (line_same e h));
+          first = λ e h. E.first e h ∙ ap (λ (l : Option Route.RoutedLine). (exits_of l).first) (sym (line_same e h));
+          second = λ e h. E.second e h ∙ ap (λ (l : Option Route.RoutedLine). (exits_of l).second) (sym (line_same e h));
         }

@@ -3,7 +3,7 @@ use mathlib.Core.Path.{◌≡◌, refl, sym, subst}
 use mathlib.Core.Logic.{◌⊎◌, inl, inr, ⊎_elim}
 use mathlib.Core.Bool.{Bool, true, false, cond}
 use mathlib.Core.List.{List, [], ◌∷◌, ◌++◌}
-use mathlib.Core.Option.{Option, none, some}
+use Rattle.std.specs.Prelude.{Option, Some, None}
 use Prim.Native.Nat.{ℕ, zero, suc, ◌+◌, ◌≤◌, ◌<◌}
 use native.Mathlib.Nat.{min-eq_left, min-eq_right, max-eq_left, max-eq_right, le_of_lt}
 use native.Mathlib.Omega.{arith}
@@ -21,17 +21,17 @@ use Rattle.plane.proofs.geometry.PointSizes.{Near}
 use Rattle.channels.proofs.spacing.SpaceSizes.{Ready}
 use Rattle.channels.proofs.spacing.Crossed.{Stands, crossed_ready, crossed_ready_back}
 use Rattle.network.specs.Mesh.{next, at, end_at, low_at, high_at}
-use Rattle.channels.specs.Trace.{crosses_edge, traced}
+use Rattle.channels.specs.Trace.{crosses_half_edge, traced}
 use Rattle.channels.proofs.walk.Crossed.{traced_over}
 use Rattle.plane.specs.Plane.{box_in}
-use Rattle.routing.specs.Route.{Scene, Line, Routing, Keyed, Crossing, half, no_channel, no_crossing, vertex_of, number_of, station_at, centre_at, make_channel, with_channel, crossing_of, cross, cross_all, add_walk, add_branch, traced_to, routing}
+use Rattle.routing.specs.Route.{MeshScene, RoutedLine, Routing, Keyed, Crossing, half, no_channel, no_crossing, vertex_of, number_of, station_at, centre_at, make_channel, with_channel, crossing_of, cross, cross_all, add_walk, add_branch, traced_to, routing}
 use Rattle.routing.proofs.rounds.Routed.{by_more}
 
 half_most : AtMost 1074 half
 unfolding most_test is_finite of_bits of_fields odd
 half_most = most_lit 1074 half tt
 
--- the lower and the higher corner of a half-edge are its start and its end, or its end and its start
+-- the lower and the higher vertex of a half-edge are its start and its end, or its end and its start
 low_high : (corners : List ℕ) (h : ℕ) → ((low_at corners h ≡ at corners h) × (high_at corners h ≡ end_at corners h)) ⊎ ((low_at corners h ≡ end_at corners h) × (high_at corners h ≡ at corners h))
 unfolding low_at high_at
 low_high corners h =
@@ -41,39 +41,39 @@ low_high corners h =
     (le_or_lt (at corners h) (end_at corners h))
 
 -- ---- what a scene's stations and lines are to have, for exits within 2 ^ (k - 1074)
-pub record Lined (k : ℕ) (S : Scene) (l : Line) : Type 0 where
+pub record Lined (k : ℕ) (S : MeshScene) (l : RoutedLine) : Type 0 where
   pub start : vertex_of l.sa S.occupied < length S.occupied
   pub end : vertex_of l.sb S.occupied < length S.occupied
   pub exit0 : Near k l.exit0
   pub exit1 : Near k l.exit1
 
-pub record Firm (k : ℕ) (S : Scene) : Type 0 where
+pub record Firm (k : ℕ) (S : MeshScene) : Type 0 where
   pub stands : (v : ℕ) → v < length S.occupied → Stands (centre_at S v) (box_in S.boxes (station_at S v)) (get_or S.scales (station_at S v) nan)
-  pub gap : AtMost (1074 + 46) S.gap
-  pub clear : T (plus S.gap)
+  pub clearance : AtMost (1074 + 46) S.clearance
+  pub clear : T (plus S.clearance)
   pub corners : (h : ℕ) → h < length S.corners → at S.corners h < length S.occupied
-  pub lines : (e : ℕ) (l : Line) → get_or S.lines e none ≡ some l → Lined k S l
+  pub lines : (e : ℕ) (l : RoutedLine) → get_or S.lines e None ≡ Some l → Lined k S l
 
 -- ---- what its channels and crossings then have
-module _ (S : Scene) where
+module _ (S : MeshScene) where
   pub record Open (c : Keyed) : Type 0 where
     pub low : c.low < length S.occupied
     pub high : c.high < length S.occupied
-    pub ready : Ready (1074 + 720) c.range
+    pub ready : Ready (1074 + 720) c.channel
 
   pub record Own (x : Crossing) : Type 0 where
-    pub line : Line
-    pub is : get_or S.lines x.branch none ≡ some line
-    pub place : AtMost 1074 x.place
+    pub line : RoutedLine
+    pub is : get_or S.lines x.branch None ≡ Some line
+    pub place : AtMost 1074 x.fraction
 
   pub record Fine (r : Routing) : Type 0 where
     pub channels : (c : ℕ) → c < length r.channels → Open (get_or r.channels c no_channel)
     pub crossings : (x : ℕ) → x < length r.crossings → Own (get_or r.crossings x no_crossing)
 
   module _ (k : ℕ) (F : Firm k S) where
-    -- every corner is an occupied station's, past the mesh's end the first one's
-    corner_in : 0 < length S.occupied → (h : ℕ) → at S.corners h < length S.occupied
-    corner_in p h =
+    -- every vertex is an occupied station's, past the mesh's end the first one's
+    vertex_in : 0 < length S.occupied → (h : ℕ) → at S.corners h < length S.occupied
+    vertex_in p h =
         ⊎_elim
         (λ (l : length S.corners ≤ h). subst (λ (v : ℕ). v < length S.occupied) (sym (get_or-eq_default S.corners 0 {n = h} l)) p)
         (λ (l : h < length S.corners). F.corners h l)
@@ -81,35 +81,35 @@ module _ (S : Scene) where
 
     end_in : 0 < length S.occupied → (h : ℕ) → end_at S.corners h < length S.occupied
     unfolding end_at
-    end_in p h = corner_in p (next h)
+    end_in p h = vertex_in p (next h)
 
     module _ (va vb : ℕ) (A : va < length S.occupied) (B : vb < length S.occupied) where
       some_in : 0 < length S.occupied
       some_in = omega arith
 
       abbrev Known : ℕ → ℕ → Type 0
-      Known a b = (a < length S.occupied) × (b < length S.occupied) × Ready (1074 + 720) (make_channel S a b).range
+      Known a b = (a < length S.occupied) × (b < length S.occupied) × Ready (1074 + 720) (make_channel S a b).channel
 
       -- the channel of a half-edge that the line crosses, counted from its start or from its end
-      forth : (h : ℕ) → crosses_edge S.corners (centre_at S) va vb h ≡ true → Known (at S.corners h) (end_at S.corners h)
-      unfolding make_channel crosses_edge
+      forth : (h : ℕ) → crosses_half_edge S.corners (centre_at S) va vb h ≡ true → Known (at S.corners h) (end_at S.corners h)
+      unfolding make_channel crosses_half_edge
       forth h e =
-          let i = corner_in some_in h in
+          let i = vertex_in some_in h in
           let j = end_in some_in h in
           let U = F.stands (at S.corners h) i in
           let W = F.stands (end_at S.corners h) j in
-          (i, j, crossed_ready (centre_at S va) (centre_at S vb) (centre_at S (at S.corners h)) (centre_at S (end_at S.corners h)) _ _ _ _ S.gap (F.stands va A).place (F.stands vb B).place U W F.gap F.clear e)
+          (i, j, crossed_ready (centre_at S va) (centre_at S vb) (centre_at S (at S.corners h)) (centre_at S (end_at S.corners h)) _ _ _ _ S.clearance (F.stands va A).place (F.stands vb B).place U W F.clearance F.clear e)
 
-      back : (h : ℕ) → crosses_edge S.corners (centre_at S) va vb h ≡ true → Known (end_at S.corners h) (at S.corners h)
-      unfolding make_channel crosses_edge
+      back : (h : ℕ) → crosses_half_edge S.corners (centre_at S) va vb h ≡ true → Known (end_at S.corners h) (at S.corners h)
+      unfolding make_channel crosses_half_edge
       back h e =
-          let i = corner_in some_in h in
+          let i = vertex_in some_in h in
           let j = end_in some_in h in
           let U = F.stands (at S.corners h) i in
           let W = F.stands (end_at S.corners h) j in
-          (j, i, crossed_ready_back (centre_at S va) (centre_at S vb) (centre_at S (at S.corners h)) (centre_at S (end_at S.corners h)) _ _ _ _ S.gap (F.stands va A).place (F.stands vb B).place U W F.gap F.clear e)
+          (j, i, crossed_ready_back (centre_at S va) (centre_at S vb) (centre_at S (at S.corners h)) (centre_at S (end_at S.corners h)) _ _ _ _ S.clearance (F.stands va A).place (F.stands vb B).place U W F.clearance F.clear e)
 
-      known : (h : ℕ) → crosses_edge S.corners (centre_at S) va vb h ≡ true → Known (low_at S.corners h) (high_at S.corners h)
+      known : (h : ℕ) → crosses_half_edge S.corners (centre_at S) va vb h ≡ true → Known (low_at S.corners h) (high_at S.corners h)
       known h e = go (low_at S.corners h) (high_at S.corners h) (low_high S.corners h)
         where
           go : (a b : ℕ) → ((a ≡ at S.corners h) × (b ≡ end_at S.corners h)) ⊎ ((a ≡ end_at S.corners h) × (b ≡ at S.corners h)) → Known a b
@@ -128,7 +128,7 @@ module _ (S : Scene) where
           go true = f
           go false = by_more ks (make_channel S a b) no_channel (λ i c. Open c) f (open_made a b q)
 
-      module _ (e : ℕ) (l : Line) (L : get_or S.lines e none ≡ some l) where
+      module _ (e : ℕ) (l : RoutedLine) (L : get_or S.lines e None ≡ Some l) where
         own_made : (i h : ℕ) (ks : List Keyed) → Known (low_at S.corners h) (high_at S.corners h) → Own (crossing_of S va vb e i h ks)
         unfolding crossing_of
         own_made i h ks q = record {
@@ -139,7 +139,7 @@ module _ (S : Scene) where
               (F.stands va A).place (F.stands vb B).place (F.stands (low_at S.corners h) q.0).place (F.stands (high_at S.corners h) q.1).place half_most;
         }
 
-        cross_fine : (i h : ℕ) (r : Routing) → crosses_edge S.corners (centre_at S) va vb h ≡ true → Fine r → Fine (cross S va vb e i h r)
+        cross_fine : (i h : ℕ) (r : Routing) → crosses_half_edge S.corners (centre_at S) va vb h ≡ true → Fine r → Fine (cross S va vb e i h r)
         unfolding cross
         cross_fine i h r c f =
             let q = known h c in
@@ -148,25 +148,25 @@ module _ (S : Scene) where
               crossings = by_more r.crossings (crossing_of S va vb e i h r.channels) no_crossing (λ j x. Own x) f.crossings (own_made i h r.channels q);
             }
 
-        all_fine : (i : ℕ) (hs : List ℕ) (r : Routing) → All (λ h. crosses_edge S.corners (centre_at S) va vb h ≡ true) hs → Fine r → Fine (cross_all S va vb e i hs r)
+        all_fine : (i : ℕ) (hs : List ℕ) (r : Routing) → All (λ h. crosses_half_edge S.corners (centre_at S) va vb h ≡ true) hs → Fine r → Fine (cross_all S va vb e i hs r)
         unfolding cross_all
         all_fine i [] r a f = f
         all_fine i (h ∷ hs) r a f = all_fine (suc i) hs (cross S va vb e i h r) a.1 (cross_fine i h r a.0 f)
 
-    branch_fine : (e : ℕ) (o : Option Line) (r : Routing) → get_or S.lines e none ≡ o → Fine r → Fine (add_branch S e o r)
+    branch_fine : (e : ℕ) (o : Option RoutedLine) (r : Routing) → get_or S.lines e None ≡ o → Fine r → Fine (add_branch S e o r)
     unfolding add_branch add_walk
-    branch_fine e none r E f = record { channels = f.channels; crossings = f.crossings }
-    branch_fine e (some l) r E f =
+    branch_fine e None r E f = record { channels = f.channels; crossings = f.crossings }
+    branch_fine e (Some l) r E f =
         let va = vertex_of l.sa S.occupied in
         let vb = vertex_of l.sb S.occupied in
         let K = F.lines e l E in
-        let z = all_fine va vb K.start K.end e l E 0 (traced S.corners S.twins (centre_at S) va vb).edges r (traced_over S.corners S.twins (centre_at S) va vb) f in
+        let z = all_fine va vb K.start K.end e l E 0 (traced S.corners S.twins (centre_at S) va vb).half_edges r (traced_over S.corners S.twins (centre_at S) va vb) f in
         record { channels = z.channels; crossings = z.crossings }
 
     to_fine : (e : ℕ) → Fine (traced_to S e)
     unfolding traced_to
     to_fine zero = record { channels = λ c h. absurd (omega arith); crossings = λ x h. absurd (omega arith) }
-    to_fine (suc e) = branch_fine e (get_or S.lines e none) (traced_to S e) refl (to_fine e)
+    to_fine (suc e) = branch_fine e (get_or S.lines e None) (traced_to S e) refl (to_fine e)
 
     pub routing_fine : Fine (routing S)
     unfolding routing

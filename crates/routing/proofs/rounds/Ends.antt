@@ -10,9 +10,9 @@ use Rattle.numbers.specs.Table.{table}
 use Rattle.numbers.proofs.order.Tables.{table_ext}
 use Rattle.network.specs.Views.{points_in}
 use Rattle.stations.specs.declared.measures.Measures.{Measures}
-use Rattle.routing.specs.Route.{Scene, Routing, point_of, rounds_to, routing}
+use Rattle.routing.specs.Route.{MeshScene, Routing, point_of, rounds_to, routing}
 use Rattle.routing.specs.Stages.Views.{grid, scene_in}
-use Rattle.routing.specs.Stages.RoundLists.{RoundLists, held, edge_in, point_held, rounds_in, Cornered, Ranged, Entered}
+use Rattle.routing.specs.Stages.RoundLists.{RoundLists, held, half_edge_in, point_held, rounds_in, Cornered, Ranged, Entered}
 use Rattle.channels.specs.Stages.Grouped.{Grouped}
 use Rattle.routing.proofs.rounds.Meaning.{Means, point_is, rounds_are}
 use Rattle.routing.proofs.rounds.Holding.{cornered, means}
@@ -21,7 +21,7 @@ module _ (sub : List ℕ) (from to : List ℤ) (service : List ℕ) (measures : 
     (corners twins numbers : List ℕ) (along : List Float) (channels crossings : ℕ)
     (entered : Entered (grid sub from to service measures ends blocks places frames) k c stations centres corners twins numbers along channels crossings)
     (ends' numbers' : List ℕ) (centres' : List Float) (grouped : Grouped (length from) channels crossings ends numbers ends' numbers') where
-  abbrev S' : Scene
+  abbrev S' : MeshScene
   S' = scene_in (grid sub from to service measures ends blocks places frames) k c stations centres corners twins
 
   abbrev R' : Routing
@@ -35,7 +35,7 @@ module _ (sub : List ℕ) (from to : List ℤ) (service : List ℕ) (measures : 
       subst (λ (t : ℕ). Grouped (length from) t (length R'.crossings) ends numbers ends' numbers') entered.channels_are
       (subst (λ (t : ℕ). Grouped (length from) channels t ends numbers ends' numbers') entered.crossings_are grouped)
 
-  pub cornered_all : (d : ℕ) → d < channels → Cornered frames stations corners c (edge_in (length from) ends' d)
+  pub cornered_all : (d : ℕ) → d < channels → Cornered frames stations corners c (half_edge_in (length from) ends' d)
   cornered_all d h =
       cornered sub from to service measures ends blocks places frames k c stations centres corners twins numbers along ends' numbers' centres' entered.mesh entered.exits entered.boxes entered.occupied entered.stored grouped_all d
       (subst (λ (t : ℕ). d < t) entered.channels_are h)

@@ -2,7 +2,7 @@
 use mathlib.Core.Path.{◌≡◌, refl, sym, ap, ◌∙◌, subst}
 use mathlib.Core.Bool.{true, false}
 use mathlib.Core.List.{List, map}
-use mathlib.Core.Option.{Option, none, some}
+use Rattle.std.specs.Prelude.{Option, Some, None}
 use Prim.Native.Nat.{ℕ, suc, ◌+◌, ◌-◌, ◌*◌, ◌≤◌, ◌<◌}
 use native.Mathlib.Omega.{arith}
 use lib.Dec.{eqb}
@@ -19,11 +19,11 @@ use Rattle.network.proofs.mesh.Meshes.{mesh_sound, next_in}
 use Rattle.network.proofs.Views.{get_d_boxes}
 use Rattle.stations.specs.declared.measures.Measures.{Measures}
 use Rattle.routing.specs.Route as Route
-use Rattle.routing.specs.Route.{Scene, Routing, Keyed, Crossing, Path, no_crossing, no_path, routing, make_channel, crossing_at, channel_at, path_at, centre_at, station_at, members}
+use Rattle.routing.specs.Route.{MeshScene, Routing, Keyed, Crossing, KeptCrossings, no_crossing, no_kept_crossings, routing, make_channel, crossing_at, channel_at, kept_crossings_at, centre_at, station_at, members}
 use Rattle.runs.specs.Stages.Views.{first_exit, second_exit}
-use Rattle.routing.specs.Stages.Views.{Grid, grid, line_in, lines_in, scene_in, Edged, Stored}
-use Rattle.routing.specs.Gap.{gap_of}
-use Rattle.routing.specs.Stages.RoundLists.{RoundLists, held, edge_in, low_in, high_in, station_in, range_in, Cornered, Ranged}
+use Rattle.routing.specs.Stages.Views.{TracedLists, grid, line_in, lines_in, scene_in, HalfEdged, Stored}
+use Rattle.routing.specs.Clearance.{clearance_of}
+use Rattle.routing.specs.Stages.RoundLists.{RoundLists, held, half_edge_in, low_in, high_in, station_in, channel_between, Cornered, Ranged}
 use Rattle.routing.specs.Stages.Exits.{exits_of, exits_in, Exited}
 use Rattle.channels.specs.Stages.Grouped.{start_in, member_in, Grouped}
 use Rattle.routing.proofs.rounds.Routed.{Traced, routed}
@@ -35,10 +35,10 @@ column f d c o k l bs e i h = sym (get_d_strided c o 0 k i l 0 h) ∙ ap (λ (t 
 
 module _ (sub : List ℕ) (from to : List ℤ) (service : List ℕ) (measures : Measures) (ends : List ℕ) (blocks places frames : List Float) (k c : ℕ) (stations : List ℕ) (centres : List Float)
     (corners twins numbers : List ℕ) (along : List Float) (ends' numbers' : List ℕ) (centres' : List Float) where
-  abbrev pub G : Grid
+  abbrev pub G : TracedLists
   G = grid sub from to service measures ends blocks places frames
 
-  abbrev pub S : Scene
+  abbrev pub S : MeshScene
   S = scene_in G k c stations centres corners twins
 
   abbrev pub R : Routing
@@ -54,9 +54,9 @@ module _ (sub : List ℕ) (from to : List ℤ) (service : List ℕ) (measures : 
     unfolding scene_in lines_in
     lines_long = length_table (line_in G) (length from)
 
-    line_at : (b : ℕ) → b < length from → get_or S.lines b none ≡ line_in G b
+    line_at : (b : ℕ) → b < length from → get_or S.lines b None ≡ line_in G b
     unfolding scene_in lines_in
-    line_at b h = get_d_table (line_in G) (length from) b none h
+    line_at b h = get_d_table (line_in G) (length from) b None h
 
     all : Traced S (length S.lines) R
     all = routed S
@@ -64,28 +64,28 @@ module _ (sub : List ℕ) (from to : List ℤ) (service : List ℕ) (measures : 
     within : (x : ℕ) → x < length R.crossings → (crossing_at S R x).branch < length from
     within x h = let z = (all.old x h).branch in omega (arith, lines_long)
 
-    first_at : (b : ℕ) → b < length from → get_or ends' (4 * b + 2) 0 ≡ (path_at S R b).first
-    first_at b h = column (λ (p : Path). p.first) no_path 4 2 (length from) ends' R.paths (grouped.rows 2 (omega arith) (length from) ∙ stored.firsts) b h ∙ get_or-map (λ (p : Path). p.first) R.paths b no_path
+    first_at : (b : ℕ) → b < length from → get_or ends' (4 * b + 2) 0 ≡ (kept_crossings_at S R b).first
+    first_at b h = column (λ (p : KeptCrossings). p.first) no_kept_crossings 4 2 (length from) ends' R.kept_crossings (grouped.rows 2 (omega arith) (length from) ∙ stored.firsts) b h ∙ get_or-map (λ (p : KeptCrossings). p.first) R.kept_crossings b no_kept_crossings
 
-    count_at : (b : ℕ) → b < length from → get_or ends' (4 * b + 3) 0 ≡ (path_at S R b).count
-    count_at b h = column (λ (p : Path). p.count) no_path 4 3 (length from) ends' R.paths (grouped.counts ∙ stored.counts) b h ∙ get_or-map (λ (p : Path). p.count) R.paths b no_path
+    count_at : (b : ℕ) → b < length from → get_or ends' (4 * b + 3) 0 ≡ (kept_crossings_at S R b).count
+    count_at b h = column (λ (p : KeptCrossings). p.count) no_kept_crossings 4 3 (length from) ends' R.kept_crossings (grouped.counts ∙ stored.counts) b h ∙ get_or-map (λ (p : KeptCrossings). p.count) R.kept_crossings b no_kept_crossings
 
     -- ---- exits
-    first_of : (l : Option Route.Line) → (exits_of l).first ≡ Route.exit_of S R false l
+    first_of : (l : Option Route.RoutedLine) → (exits_of l).first ≡ Route.exit_of S R false l
     unfolding exits_of Route.exit_of
-    first_of none = refl
-    first_of (some l) = refl
+    first_of None = refl
+    first_of (Some l) = refl
 
-    second_of : (l : Option Route.Line) → (exits_of l).second ≡ Route.exit_of S R true l
+    second_of : (l : Option Route.RoutedLine) → (exits_of l).second ≡ Route.exit_of S R true l
     unfolding exits_of Route.exit_of
-    second_of none = refl
-    second_of (some l) = refl
+    second_of None = refl
+    second_of (Some l) = refl
 
-    first_is : (b : ℕ) → b < length from → first_exit (length sub) places b ≡ Route.exit_of S R false (get_or S.lines b none)
+    first_is : (b : ℕ) → b < length from → first_exit (length sub) places b ≡ Route.exit_of S R false (get_or S.lines b None)
     unfolding exits_in
     first_is b h = exited.first b h ∙ first_of (line_in G b) ∙ ap (Route.exit_of S R false) (sym (line_at b h))
 
-    second_is : (b : ℕ) → b < length from → second_exit (length sub) places b ≡ Route.exit_of S R true (get_or S.lines b none)
+    second_is : (b : ℕ) → b < length from → second_exit (length sub) places b ≡ Route.exit_of S R true (get_or S.lines b None)
     unfolding exits_in
     second_is b h = exited.second b h ∙ second_of (line_in G b) ∙ ap (Route.exit_of S R true) (sym (line_at b h))
 
@@ -112,18 +112,18 @@ module _ (sub : List ℕ) (from to : List ℤ) (service : List ℕ) (measures : 
     -- ---- channels
     module _ (d : ℕ) (g : d < length R.channels) where
       abbrev h : ℕ
-      h = edge_in (length from) ends' d
+      h = half_edge_in (length from) ends' d
 
       h_is : h ≡ get_or ends (4 * (length from + d) + 2) 0
-      unfolding edge_in
+      unfolding half_edge_in
       h_is =
           let n = suc (length from + d) in
           sym (get_d_strided 4 2 0 n (length from + d) ends' 0 (omega arith))
           ∙ ap (λ (t : List ℕ). get_or t (length from + d) 0) (grouped.rows 2 (omega arith) n)
           ∙ get_d_strided 4 2 0 n (length from + d) ends 0 (omega arith)
 
-      edged : Edged corners (channel_at S R d) h
-      edged = subst (Edged corners (channel_at S R d)) (sym h_is) (stored.edges d g)
+      edged : HalfEdged corners (channel_at S R d) h
+      edged = subst (HalfEdged corners (channel_at S R d)) (sym h_is) (stored.half_edges d g)
 
       low_below : low_at corners h < c
       unfolding low_at
@@ -152,7 +152,7 @@ module _ (sub : List ℕ) (from to : List ℤ) (service : List ℕ) (measures : 
         unfolding high_in
         high_is = centre_at_lem (high_at corners h) high_below ∙ ap (centre_at S) edged.high
 
-      -- ---- a corner's station, its box and scale
+      -- ---- a vertex's station, its box and scale
       station_is : (v : ℕ) → v < c → station_in stations v ≡ station_at S v
       unfolding station_in scene_in
       station_is v l = sym (get_d_strided 2 1 0 c v stations 0 l)
@@ -165,27 +165,27 @@ module _ (sub : List ℕ) (from to : List ℤ) (service : List ℕ) (measures : 
       unfolding scene_in
       scale_is s l = sym (get_d_strided 3 2 nan k s blocks nan l)
 
-      corner_is : (v w : ℕ) → v < c → v ≡ w → (box_at frames (station_in stations v) ≡ box_in S.boxes (station_at S w)) × (get_or blocks (3 * station_in stations v + 2) nan ≡ get_or S.scales (station_at S w) nan)
-      corner_is v w l e =
+      vertex_is : (v w : ℕ) → v < c → v ≡ w → (box_at frames (station_in stations v) ≡ box_in S.boxes (station_at S w)) × (get_or blocks (3 * station_in stations v + 2) nan ≡ get_or S.scales (station_at S w) nan)
+      vertex_is v w l e =
           let s : station_in stations v ≡ station_at S w = station_is v l ∙ ap (station_at S) e in
           let b = occupied v l in
           (box_is (station_in stations v) b ∙ ap (box_in S.boxes) s, scale_is (station_in stations v) b ∙ ap (λ (t : ℕ). get_or S.scales t nan) s)
 
-      range_by : (a b : ℕ) → a ≡ (channel_at S R d).low → b ≡ (channel_at S R d).high → (make_channel S a b).range ≡ (channel_at S R d).range
-      range_by a b p q = rw (p, q) (ap (λ (t : Keyed). t.range) (sym (all.made.each d g)))
+      range_by : (a b : ℕ) → a ≡ (channel_at S R d).low → b ≡ (channel_at S R d).high → (make_channel S a b).channel ≡ (channel_at S R d).channel
+      range_by a b p q = rw (p, q) (ap (λ (t : Keyed). t.channel) (sym (all.made.each d g)))
 
-      gap_is : gap_of measures.unit ≡ S.gap
+      clearance_is : clearance_of measures.unit ≡ S.clearance
       unfolding scene_in
-      gap_is = refl
+      clearance_is = refl
 
-      range_is : range_in measures.unit blocks frames stations centres corners h ≡ (channel_at S R d).range
-      unfolding range_in make_channel
+      range_is : channel_between measures.unit blocks frames stations centres corners h ≡ (channel_at S R d).channel
+      unfolding channel_between make_channel
       range_is =
-          let l = corner_is (low_at corners h) (low_at corners h) low_below refl in
-          let u = corner_is (high_at corners h) (high_at corners h) high_below refl in
+          let l = vertex_is (low_at corners h) (low_at corners h) low_below refl in
+          let u = vertex_is (high_at corners h) (high_at corners h) high_below refl in
           let p : low_in corners centres h ≡ centre_at S (low_at corners h) = low_is centres refl ∙ ap (centre_at S) (sym edged.low) in
           let q : high_in corners centres h ≡ centre_at S (high_at corners h) = high_is centres refl ∙ ap (centre_at S) (sym edged.high) in
-          rw (p, q, l.0, u.0, l.1, u.1, gap_is) (range_by (low_at corners h) (high_at corners h) edged.low edged.high)
+          rw (p, q, l.0, u.0, l.1, u.1, clearance_is) (range_by (low_at corners h) (high_at corners h) edged.low edged.high)
 
       pub cornered : Cornered frames stations corners c h
       cornered =
@@ -207,7 +207,7 @@ module _ (sub : List ℕ) (from to : List ℤ) (service : List ℕ) (measures : 
             channel = channel_is;
             branch = branch_is;
             known = λ x h. all.numbered x (omega arith);
-            step = λ x h. rw (first_at (crossing_at S R x).branch (within x h)) (all.old x h).step;
+            on_line = λ x h. rw (first_at (crossing_at S R x).branch (within x h)) (all.old x h).on_line;
             count = λ x h. count_at (crossing_at S R x).branch (within x h);
             inside =
                 λ x h. rw (first_at (crossing_at S R x).branch (within x h)) (all.inside (crossing_at S R x).branch (let z = within x h in omega (arith, lines_long)));
@@ -216,5 +216,5 @@ module _ (sub : List ℕ) (from to : List ℤ) (service : List ℕ) (measures : 
             low = λ d g. low_is d g centres' ranged.kept;
             high = λ d g. high_is d g centres' ranged.kept;
             range = λ d g. ranged.ranges d g ∙ range_is d g;
-            stretch = stretch_is;
+            consecutive = stretch_is;
           }

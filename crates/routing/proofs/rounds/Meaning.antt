@@ -3,7 +3,7 @@ use mathlib.Core.Path.{◌≡◌, refl, sym, ap, ◌∙◌}
 use mathlib.Core.Logic.{⊎_elim}
 use mathlib.Core.Bool.{true, false, cond}
 use mathlib.Core.List.{List, [], ◌∷◌, map}
-use mathlib.Core.Option.{Option, none}
+use Rattle.std.specs.Prelude.{Option, None}
 use Prim.Native.Nat.{ℕ, zero, suc, ◌+◌, ◌-◌, ◌*◌, ◌≤◌, ◌<◌, zero-le, suc-le-suc}
 use native.Mathlib.Omega.{arith}
 use native.Mathlib.Numerals.{add-one}
@@ -19,30 +19,30 @@ use Rattle.numbers.proofs.order.Merging.{le_or_lt}
 use Rattle.numbers.proofs.order.Tables.{get_d_table, length_table, table_ext}
 use Rattle.numbers.proofs.order.Strides.{is_table}
 use Rattle.plane.specs.declared.geometry.Point.{Point}
-use Rattle.plane.specs.Cross.{param, place_or}
+use Rattle.plane.specs.Cross.{param, fraction_or}
 use Rattle.channels.specs.declared.channel.Channel.{Channel}
 use Rattle.channels.specs.Space.{wish_order, in_order, spaced, put_all}
 use Rattle.channels.proofs.spacing.Spacing.{length_order, wish_below}
 use Rattle.runs.specs.Stages.Views.{first_exit, second_exit}
-use Rattle.routing.specs.Route.{Scene, Line, Routing, Crossing, crossing_at, channel_at, path_at, centre_at, point_on, point_of, members, exit_of, wish, space_one, spaced_to, rounds_to}
-use Rattle.routing.specs.Stages.RoundLists.{RoundLists, edge_held, start_held, point_held, low_in, high_in, between, range_at, point_in, before_in, behind_in, wish_in, space_by, space_in, spaced_in, rounds_in}
+use Rattle.routing.specs.Route.{MeshScene, RoutedLine, Routing, Crossing, crossing_at, channel_at, kept_crossings_at, centre_at, point_on, point_of, members, exit_of, wish, space_one, spaced_to, rounds_to}
+use Rattle.routing.specs.Stages.RoundLists.{RoundLists, edge_held, start_held, point_held, low_in, high_in, between, read_channel, point_in, before_in, behind_in, wish_in, space_by, space_in, spaced_in, rounds_in}
 use Rattle.channels.specs.Stages.Grouped.{member_in}
 
 -- what the lists say of the routing, crossing by crossing and channel by channel
-pub record Means (S : Scene) (r : Routing) (occupied : ℕ) (H : RoundLists) : Type 0 where
+pub record Means (S : MeshScene) (r : Routing) (occupied : ℕ) (H : RoundLists) : Type 0 where
   pub channel : (x : ℕ) → x < length r.crossings → get_or H.numbers (3 * x) 0 ≡ (crossing_at S r x).channel
   pub branch : (x : ℕ) → x < length r.crossings → get_or H.numbers (3 * x + 1) 0 ≡ (crossing_at S r x).branch
   pub known : (x : ℕ) → x < length r.crossings → (crossing_at S r x).channel < length r.channels
-  pub step : (x : ℕ) → x < length r.crossings → get_or H.ends (4 * (crossing_at S r x).branch + 2) 0 + (crossing_at S r x).step ≡ x
-  pub count : (x : ℕ) → x < length r.crossings → get_or H.ends (4 * (crossing_at S r x).branch + 3) 0 ≡ (path_at S r (crossing_at S r x).branch).count
+  pub on_line : (x : ℕ) → x < length r.crossings → get_or H.ends (4 * (crossing_at S r x).branch + 2) 0 + (crossing_at S r x).on_line ≡ x
+  pub count : (x : ℕ) → x < length r.crossings → get_or H.ends (4 * (crossing_at S r x).branch + 3) 0 ≡ (kept_crossings_at S r (crossing_at S r x).branch).count
   pub inside : (x : ℕ) → x < length r.crossings
-      → get_or H.ends (4 * (crossing_at S r x).branch + 2) 0 + (path_at S r (crossing_at S r x).branch).count ≤ length r.crossings
-  pub leaves : (x : ℕ) → x < length r.crossings → first_exit H.base H.places (crossing_at S r x).branch ≡ exit_of S r false (get_or S.lines (crossing_at S r x).branch none)
-  pub enters : (x : ℕ) → x < length r.crossings → second_exit H.base H.places (crossing_at S r x).branch ≡ exit_of S r true (get_or S.lines (crossing_at S r x).branch none)
+      → get_or H.ends (4 * (crossing_at S r x).branch + 2) 0 + (kept_crossings_at S r (crossing_at S r x).branch).count ≤ length r.crossings
+  pub leaves : (x : ℕ) → x < length r.crossings → first_exit H.base H.places (crossing_at S r x).branch ≡ exit_of S r false (get_or S.lines (crossing_at S r x).branch None)
+  pub enters : (x : ℕ) → x < length r.crossings → second_exit H.base H.places (crossing_at S r x).branch ≡ exit_of S r true (get_or S.lines (crossing_at S r x).branch None)
   pub low : (c : ℕ) → c < length r.channels → low_in H.corners H.centres (edge_held H c) ≡ centre_at S (channel_at S r c).low
   pub high : (c : ℕ) → c < length r.channels → high_in H.corners H.centres (edge_held H c) ≡ centre_at S (channel_at S r c).high
-  pub range : (c : ℕ) → c < length r.channels → range_at occupied H.centres c ≡ (channel_at S r c).range
-  pub stretch : (c : ℕ) → c < length r.channels → table (λ i. member_in H.numbers (start_held H c + i)) (start_held H (c + 1) - start_held H c) ≡ members S r c
+  pub range : (c : ℕ) → c < length r.channels → read_channel occupied H.centres c ≡ (channel_at S r c).channel
+  pub consecutive : (c : ℕ) → c < length r.channels → table (λ i. member_in H.numbers (start_held H c + i)) (start_held H (c + 1) - start_held H c) ≡ members S r c
 
 -- ---- lists
 
@@ -71,7 +71,7 @@ map_table f at n =
     is_table (λ i. f (at i)) n (map f (table at n)) nan (length-map (table at n) f ∙ length_table at n)
     (λ k h. get_d_map f (table at n) k nan (omega (arith, length_table at n)) ∙ ap f (get_d_table at n k 0 h))
 
-module _ (S : Scene) (r : Routing) (occupied : ℕ) (H : RoundLists) (M : Means S r occupied H) where
+module _ (S : MeshScene) (r : Routing) (occupied : ℕ) (H : RoundLists) (M : Means S r occupied H) where
   abbrev X : ℕ
   X = length r.crossings
 
@@ -102,47 +102,47 @@ module _ (S : Scene) (r : Routing) (occupied : ℕ) (H : RoundLists) (M : Means 
     first = get_or H.ends (4 * own.branch + 2) 0
 
     abbrev count : ℕ
-    count = (path_at S r own.branch).count
+    count = (kept_crossings_at S r own.branch).count
 
-    abbrev line : Option Line
-    line = get_or S.lines own.branch none
+    abbrev line : Option RoutedLine
+    line = get_or S.lines own.branch None
 
-    before_is : before_in H l own.branch first x ≡ cond (eqb own.step 0) (exit_of S r false line) (point_of S r ps (x - 1))
+    before_is : before_in H l own.branch first x ≡ cond (eqb own.on_line 0) (exit_of S r false line) (point_of S r ps (x - 1))
     unfolding before_in
     before_is =
-        let at = M.step x h in
+        let at = M.on_line x h in
         ⊎_elim
-        (λ (z : own.step ≤ 0).
-        rw (le-leb x first (omega arith), eq-eqb own.step 0 (omega arith)) (M.leaves x h))
-        (λ (z : 0 < own.step). rw (lt-leb x first (omega arith), ne_eqb own.step 0 (λ e. omega arith)) (point_is l (x - 1) (omega arith)))
-        (le_or_lt own.step 0)
+        (λ (z : own.on_line ≤ 0).
+        rw (le-leb x first (omega arith), eq-eqb own.on_line 0 (omega arith)) (M.leaves x h))
+        (λ (z : 0 < own.on_line). rw (lt-leb x first (omega arith), ne_eqb own.on_line 0 (λ e. omega arith)) (point_is l (x - 1) (omega arith)))
+        (le_or_lt own.on_line 0)
 
-    behind_is : own.step < count → behind_in H l own.branch (first + count) x ≡ cond (eqb (suc own.step) count) (exit_of S r true line) (point_of S r ps (suc x))
+    behind_is : own.on_line < count → behind_in H l own.branch (first + count) x ≡ cond (eqb (suc own.on_line) count) (exit_of S r true line) (point_of S r ps (suc x))
     unfolding behind_in
     behind_is g =
-        let at = M.step x h in
+        let at = M.on_line x h in
         let most = M.inside x h in
         ⊎_elim
-        (λ (z : count ≤ suc own.step). rw (le-leb (first + count) (x + 1) (omega arith), eq-eqb (suc own.step) count (omega arith)) (M.enters x h))
-        (λ (z : suc own.step < count).
-        rw (lt-leb (first + count) (x + 1) (omega arith), ne_eqb (suc own.step) count (λ e. omega arith))
+        (λ (z : count ≤ suc own.on_line). rw (le-leb (first + count) (x + 1) (omega arith), eq-eqb (suc own.on_line) count (omega arith)) (M.enters x h))
+        (λ (z : suc own.on_line < count).
+        rw (lt-leb (first + count) (x + 1) (omega arith), ne_eqb (suc own.on_line) count (λ e. omega arith))
         (point_is l (x + 1) (omega arith) ∙ ap (point_of S r ps) (add-one x)))
-        (le_or_lt count (suc own.step))
+        (le_or_lt count (suc own.on_line))
 
     -- by the crossing's own numbers
-    wish_by : wish_in H l x ≡ cond (ltb x (first + count)) (place_or (param (before_in H l own.branch first x) (behind_in H l own.branch (first + count) x) (centre_at S (channel_at S r own.channel).low) (centre_at S (channel_at S r own.channel).high)) (get_or ps x nan)) (get_or ps x nan)
+    wish_by : wish_in H l x ≡ cond (ltb x (first + count)) (fraction_or (param (before_in H l own.branch first x) (behind_in H l own.branch (first + count) x) (centre_at S (channel_at S r own.channel).low) (centre_at S (channel_at S r own.channel).high)) (get_or ps x nan)) (get_or ps x nan)
     unfolding wish_in
     wish_by = rw (M.branch x h, M.channel x h, M.count x h, M.low own.channel (M.known x h), M.high own.channel (M.known x h), get_or-take X l x nan h)
 
     pub wish_is : wish_in H l x ≡ wish S r ps x
     unfolding wish
     wish_is =
-        let at = M.step x h in
+        let at = M.on_line x h in
         wish_by
         ∙ ⊎_elim
-        (λ (z : count ≤ own.step). rw (le-ltb x (first + count) (omega arith), le-ltb own.step count z))
-        (λ (z : own.step < count). rw (lt-ltb x (first + count) (omega arith), lt-ltb own.step count z, before_is, behind_is z))
-        (le_or_lt count own.step)
+        (λ (z : count ≤ own.on_line). rw (le-ltb x (first + count) (omega arith), le-ltb own.on_line count z))
+        (λ (z : own.on_line < count). rw (lt-ltb x (first + count) (omega arith), lt-ltb own.on_line count z, before_is, behind_is z))
+        (le_or_lt count own.on_line)
 
   -- ---- channels and rounds
 
@@ -161,10 +161,10 @@ module _ (S : Scene) (r : Routing) (occupied : ℕ) (H : RoundLists) (M : Means 
     ms = members S r c
 
     n_is : length ms ≡ n
-    n_is = sym (ap length (M.stretch c g)) ∙ length_table at n
+    n_is = sym (ap length (M.consecutive c g)) ∙ length_table at n
 
     at_is : (i : ℕ) → i < n → at i ≡ get_or ms i 0
-    at_is i h = sym (get_d_table at n i 0 h) ∙ ap (λ (k : List ℕ). get_or k i 0) (M.stretch c g)
+    at_is i h = sym (get_d_table at n i 0 h) ∙ ap (λ (k : List ℕ). get_or k i 0) (M.consecutive c g)
 
     at_below : (i : ℕ) → i < n → at i < X
     at_below i h = rw (at_is i h) (member_below c i (omega (arith, n_is)))
@@ -173,7 +173,7 @@ module _ (S : Scene) (r : Routing) (occupied : ℕ) (H : RoundLists) (M : Means 
     wishes_are =
         table_ext (λ i. wish_in H l (at i)) (λ i. wish S r (take X l) (at i)) n (λ i h. wish_is l (at i) (at_below i h))
         ∙ sym (map_table (wish S r (take X l)) at n)
-        ∙ ap (map (wish S r (take X l))) (M.stretch c g)
+        ∙ ap (map (wish S r (take X l))) (M.consecutive c g)
 
     abbrev ws : List Float
     ws = map (wish S r (take X l)) ms
@@ -185,9 +185,9 @@ module _ (S : Scene) (r : Routing) (occupied : ℕ) (H : RoundLists) (M : Means 
     unfolding space_in space_by space_one
     space_is =
         take_put X _ _ l
-        ∙ ap (λ (k : List Float). put_all (map at (wish_order k)) (spaced (range_at occupied H.centres c) (in_order k (wish_order k))) (take X l)) wishes_are
+        ∙ ap (λ (k : List Float). put_all (map at (wish_order k)) (spaced (read_channel occupied H.centres c) (in_order k (wish_order k))) (take X l)) wishes_are
         ∙ ap (λ (k : Channel). put_all (map at (wish_order ws)) (spaced k (in_order ws (wish_order ws))) (take X l)) (M.range c g)
-        ∙ ap (λ (k : List ℕ). put_all k (spaced (channel_at S r c).range (in_order ws (wish_order ws))) (take X l)) (map_at at (λ j. get_or ms j 0) (wish_order ws) (λ p h. at_is _ (order_below p h)))
+        ∙ ap (λ (k : List ℕ). put_all k (spaced (channel_at S r c).channel (in_order ws (wish_order ws))) (take X l)) (map_at at (λ j. get_or ms j 0) (wish_order ws) (λ p h. at_is _ (order_below p h)))
 
   pub spaced_is : (c : ℕ) → c ≤ length r.channels → (l : List Float) → take X (spaced_in occupied H c l) ≡ spaced_to S r c (take X l)
   unfolding spaced_in spaced_to

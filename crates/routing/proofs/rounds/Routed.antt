@@ -1,9 +1,9 @@
--- What tracing leaves: each crossing stands on its branch's path at its step, in a channel that was made between its corners. Assumes nothing.
+-- What tracing leaves: each crossing stands on its branch's path at its step, in a channel that was made between its vertices. Assumes nothing.
 use mathlib.Core.Path.{◌≡◌, refl, sym, ap, ◌∙◌, subst}
 use mathlib.Core.Logic.{⊎_elim}
 use mathlib.Core.Bool.{Bool, true, false, cond, ◌&&◌}
 use mathlib.Core.List.{List, [], ◌∷◌, ◌++◌}
-use mathlib.Core.Option.{Option, none, some}
+use Rattle.std.specs.Prelude.{Option, Some, None}
 use Prim.Native.Nat.{ℕ, zero, suc, ◌+◌, ◌≤◌, ◌<◌, zero-le, suc-le-suc}
 use native.Mathlib.Omega.{arith}
 use native.Mathlib.Nat.{add-zero, add-suc}
@@ -15,7 +15,7 @@ use Rattle.numbers.proofs.order.Merging.{le_or_lt}
 use Rattle.plane.specs.Plane.{point_at}
 use Rattle.network.specs.Mesh.{low_at, high_at}
 use Rattle.channels.specs.Trace.{traced}
-use Rattle.routing.specs.Route.{Scene, Line, Routing, Keyed, Crossing, Path, no_channel, no_crossing, no_path, no_routing, vertex_of, number_of, make_channel, with_channel, crossing_of, cross, cross_all, add_walk, add_branch, traced_to, routing}
+use Rattle.routing.specs.Route.{MeshScene, RoutedLine, Routing, Keyed, Crossing, KeptCrossings, no_channel, no_crossing, no_kept_crossings, no_routing, vertex_of, number_of, make_channel, with_channel, crossing_of, cross, cross_all, add_walk, add_branch, traced_to, routing}
 
 -- ---- one element more
 
@@ -48,8 +48,8 @@ number_within a b (k ∷ ks) = go (eqb k.low a && eqb k.high b) (number_within a
     go true h = zero-le
     go false h = suc-le-suc h
 
-module _ (S : Scene) where
-  -- every channel is the one between its corners
+module _ (S : MeshScene) where
+  -- every channel is the one between its vertices
   pub record Made (ks : List Keyed) : Type 0 where
     pub each : (c : ℕ) → c < length ks → get_or ks c no_channel ≡ make_channel S (get_or ks c no_channel).low (get_or ks c no_channel).high
 
@@ -74,19 +74,19 @@ module _ (S : Scene) where
   -- ---- a walk: k crossings of branch e behind the first n
 
   -- crossing x is on its path, at its step
-  pub record Placed (ps : List Path) (e x : ℕ) (c : Crossing) : Type 0 where
+  pub record Placed (ps : List KeptCrossings) (e x : ℕ) (c : Crossing) : Type 0 where
     pub branch : c.branch < e
-    pub step : (get_or ps c.branch no_path).first + c.step ≡ x
+    pub on_line : (get_or ps c.branch no_kept_crossings).first + c.on_line ≡ x
 
   pub record Own (e n x : ℕ) (c : Crossing) : Type 0 where
     pub branch : c.branch ≡ e
-    pub step : n + c.step ≡ x
+    pub on_line : n + c.on_line ≡ x
 
   pub record Walking (e n k : ℕ) (r : Routing) : Type 0 where
     pub long : length r.crossings ≡ n + k
-    pub paths : length r.paths ≡ e
-    pub inside : (b : ℕ) → b < e → (get_or r.paths b no_path).first + (get_or r.paths b no_path).count ≤ n
-    pub old : (x : ℕ) → x < n → Placed r.paths e x (get_or r.crossings x no_crossing)
+    pub kept_crossings : length r.kept_crossings ≡ e
+    pub inside : (b : ℕ) → b < e → (get_or r.kept_crossings b no_kept_crossings).first + (get_or r.kept_crossings b no_kept_crossings).count ≤ n
+    pub old : (x : ℕ) → x < n → Placed r.kept_crossings e x (get_or r.crossings x no_crossing)
     pub new : (x : ℕ) → n ≤ x → x < n + k → Own e n x (get_or r.crossings x no_crossing)
     pub numbered : (x : ℕ) → x < n + k → (get_or r.crossings x no_crossing).channel < length r.channels
     pub made : Made r.channels
@@ -101,12 +101,12 @@ module _ (S : Scene) where
     abbrev one : Crossing
     one = crossing_of S va vb e k h r.channels
 
-    one_is : (one.branch ≡ e) × (one.step ≡ k) × (one.channel ≡ number_of low_h high_h r.channels)
+    one_is : (one.branch ≡ e) × (one.on_line ≡ k) × (one.channel ≡ number_of low_h high_h r.channels)
     unfolding crossing_of
     one_is = (refl, refl, refl)
 
     step_own : Own e n (n + k) one
-    step_own = record { branch = one_is.0; step = ap (λ (t : ℕ). n + t) one_is.1 }
+    step_own = record { branch = one_is.0; on_line = ap (λ (t : ℕ). n + t) one_is.1 }
 
     before_old : (x : ℕ) → x < n + k → get_or (r.crossings ++ (one ∷ [])) x no_crossing ≡ get_or r.crossings x no_crossing
     before_old x g = at_old r.crossings one no_crossing x (omega (arith, w.long))
@@ -120,9 +120,9 @@ module _ (S : Scene) where
         let g = grown low_h high_h r.channels in
         record {
           long = length_more r.crossings one no_crossing ∙ omega (arith, w.long);
-          paths = w.paths;
+          kept_crossings = w.kept_crossings;
           inside = w.inside;
-          old = λ x l. subst (Placed r.paths e x) (sym (before_old x (omega arith))) (w.old x l);
+          old = λ x l. subst (Placed r.kept_crossings e x) (sym (before_old x (omega arith))) (w.old x l);
           new =
               λ x i l. ⊎_elim
               (λ (q : n + k ≤ x). let z : n + k ≡ x = omega arith in subst (λ (t : ℕ). Own e n t (get_or (r.crossings ++ (one ∷ [])) t no_crossing)) z (subst (Own e n (n + k)) (sym new_is) step_own))
@@ -148,7 +148,7 @@ module _ (S : Scene) where
       shift : (a b : ℕ) → suc a + b ≡ a + suc b
       shift a b = omega arith
 
-  cross_paths : (va vb e : ℕ) (hs : List ℕ) (k : ℕ) (r : Routing) → (cross_all S va vb e k hs r).paths ≡ r.paths
+  cross_paths : (va vb e : ℕ) (hs : List ℕ) (k : ℕ) (r : Routing) → (cross_all S va vb e k hs r).kept_crossings ≡ r.kept_crossings
   unfolding cross_all cross
   cross_paths va vb e [] k r = refl
   cross_paths va vb e (h ∷ hs) k r = cross_paths va vb e hs (suc k) (cross S va vb e k h r)
@@ -159,30 +159,30 @@ module _ (S : Scene) where
   abbrev pub Traced : ℕ → Routing → Type 0
   Traced e r = Walking e (length r.crossings) 0 r
 
-  module _ (e n k : ℕ) (r : Routing) (p : Path) (w : Walking e n k r) (first : 0 < k → p.first ≡ n) (fits : p.first + p.count ≤ n + k) where
+  module _ (e n k : ℕ) (r : Routing) (p : KeptCrossings) (w : Walking e n k r) (first : 0 < k → p.first ≡ n) (fits : p.first + p.count ≤ n + k) where
     abbrev ended : Routing
-    ended = record { channels = r.channels; crossings = r.crossings; paths = r.paths ++ (p ∷ []) }
+    ended = record { channels = r.channels; crossings = r.crossings; kept_crossings = r.kept_crossings ++ (p ∷ []) }
 
-    old_path : (b : ℕ) → b < e → get_or (r.paths ++ (p ∷ [])) b no_path ≡ get_or r.paths b no_path
-    old_path b g = at_old r.paths p no_path b (omega (arith, w.paths))
+    old_path : (b : ℕ) → b < e → get_or (r.kept_crossings ++ (p ∷ [])) b no_kept_crossings ≡ get_or r.kept_crossings b no_kept_crossings
+    old_path b g = at_old r.kept_crossings p no_kept_crossings b (omega (arith, w.kept_crossings))
 
-    own_path : get_or (r.paths ++ (p ∷ [])) e no_path ≡ p
-    own_path = at_new r.paths p no_path e (sym w.paths)
+    own_path : get_or (r.kept_crossings ++ (p ∷ [])) e no_kept_crossings ≡ p
+    own_path = at_new r.kept_crossings p no_kept_crossings e (sym w.kept_crossings)
 
-    from_old : (x : ℕ) (c : Crossing) → Placed r.paths e x c → Placed (r.paths ++ (p ∷ [])) (suc e) x c
-    from_old x c q = record { branch = omega (arith, q.branch); step = rw (old_path c.branch q.branch) q.step }
+    from_old : (x : ℕ) (c : Crossing) → Placed r.kept_crossings e x c → Placed (r.kept_crossings ++ (p ∷ [])) (suc e) x c
+    from_old x c q = record { branch = omega (arith, q.branch); on_line = rw (old_path c.branch q.branch) q.on_line }
 
-    from_new : (x : ℕ) (c : Crossing) → 0 < k → Own e n x c → Placed (r.paths ++ (p ∷ [])) (suc e) x c
-    from_new x c g q = record { branch = omega (arith, q.branch); step = rw (q.branch, own_path, first g) q.step }
+    from_new : (x : ℕ) (c : Crossing) → 0 < k → Own e n x c → Placed (r.kept_crossings ++ (p ∷ [])) (suc e) x c
+    from_new x c g q = record { branch = omega (arith, q.branch); on_line = rw (q.branch, own_path, first g) q.on_line }
 
     pub end_branch : Traced (suc e) ended
     end_branch =
         record {
           long = sym (add-zero (length r.crossings));
-          paths = length_more r.paths p no_path ∙ ap suc w.paths;
+          kept_crossings = length_more r.kept_crossings p no_kept_crossings ∙ ap suc w.kept_crossings;
           inside =
               λ b g. ⊎_elim
-              (λ (q : e ≤ b). let z : e ≡ b = omega arith in subst (λ (t : ℕ). (get_or (r.paths ++ (p ∷ [])) t no_path).first + (get_or (r.paths ++ (p ∷ [])) t no_path).count ≤ length r.crossings) z (rw (own_path) (omega (arith, w.long))))
+              (λ (q : e ≤ b). let z : e ≡ b = omega arith in subst (λ (t : ℕ). (get_or (r.kept_crossings ++ (p ∷ [])) t no_kept_crossings).first + (get_or (r.kept_crossings ++ (p ∷ [])) t no_kept_crossings).count ≤ length r.crossings) z (rw (own_path) (omega (arith, w.long))))
               (λ (q : b < e). rw (old_path b q) (omega (arith, w.inside b q, w.long)))
               (le_or_lt e b);
           old =
@@ -199,7 +199,7 @@ module _ (S : Scene) where
   none_placed =
       record {
         long = refl;
-        paths = refl;
+        kept_crossings = refl;
         inside = λ b h. absurd (omega arith);
         old = λ x h. absurd (omega arith);
         new = λ x i h. absurd (omega arith);
@@ -211,25 +211,25 @@ module _ (S : Scene) where
   count_within true n = omega arith
   count_within false n = zero-le
 
-  add_one_branch : (e : ℕ) (l : Option Line) (r : Routing) → Traced e r → Traced (suc e) (add_branch S e l r)
+  add_one_branch : (e : ℕ) (l : Option RoutedLine) (r : Routing) → Traced e r → Traced (suc e) (add_branch S e l r)
   unfolding add_branch add_walk
-  add_one_branch e none r w = end_branch e (length r.crossings) 0 r no_path w (λ h. absurd (omega arith)) zero-le
-  add_one_branch e (some l) r w =
+  add_one_branch e None r w = end_branch e (length r.crossings) 0 r no_kept_crossings w (λ h. absurd (omega arith)) zero-le
+  add_one_branch e (Some l) r w =
       let va = vertex_of l.sa S.occupied in
       let vb = vertex_of l.sb S.occupied in
       let t = traced S.corners S.twins (λ v. point_at S.centres v) va vb in
       let n = length r.crossings in
-      let all = cross_all S va vb e 0 t.edges r in
-      let p : Path = record { first = n; count = cond t.kept (length t.edges) 0 } in
+      let all = cross_all S va vb e 0 t.half_edges r in
+      let p : KeptCrossings = record { first = n; count = cond t.kept (length t.half_edges) 0 } in
       subst
-      (λ (ps : List Path). Traced (suc e) (record { channels = all.channels; crossings = all.crossings; paths = ps ++ (p ∷ []) }))
-      (cross_paths va vb e t.edges 0 r)
-      (end_branch e n (0 + length t.edges) all p (cross_all_lem va vb e n t.edges 0 r w) (λ h. refl) (omega (arith, count_within t.kept (length t.edges))))
+      (λ (ps : List KeptCrossings). Traced (suc e) (record { channels = all.channels; crossings = all.crossings; kept_crossings = ps ++ (p ∷ []) }))
+      (cross_paths va vb e t.half_edges 0 r)
+      (end_branch e n (0 + length t.half_edges) all p (cross_all_lem va vb e n t.half_edges 0 r w) (λ h. refl) (omega (arith, count_within t.kept (length t.half_edges))))
 
   traced_to_lem : (e : ℕ) → Traced e (traced_to S e)
   unfolding traced_to
   traced_to_lem zero = none_placed
-  traced_to_lem (suc e) = add_one_branch e (get_or S.lines e none) (traced_to S e) (traced_to_lem e)
+  traced_to_lem (suc e) = add_one_branch e (get_or S.lines e None) (traced_to S e) (traced_to_lem e)
 
   pub routed : Traced (length S.lines) (routing S)
   unfolding routing

@@ -26,12 +26,12 @@ use Rattle.network.specs.Refusal.{refuse}
 use Rattle.network.specs.Views.{from_rows_in, to_rows_in, points_in}
 use Rattle.boxes.specs.Stages.Paths.{path_in}
 use Rattle.stations.specs.declared.measures.Measures.{Measures}
-use Rattle.runs.specs.Stages.Views.{way_of, way_count}
-use Rattle.routing.specs.Route.{Scene, Path, no_path, path_at, point_of, routing, rounds_to, waypoints}
-use Rattle.routing.specs.Stages.Views.{Grid, grid, line_in, lines_in, scene_in}
+use Rattle.runs.specs.Stages.Views.{first_waypoint, waypoint_count}
+use Rattle.routing.specs.Route.{MeshScene, KeptCrossings, no_kept_crossings, kept_crossings_at, point_of, routing, rounds_to, waypoints}
+use Rattle.routing.specs.Stages.Views.{TracedLists, grid, line_in, lines_in, scene_in}
 use Rattle.routing.specs.Stages.Store.{SameRows}
 use Rattle.routing.specs.Stages.Traced.{crossings_in, Traced, Pathless, lined}
-use Rattle.routing.specs.declared.tracing.lines.Counts.{Counts}
+use Rattle.routing.specs.declared.tracing.lines.TraceCounts.{TraceCounts}
 use Rattle.routing.proofs.tracing.Rows.{path_row}
 use Rattle.routing.proofs.tracing.Known.{routing_few}
 use Rattle.routing.specs.Stages.RoundLists.{station_in, Entered}
@@ -51,11 +51,11 @@ room_left : (room x : ℕ) → x ≤ room → None ≡ route_refusal true x room
 unfolding route_refusal
 room_left room x h = ap (λ (b : Bool). refuse b (Some Refusals.Crossings) None) (sym (le-ltb room x h))
 
-crossings_many : (S : Scene) (n : ℕ) → length (crossings_of S n) ≡ length (routing S).crossings
+crossings_many : (S : MeshScene) (n : ℕ) → length (crossings_of S n) ≡ length (routing S).crossings
 unfolding crossings_of
 crossings_many S n = length_rounds S (routing S) n
 
-module _ (S : Scene) (m : ℕ) (corners before behind : List ℕ) (iterations room : ℕ) (ways : List Float) (rows : SameRows m before behind) where
+module _ (S : MeshScene) (m : ℕ) (corners before behind : List ℕ) (iterations room : ℕ) (ways : List Float) (rows : SameRows m before behind) where
   -- r, where it refuses
   led_late : (fits : Bool) (r : Refusal) → Some r ≡ route_refusal fits (length (crossings_of S iterations)) room → Led S m corners before fits iterations room (Some r) behind ways
   led_late fits r e =
@@ -82,9 +82,9 @@ same_rows m l = record { from = refl; to = refl }
 
 -- ---- rows, firsts and counts read from four numbers for each branch
 
-read_path : (f : Path → ℕ) (o m : ℕ) (ends : List ℕ) (ps : List Path) (e : ℕ) → e < m → f no_path ≡ 0 → strided 4 o 0 m ends ≡ map f ps → get_or ends (4 * e + o) 0 ≡ f (get_or ps e no_path)
+read_path : (f : KeptCrossings → ℕ) (o m : ℕ) (ends : List ℕ) (ps : List KeptCrossings) (e : ℕ) → e < m → f no_kept_crossings ≡ 0 → strided 4 o 0 m ends ≡ map f ps → get_or ends (4 * e + o) 0 ≡ f (get_or ps e no_kept_crossings)
 read_path f o m ends ps e h z q =
-    sym (get_d_strided 4 o 0 m e ends 0 h) ∙ ap (λ (l : List ℕ). get_or l e 0) q ∙ ap (get_or (map f ps) e) (sym z) ∙ get_or-map f ps e no_path
+    sym (get_d_strided 4 o 0 m e ends 0 h) ∙ ap (λ (l : List ℕ). get_or l e 0) q ∙ ap (get_or (map f ps) e) (sym z) ∙ get_or-map f ps e no_kept_crossings
 
 -- waypoints by the points of all crossings
 point_read : (f : ℕ → Point) (l : List Float) (x : ℕ) → points_in x l ≡ table f x → (j : ℕ) → j < x → point_at l j ≡ f j
@@ -109,18 +109,18 @@ nothing_along f i (suc n) j o l h g = absurd (omega arith)
 read_zero : (o m : ℕ) (ends : List ℕ) (e : ℕ) → e < m → strided 4 o 0 m ends ≡ table (λ i. 0) m → get_or ends (4 * e + o) 0 ≡ 0
 read_zero o m ends e h q = sym (get_d_strided 4 o 0 m e ends 0 h) ∙ ap (λ (l : List ℕ). get_or l e 0) q ∙ get_d_table (λ i. 0) m e 0 h
 
-module _ (S : Scene) (m : ℕ) (corners before behind : List ℕ) (iterations room : ℕ) (ways : List Float) (meshless : length S.corners ≡ 0) (number : length S.lines ≡ m) (p : Pathless m before behind) where
+module _ (S : MeshScene) (m : ℕ) (corners before behind : List ℕ) (iterations room : ℕ) (ways : List Float) (meshless : length S.corners ≡ 0) (number : length S.lines ≡ m) (p : Pathless m before behind) where
   none_many : length (crossings_of S iterations) ≤ 0
   none_many =
       let f = routing_short S in
       let z : length S.lines * length S.corners ≡ length S.lines * 0 = ap (λ (t : ℕ). length S.lines * t) meshless in
       omega (arith, crossings_many S iterations, f.many)
 
-  none_along : (e : ℕ) → e < m → path_in (way_of behind e) (way_count behind e) ways ≡ waypoints S (routing S) (crossings_of S iterations) e
+  none_along : (e : ℕ) → e < m → path_in (first_waypoint behind e) (waypoint_count behind e) ways ≡ waypoints S (routing S) (crossings_of S iterations) e
   unfolding waypoints
   none_along e h =
       let f = routing_short S in
-      nothing_along (point_of S (routing S) (crossings_of S iterations)) (path_at S (routing S) e).first (path_at S (routing S) e).count (way_of behind e) (way_count behind e) ways
+      nothing_along (point_of S (routing S) (crossings_of S iterations)) (kept_crossings_at S (routing S) e).first (kept_crossings_at S (routing S) e).count (first_waypoint behind e) (waypoint_count behind e) ways
       (omega (arith, f.each e (omega arith)))
       (omega (arith, read_zero 3 m behind e h p.counts))
 
@@ -137,7 +137,7 @@ module _ (S : Scene) (m : ℕ) (corners before behind : List ℕ) (iterations ro
 -- ---- the lines of a scene, by rows alone
 
 module _ (sub : List ℕ) (from to : List ℤ) (service : List ℕ) (measures : Measures) (blocks places frames : List Float) (before behind : List ℕ) where
-  abbrev with : List ℕ → Grid
+  abbrev with : List ℕ → TracedLists
   with ends = grid sub from to service measures ends blocks places frames
 
   module _ (rows : SameRows (length from) before behind) where
@@ -149,17 +149,17 @@ module _ (sub : List ℕ) (from to : List ℤ) (service : List ℕ) (measures : 
     unfolding scene_in
     scene_same k c stations centres corners twins = rw lines_same
 
-scene_lines : (G : Grid) (k c : ℕ) (stations : List ℕ) (centres : List Float) (corners twins : List ℕ) → length (scene_in G k c stations centres corners twins).lines ≡ length G.from
+scene_lines : (G : TracedLists) (k c : ℕ) (stations : List ℕ) (centres : List Float) (corners twins : List ℕ) → length (scene_in G k c stations centres corners twins).lines ≡ length G.from
 unfolding scene_in lines_in
 scene_lines G k c stations centres corners twins = length_table (line_in G) (length G.from)
 
-scene_corners : (G : Grid) (k c : ℕ) (stations : List ℕ) (centres : List Float) (corners twins : List ℕ) → (scene_in G k c stations centres corners twins).corners ≡ corners
+scene_corners : (G : TracedLists) (k c : ℕ) (stations : List ℕ) (centres : List Float) (corners twins : List ℕ) → (scene_in G k c stations centres corners twins).corners ≡ corners
 unfolding scene_in
 scene_corners G k c stations centres corners twins = refl
 
 -- ---- traced, and then spaced
 
-none_stored : (r : Result Counts ℕ) → ((t : Counts) → r ≡ Ok t → ⊥) → is_err r ≡ true
+none_stored : (r : Result TraceCounts ℕ) → ((t : TraceCounts) → r ≡ Ok t → ⊥) → is_err r ≡ true
 none_stored (Ok t) h = absurd (h t refl)
 none_stored (Err x) h = refl
 
@@ -167,20 +167,20 @@ pub mesh_room : (corners twins : List ℕ) (n : ℕ) → mesh_ok corners twins n
 mesh_room corners twins n ok = let h = (mesh_sound corners twins n ok).most in (h, min-eq_left h)
 
 module _ (sub : List ℕ) (from to : List ℤ) (service : List ℕ) (measures : Measures) (blocks places frames : List Float) (k c : ℕ) (stations : List ℕ) (centres : List Float) (corners twins : List ℕ)
-    (room : ℕ) (before ends numbers : List ℕ) (along : List Float) (r : Result Counts ℕ)
+    (room : ℕ) (before ends numbers : List ℕ) (along : List Float) (r : Result TraceCounts ℕ)
     (ok : mesh_ok corners twins c ≡ true)
     (traced : Traced (λ k G. scene_in (lined sub from to service G) k c stations centres corners twins) (length from) corners room before r ends numbers along) where
-  abbrev grid_of : List ℕ → Grid
+  abbrev grid_of : List ℕ → TracedLists
   grid_of l = grid sub from to service measures l blocks places frames
 
-  abbrev scene_of : List ℕ → Scene
+  abbrev scene_of : List ℕ → MeshScene
   scene_of l = scene_in (grid_of l) k c stations centres corners twins
 
-  pub led_full : (iterations : ℕ) (ways : List Float) → ((t : Counts) → r ≡ Ok t → ⊥) → Led (scene_of before) (length from) corners before (mesh_ok corners twins c) iterations room (Some Refusals.Crossings) ends ways
+  pub led_full : (iterations : ℕ) (ways : List Float) → ((t : TraceCounts) → r ≡ Ok t → ⊥) → Led (scene_of before) (length from) corners before (mesh_ok corners twins c) iterations room (Some Refusals.Crossings) ends ways
   led_full iterations ways h =
       led_ten (scene_of before) (length from) corners before ends iterations room ways traced.rows (mesh_ok corners twins c) (is_err r) (crossings_in r) ok (traced.crossings k (grid_of before)) traced.full (none_stored r h)
 
-  module _ (t : Counts) (left : r ≡ Ok t) (boxes : 4 * k ≤ length frames) (occupied : (v : ℕ) → v < c → station_in stations v < k) where
+  module _ (t : TraceCounts) (left : r ≡ Ok t) (boxes : 4 * k ≤ length frames) (occupied : (v : ℕ) → v < c → station_in stations v < k) where
     counted : t.crossings ≡ crossings_in r
     unfolding crossings_in
     counted = sym (ap crossings_in left)
@@ -221,30 +221,30 @@ module _ (sub : List ℕ) (from to : List ℤ) (service : List ℕ) (measures : 
     module _ (h : length from ≤ 8192) (iterations : ℕ) (behind : List ℕ) (ways : List Float)
         (points : points_in t.crossings ways ≡ table (point_of (scene_of ends) (routing (scene_of ends)) (rounds_to (scene_of ends) (routing (scene_of ends)) iterations)) t.crossings)
         (kept : (from_rows_in (length from) behind ≡ from_rows_in (length from) ends) × (to_rows_in (length from) behind ≡ to_rows_in (length from) ends) × (strided 4 2 0 (length from) behind ≡ strided 4 2 0 (length from) ends) × (strided 4 3 0 (length from) behind ≡ strided 4 3 0 (length from) ends)) where
-      abbrev S : Scene
+      abbrev S : MeshScene
       S = scene_of ends
 
       number : length S.lines ≡ length from
       number = scene_lines (grid_of ends) k c stations centres corners twins
 
-      first_is : (e : ℕ) → e < length from → way_of behind e ≡ (path_at S (routing S) e).first
-      first_is e l = read_path (λ (p : Path). p.first) 2 (length from) behind (routing S).paths e l refl (kept.2 ∙ (traced.stored t left k (grid_of ends)).firsts)
+      first_is : (e : ℕ) → e < length from → first_waypoint behind e ≡ (kept_crossings_at S (routing S) e).first
+      first_is e l = read_path (λ (p : KeptCrossings). p.first) 2 (length from) behind (routing S).kept_crossings e l refl (kept.2 ∙ (traced.stored t left k (grid_of ends)).firsts)
 
-      count_is : (e : ℕ) → e < length from → way_count behind e ≡ (path_at S (routing S) e).count
-      count_is e l = read_path (λ (p : Path). p.count) 3 (length from) behind (routing S).paths e l refl (kept.3 ∙ (traced.stored t left k (grid_of ends)).counts)
+      count_is : (e : ℕ) → e < length from → waypoint_count behind e ≡ (kept_crossings_at S (routing S) e).count
+      count_is e l = read_path (λ (p : KeptCrossings). p.count) 3 (length from) behind (routing S).kept_crossings e l refl (kept.3 ∙ (traced.stored t left k (grid_of ends)).counts)
 
-      inside : (e : ℕ) → e < length from → way_of behind e + way_count behind e ≤ t.crossings
+      inside : (e : ℕ) → e < length from → first_waypoint behind e + waypoint_count behind e ≤ t.crossings
       inside e l = omega (arith, first_is e l, count_is e l, (path_row S e (omega (arith, number))).within, made)
 
-      along_is : (e : ℕ) → e < length from → path_in (way_of behind e) (way_count behind e) ways ≡ waypoints S (routing S) (crossings_of S iterations) e
+      along_is : (e : ℕ) → e < length from → path_in (first_waypoint behind e) (waypoint_count behind e) ways ≡ waypoints S (routing S) (crossings_of S iterations) e
       unfolding waypoints crossings_of
       along_is e l =
           let f : ℕ → Point = point_of S (routing S) (rounds_to S (routing S) iterations) in
-          along_from f ways (way_of behind e) (way_count behind e) t.crossings (inside e l) points
-          ∙ ap (λ (i : ℕ). map f (up_from i (way_count behind e))) (first_is e l)
-          ∙ ap (λ (n : ℕ). map f (up_from (path_at S (routing S) e).first n)) (count_is e l)
+          along_from f ways (first_waypoint behind e) (waypoint_count behind e) t.crossings (inside e l) points
+          ∙ ap (λ (i : ℕ). map f (up_from i (waypoint_count behind e))) (first_is e l)
+          ∙ ap (λ (n : ℕ). map f (up_from (kept_crossings_at S (routing S) e).first n)) (count_is e l)
 
-      count_short : (e : ℕ) → e < length from → way_count behind e ≤ length corners
+      count_short : (e : ℕ) → e < length from → waypoint_count behind e ≤ length corners
       count_short e l = omega (arith, count_is e l, (routing_short S).each e (omega (arith, number)), ap length (scene_corners (grid_of ends) k c stations centres corners twins))
 
       led_own : Led S (length from) corners before true iterations room None behind ways
@@ -259,6 +259,6 @@ module _ (sub : List ℕ) (from to : List ℤ) (service : List ℕ) (measures : 
 
       pub led_all : Led (scene_of before) (length from) corners before (mesh_ok corners twins c) iterations room None behind ways
       led_all =
-          subst (λ (s : Scene). Led s (length from) corners before (mesh_ok corners twins c) iterations room None behind ways)
+          subst (λ (s : MeshScene). Led s (length from) corners before (mesh_ok corners twins c) iterations room None behind ways)
           (scene_same sub from to service measures blocks places frames before ends traced.rows k c stations centres corners twins)
           (subst (λ (b : Bool). Led S (length from) corners before b iterations room None behind ways) (sym ok) led_own)

@@ -15,8 +15,8 @@ use Rattle.network.specs.Mesh.{mesh_ok}
 use Rattle.network.specs.Words.{occupied, is_occupied}
 use Rattle.network.specs.Views.{counts_in, order_in, points_in}
 use Rattle.stations.specs.Unit.{coordinates}
-use Rattle.routing.specs.Route.{Scene}
-use Rattle.routing.specs.Stages.Views.{Grid, line_in, lines_in, scene_in}
+use Rattle.routing.specs.Route.{MeshScene}
+use Rattle.routing.specs.Stages.Views.{TracedLists, line_in, lines_in, scene_in}
 use Rattle.routing.specs.Stages.Store.{Rising}
 use Rattle.routing.specs.Stages.Traced.{Pathless}
 use Rattle.routing.proofs.crossings.Occupied.{occupied_rises}
@@ -45,11 +45,11 @@ order_below k c before stations n e v h =
 
 -- ---- the scene
 
-module _ (G : Grid) (k : ℕ) (before corners twins : List ℕ) (iterations : ℕ) where
+module _ (G : TracedLists) (k : ℕ) (before corners twins : List ℕ) (iterations : ℕ) where
   abbrev occ : List ℕ
   occ = occupied (counts_in k before)
 
-  abbrev routed : Scene
+  abbrev routed : MeshScene
   routed = routed_in G k before corners twins iterations
 
   routed_lines : length routed.lines ≡ length G.from
@@ -99,7 +99,7 @@ module _ (G : Grid) (k : ℕ) (before corners twins : List ℕ) (iterations : �
         let w : mesh_used (length occ) iterations ≡ true = used_of c true n (sym e ∙ t) in
         led_routes
         (subst (λ (b : Bool). Led routed (length G.from) corners G.ends b iterations room late behind ways) (ap (mesh_ok corners twins) n ∙ sym (fits_used w))
-        (subst (λ (s : Scene). Led s (length G.from) corners G.ends (mesh_ok corners twins c) iterations room late behind ways) (scene_used c stations path w o p) l))
+        (subst (λ (s : MeshScene). Led s (length G.from) corners G.ends (mesh_ok corners twins c) iterations room late behind ways) (scene_used c stations path w o p) l))
 
   pub routes_unused : (room : ℕ) (stations behind : List ℕ) (ways : List Float) → counts_in k stations ≡ counts_in k before → (c : ℕ) (u : Bool) → c ≡ length occ → u ≡ mesh_used c iterations → u ≡ false
       → Pathless (length G.from) G.ends behind → Routes G k before corners twins iterations room None stations behind ways

@@ -13,8 +13,8 @@ use Rattle.numbers.specs.Table.{strided}
 use Rattle.numbers.proofs.order.Strides.{strided_ext, strided_zero, strided_suc}
 use Rattle.plane.specs.Plane.{point_at}
 use Rattle.channels.specs.Trace.{Walk, traced}
-use Rattle.routing.specs.Route.{Scene, Routing, Path, no_routing, no_path, number_of, centre_at, add_walk, add_branch, traced_to}
-use Rattle.routing.specs.Stages.Store.{mark_of, Stock, stock, Stocked, meshed, walk_of, walk_at, crossings_to, add_way, first_for, count_for, SameRows, Fits, Branched, Filled, Unmarked}
+use Rattle.routing.specs.Route.{MeshScene, Routing, KeptCrossings, no_routing, no_kept_crossings, number_of, centre_at, add_walk, add_branch, traced_to}
+use Rattle.routing.specs.Stages.Store.{mark_of, Stock, stock, Stocked, meshed, walk_of, walk_at, crossings_to, add_by_vertices, first_for, count_for, SameRows, Fits, Branched, Filled, Unmarked}
 use Rattle.routing.proofs.crossings.Written.{put_pair, pair_other, pair_rows, pair_first, pair_second, rows_then, rows_same}
 use Rattle.routing.proofs.tracing.Branching.{crossings_none, crossings_more, crossings_within}
 
@@ -37,18 +37,18 @@ pick_cond : (t : Bool) (a b : ℕ) → pick t a b ≡ cond t a b
 pick_cond true a b = refl
 pick_cond false a b = refl
 
-module _ (S : Scene) (e b : ℕ) (r : Routing) where
-  way_first : (a : ℕ) → map (λ (p : Path). p.first) (add_way S e a b r).paths ≡ map (λ (p : Path). p.first) r.paths ++ (first_for a (length r.crossings) ∷ [])
-  unfolding add_way add_branch add_walk first_for
-  way_first zero = map-append (λ (p : Path). p.first) r.paths (no_path ∷ [])
-  way_first (suc a) = map-append (λ (p : Path). p.first) r.paths _
+module _ (S : MeshScene) (e b : ℕ) (r : Routing) where
+  added_first : (a : ℕ) → map (λ (p : KeptCrossings). p.first) (add_by_vertices S e a b r).kept_crossings ≡ map (λ (p : KeptCrossings). p.first) r.kept_crossings ++ (first_for a (length r.crossings) ∷ [])
+  unfolding add_by_vertices add_branch add_walk first_for
+  added_first zero = map-append (λ (p : KeptCrossings). p.first) r.kept_crossings (no_kept_crossings ∷ [])
+  added_first (suc a) = map-append (λ (p : KeptCrossings). p.first) r.kept_crossings _
 
-  way_count : (a : ℕ) → map (λ (p : Path). p.count) (add_way S e a b r).paths ≡ map (λ (p : Path). p.count) r.paths ++ (count_for (walk_of S.corners S.twins (centre_at S) a b) ∷ [])
-  unfolding add_way add_branch add_walk count_for walk_of
-  way_count zero = map-append (λ (p : Path). p.count) r.paths (no_path ∷ [])
-  way_count (suc a) =
+  added_count : (a : ℕ) → map (λ (p : KeptCrossings). p.count) (add_by_vertices S e a b r).kept_crossings ≡ map (λ (p : KeptCrossings). p.count) r.kept_crossings ++ (count_for (walk_of S.corners S.twins (centre_at S) a b) ∷ [])
+  unfolding add_by_vertices add_branch add_walk count_for walk_of
+  added_count zero = map-append (λ (p : KeptCrossings). p.count) r.kept_crossings (no_kept_crossings ∷ [])
+  added_count (suc a) =
       let w = traced S.corners S.twins (centre_at S) a b in
-      map-append (λ (p : Path). p.count) r.paths _ ∙ ap (λ (n : ℕ). map (λ (p : Path). p.count) r.paths ++ (n ∷ [])) (sym (pick_cond w.kept (length w.edges) 0))
+      map-append (λ (p : KeptCrossings). p.count) r.kept_crossings _ ∙ ap (λ (n : ℕ). map (λ (p : KeptCrossings). p.count) r.kept_crossings ++ (n ∷ [])) (sym (pick_cond w.kept (length w.half_edges) 0))
 
 -- ---- the loop
 
@@ -67,7 +67,7 @@ module _ (m : ℕ) (corners twins : List ℕ) (points : List Float) (ways : List
       record {
         known = refl;
         made = refl;
-        marked = record { edges = λ c l. absurd (omega arith); own = λ c l. absurd (omega arith); marks = λ h l. u.each h l };
+        marked = record { half_edges = λ c l. absurd (omega arith); own = λ c l. absurd (omega arith); marks = λ h l. u.each h l };
         channels = strided_zero 3 0 0 numbers;
         branches = strided_zero 3 1 0 numbers;
         placed = refl;
@@ -143,30 +143,30 @@ module _ (m : ℕ) (corners twins : List ℕ) (points : List Float) (ways : List
           strided_suc 4 o 0 e t.ends ∙ ap (λ (z : ℕ). strided 4 o 0 e t.ends ++ (z ∷ [])) q
           ∙ ap (λ (z : List ℕ). z ++ (n ∷ [])) (strided_ext 4 o 0 e t.ends s.ends (λ j l. beside j o k (omega arith) (λ z. omega arith)))
 
-      module _ (S : Scene) (g : Fits corners twins points m ways S) where
-        abbrev scene : Scene
+      module _ (S : MeshScene) (g : Fits corners twins points m ways S) where
+        abbrev scene : MeshScene
         scene = meshed corners twins points S
 
         abbrev old : Routing
         old = traced_to scene e
 
-        step : traced_to scene (suc e) ≡ add_way scene e a b old
+        step : traced_to scene (suc e) ≡ add_by_vertices scene e a b old
         unfolding traced_to
         step = g.each e h old
 
         held : Stocked m corners (traced_to scene (suc e)) t
         held = subst (λ (z : Routing). Stocked m corners z t) (sym step) (p.grown S old (v.filled.held S g))
 
-        firsts : strided 4 2 0 (suc e) t.ends ≡ map (λ (z : Path). z.first) (traced_to scene (suc e)).paths
+        firsts : strided 4 2 0 (suc e) t.ends ≡ map (λ (z : KeptCrossings). z.first) (traced_to scene (suc e)).kept_crossings
         firsts =
             column 2 f (omega arith) new_first ∙ ap (λ (z : List ℕ). z ++ (f ∷ [])) (v.filled.firsts S g)
-            ∙ ap (λ (z : ℕ). map (λ (z : Path). z.first) old.paths ++ (first_for a z ∷ [])) (v.filled.held S g).made
-            ∙ sym (way_first scene e b old a) ∙ ap (λ (z : Routing). map (λ (z : Path). z.first) z.paths) (sym step)
+            ∙ ap (λ (z : ℕ). map (λ (z : KeptCrossings). z.first) old.kept_crossings ++ (first_for a z ∷ [])) (v.filled.held S g).made
+            ∙ sym (added_first scene e b old a) ∙ ap (λ (z : Routing). map (λ (z : KeptCrossings). z.first) z.kept_crossings) (sym step)
 
-        counts : strided 4 3 0 (suc e) t.ends ≡ map (λ (z : Path). z.count) (traced_to scene (suc e)).paths
+        counts : strided 4 3 0 (suc e) t.ends ≡ map (λ (z : KeptCrossings). z.count) (traced_to scene (suc e)).kept_crossings
         counts =
             column 3 c (omega arith) new_count ∙ ap (λ (z : List ℕ). z ++ (c ∷ [])) (v.filled.counts S g)
-            ∙ sym (way_count scene e b old a) ∙ ap (λ (z : Routing). map (λ (z : Path). z.count) z.paths) (sym step)
+            ∙ sym (added_count scene e b old a) ∙ ap (λ (z : Routing). map (λ (z : KeptCrossings). z.count) z.kept_crossings) (sym step)
 
       more : Filling (suc e) t
       more =
@@ -174,7 +174,7 @@ module _ (m : ℕ) (corners twins : List ℕ) (points : List Float) (ways : List
             filled =
                 record {
                   rows = rows;
-                  made = p.made ∙ crossings_more corners twins points ways e s.crossings (length walk.edges) v.filled.made refl ∙ ap (crossings_to corners twins points ways) (add-one e);
+                  made = p.made ∙ crossings_more corners twins points ways e s.crossings (length walk.half_edges) v.filled.made refl ∙ ap (crossings_to corners twins points ways) (add-one e);
                   held = held;
                   firsts = firsts;
                   counts = counts;
@@ -191,13 +191,13 @@ module _ (m : ℕ) (corners twins : List ℕ) (points : List Float) (ways : List
         (more (subst (λ (z : ℕ). Branched m corners twins points e a z s t) (v.ends e (omega arith) h) (subst (λ (z : ℕ). Branched m corners twins points e z (get_or s.ends (4 * e + 3) 0) s t) (v.starts e (omega arith) h) p)))
 
   -- there is room for branch e's crossings where there is for all
-  pub fill_room : (e : ℕ) (s : Stock) → e < m → Filling e s → s.crossings + length (walk_at corners twins points s.ends e).edges ≤ crossings_to corners twins points ways m
+  pub fill_room : (e : ℕ) (s : Stock) → e < m → Filling e s → s.crossings + length (walk_at corners twins points s.ends e).half_edges ≤ crossings_to corners twins points ways m
   fill_room e s h v =
       let a : get_or s.ends (4 * e + 2) 0 ≡ get_or ways (4 * e + 2) 0 = v.starts e (omega arith) h in
       let b : get_or s.ends (4 * e + 3) 0 ≡ get_or ways (4 * e + 3) 0 = v.ends e (omega arith) h in
-      let w : length (walk_at corners twins points s.ends e).edges ≡ length (walk_at corners twins points ways e).edges =
-      ap (λ (z : ℕ). length (walk_of corners twins (point_at points) z (get_or s.ends (4 * e + 3) 0)).edges) a
-      ∙ ap (λ (z : ℕ). length (walk_of corners twins (point_at points) (get_or ways (4 * e + 2) 0) z).edges) b in
+      let w : length (walk_at corners twins points s.ends e).half_edges ≡ length (walk_at corners twins points ways e).half_edges =
+      ap (λ (z : ℕ). length (walk_of corners twins (point_at points) z (get_or s.ends (4 * e + 3) 0)).half_edges) a
+      ∙ ap (λ (z : ℕ). length (walk_of corners twins (point_at points) (get_or ways (4 * e + 2) 0) z).half_edges) b in
       omega (arith, w, v.filled.made, crossings_within corners twins points ways e m h)
 
   pub fill_end : (e : ℕ) (s : Stock) → e ≡ m → Filling e s → Filled m corners twins points ways m s

@@ -3,7 +3,7 @@ use mathlib.Core.Path.{◌≡◌, sym, ◌∙◌, subst}
 use mathlib.Core.Logic.{⊎_elim}
 use mathlib.Core.Bool.{true}
 use mathlib.Core.List.{List, [], ◌∷◌, ◌++◌}
-use mathlib.Core.Option.{Option, none, some}
+use Rattle.std.specs.Prelude.{Option, Some, None}
 use Prim.Native.Nat.{ℕ, zero, suc, ◌≤◌, ◌<◌}
 use native.Mathlib.Omega.{arith}
 use lib.ListN.{length, get_or, length-append}
@@ -14,10 +14,10 @@ use Rattle.network.proofs.mesh.Meshes.{Sound, mesh_sound}
 use Rattle.network.proofs.mesh.Pigeons.{channels_few}
 use Rattle.channels.specs.Trace.{traced}
 use Rattle.channels.proofs.walk.Walks.{traced_in}
-use Rattle.routing.specs.Route.{Scene, Routing, Keyed, Line, number_of, vertex_of, centre_at, make_channel, with_channel, cross, cross_all, add_walk, add_branch, traced_to, routing}
+use Rattle.routing.specs.Route.{MeshScene, Routing, Keyed, RoutedLine, number_of, vertex_of, centre_at, make_channel, with_channel, cross, cross_all, add_walk, add_branch, traced_to, routing}
 use Rattle.routing.proofs.crossings.Numbers.{same_key, number_le, number_front, number_new, with_old, with_new, made_low, made_high}
 
-module _ (S : Scene) where
+module _ (S : MeshScene) where
   abbrev low_of : ℕ → ℕ
   low_of h = low_at S.corners h
 
@@ -61,18 +61,18 @@ module _ (S : Scene) where
     sound : Sound S.corners S.twins n
     sound = mesh_sound S.corners S.twins n ok
 
-    known_branch : (e : ℕ) (l : Option Line) (r : Routing) → Known r.channels → Known (add_branch S e l r).channels
+    known_branch : (e : ℕ) (l : Option RoutedLine) (r : Routing) → Known r.channels → Known (add_branch S e l r).channels
     unfolding add_branch add_walk
-    known_branch e none r f = f
-    known_branch e (some l) r f =
+    known_branch e None r f = f
+    known_branch e (Some l) r f =
         let va = vertex_of l.sa S.occupied in
         let vb = vertex_of l.sb S.occupied in
-        known_all va vb e 0 (traced S.corners S.twins (centre_at S) va vb).edges r (traced_in S.corners S.twins (centre_at S) va vb n sound) f
+        known_all va vb e 0 (traced S.corners S.twins (centre_at S) va vb).half_edges r (traced_in S.corners S.twins (centre_at S) va vb n sound) f
 
     known_to : (e : ℕ) → Known (traced_to S e).channels
     unfolding traced_to
     known_to zero = λ c h. absurd (omega arith)
-    known_to (suc e) = known_branch e (get_or S.lines e none) (traced_to S e) (known_to e)
+    known_to (suc e) = known_branch e (get_or S.lines e None) (traced_to S e) (known_to e)
 
     known : Known (routing S).channels
     unfolding routing

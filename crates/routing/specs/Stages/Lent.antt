@@ -3,32 +3,32 @@ use Rattle.std.specs.Prelude.{ℕ, ◌+◌, ◌*◌, ◌≤◌, ◌≡◌, min, 
 use Rattle.plane.specs.declared.geometry.Point.{Point}
 use Rattle.network.specs.declared.lists.Network.{Network}
 use Rattle.network.specs.Views.{order_in, from_rows_in, to_rows_in}
-use Rattle.numbers.specs.Table.{strided}
+use Rattle.numbers.specs.Table.{strided, table}
 use Rattle.stations.specs.declared.measures.Measures.{Measures}
 use Rattle.routing.specs.declared.surroundings.Surroundings.{Surroundings}
-use Rattle.routing.specs.declared.crossings.corners.Vertices.{Vertices}
-use Rattle.routing.specs.declared.crossings.ways.Way.{Way}
+use Rattle.routing.specs.declared.crossings.vertices.Vertices.{Vertices}
+use Rattle.routing.specs.declared.crossings.line_vertices.LineVertices.{LineVertices}
 use Rattle.routing.specs.declared.wishes.fixed.Crossed.{Crossed}
 use Rattle.routing.specs.declared.wishes.fixed.Fixed.{Fixed}
-use Rattle.routing.specs.Route.{Scene}
-use Rattle.routing.specs.Stages.Views.{Grid, grid, scene_in}
-use Rattle.routing.specs.Stages.Store.{way_of}
+use Rattle.routing.specs.Route.{MeshScene, point_of, routing, rounds_to}
+use Rattle.routing.specs.Stages.Views.{TracedLists, grid, scene_in}
+use Rattle.routing.specs.Stages.Store.{line_vertices}
 use Rattle.routing.specs.Stages.Traced.{lined}
 use Rattle.routing.specs.Stages.RoundLists.{RoundLists, held, point_in}
 
 -- ---- the grid and the scene
 
 -- a network's lists, with these measures and work lists
-abbrev pub grid_of : Network → Measures → List ℕ → List Float → List Float → List Float → Grid
+abbrev pub grid_of : Network → Measures → List ℕ → List Float → List Float → List Float → TracedLists
 grid_of N measures ends blocks places frames =
     grid N.sub.now N.from.now N.to.now N.service.now measures ends blocks places frames
 
 -- those of a network's lines among these surroundings, with this list of ends
-abbrev pub grid_among : Network → Surroundings → List ℕ → Grid
+abbrev pub grid_among : Network → Surroundings → List ℕ → TracedLists
 grid_among N S ends = grid_of N S.measures ends S.blocks.now S.places.now S.frames.now
 
 -- the scene of c occupied stations among them
-abbrev pub scene_among : Network → Surroundings → ℕ → List ℕ → List ℕ → List Float → Scene
+abbrev pub scene_among : Network → Surroundings → ℕ → List ℕ → List ℕ → List Float → MeshScene
 scene_among N S c stations ends centres =
     scene_in
     (grid_among N S ends)
@@ -39,8 +39,8 @@ scene_among N S c stations ends centres =
     N.mesh.corners.now
     N.mesh.twins.now
 
--- the scene of a network's lines over these corners, whatever the other lists are
-abbrev pub scene_over : Network → Vertices → List Float → ℕ → Grid → Scene
+-- the scene of a network's lines over these vertices, whatever the other lists are
+abbrev pub scene_over : Network → Vertices → List Float → ℕ → TracedLists → MeshScene
 scene_over N V points k G =
     scene_in
     (lined N.sub.now N.from.now N.to.now N.service.now G)
@@ -51,9 +51,13 @@ scene_over N V points k G =
     N.mesh.corners.now
     N.mesh.twins.now
 
--- the way of a network's branch over these corners
-abbrev pub way_over : Network → Vertices → ℕ → Way
-way_over N V = way_of N.sub.now N.from.now N.to.now N.service.now (order_in V.c V.stations.now)
+-- the vertices of a network's branch over these vertices
+abbrev pub line_vertices_over : Network → Vertices → ℕ → LineVertices
+line_vertices_over N V = line_vertices N.sub.now N.from.now N.to.now N.service.now (order_in V.c V.stations.now)
+
+-- the points of the first n crossings of a scene after so many rounds
+abbrev pub spaced_points : MeshScene → ℕ → ℕ → List Point
+spaced_points S rounds n = table (point_of S (routing S) (rounds_to S (routing S) rounds)) n
 
 -- ---- what stands still while crossings are spaced
 

@@ -7,25 +7,25 @@ use Rattle.numbers.specs.Ops.{◌⊕◌, ◌⊖◌, ◌⊗◌}
 use Rattle.numbers.specs.Table.{table}
 use Rattle.plane.specs.declared.geometry.Point.{Point}
 use Rattle.plane.specs.Plane.{point, point_at, box_at}
-use Rattle.plane.specs.Cross.{param, place_or}
+use Rattle.plane.specs.Cross.{param, fraction_or}
 use Rattle.channels.specs.declared.channel.Channel.{Channel}
 use Rattle.channels.specs.Channel.{channel_of}
 use Rattle.channels.specs.Space.{wish_order, in_order, spaced, put_all}
 use Rattle.network.specs.Mesh.{low_at, high_at, mesh_ok}
 use Rattle.runs.specs.Stages.Views.{first_exit, second_exit}
 use Rattle.routing.specs.Route.{routing}
-use Rattle.routing.specs.Stages.Views.{Grid, scene_in, Stored}
-use Rattle.routing.specs.Gap.{gap_of}
+use Rattle.routing.specs.Stages.Views.{TracedLists, scene_in, Stored}
+use Rattle.routing.specs.Clearance.{clearance_of}
 use Rattle.routing.specs.Stages.Exits.{Exited}
 use Rattle.channels.specs.Stages.Grouped.{member_in, start_in}
 
 -- ---- channels: four numbers each, behind those of the m branches
 
 -- a half-edge of channel c
-unfoldable pub edge_in : ℕ → List ℕ → ℕ → ℕ
-edge_in m ends c = get_or ends (4 * (m + c) + 2) 0
+unfoldable pub half_edge_in : ℕ → List ℕ → ℕ → ℕ
+half_edge_in m ends c = get_or ends (4 * (m + c) + 2) 0
 
--- the places of a half-edge's lower and higher corner
+-- the places of a half-edge's lower and higher vertex
 unfoldable pub low_in : List ℕ → List Float → ℕ → Point
 low_in corners centres h = point_at centres (low_at corners h)
 
@@ -36,13 +36,13 @@ high_in corners centres h = point_at centres (high_at corners h)
 unfoldable pub between : Point → Point → Float → Point
 between u w t = point (u.x ⊕ t ⊗ (w.x ⊖ u.x)) (u.y ⊕ t ⊗ (w.y ⊖ u.y))
 
--- the station of corner v: a list of two numbers for each station has the occupied ones second
+-- the station of vertex v: a list of two numbers for each station has the occupied ones second
 unfoldable pub station_in : List ℕ → ℕ → ℕ
 station_in stations v = get_or stations (2 * v + 1) 0
 
--- the stretch where lines may cross the channel of half-edge h
-unfoldable pub range_in : Float → List Float → List Float → List ℕ → List Float → List ℕ → ℕ → Channel
-range_in unit blocks frames stations centres corners h =
+-- the part where lines may cross the channel of half-edge h
+unfoldable pub channel_between : Float → List Float → List Float → List ℕ → List Float → List ℕ → ℕ → Channel
+channel_between unit blocks frames stations centres corners h =
     let s = station_in stations (low_at corners h) in
     let t = station_in stations (high_at corners h) in
     channel_of
@@ -52,49 +52,50 @@ range_in unit blocks frames stations centres corners h =
     (box_at frames t)
     (get_or blocks (3 * s + 2) nan)
     (get_or blocks (3 * t + 2) nan)
-    (gap_of unit)
+    (clearance_of unit)
 
 -- that of channel d where a list holds them, three numbers each, behind c points
-unfoldable pub range_at : ℕ → List Float → ℕ → Channel
-range_at c list d =
+unfoldable pub read_channel : ℕ → List Float → ℕ → Channel
+read_channel c list d =
     record {
       lo = get_or list (2 * c + 3 * d) nan;
       hi = get_or list (2 * c + 3 * d + 1) nan;
-      gap = get_or list (2 * c + 3 * d + 2) nan;
+      least_step = get_or list (2 * c + 3 * d + 2) nan;
     }
 
 -- it is set there
-abbrev pub put_range : List Float → ℕ → ℕ → Channel → List Float
-put_range list c d r = set (set (set list (2 * c + 3 * d) r.lo) (2 * c + 3 * d + 1) r.hi) (2 * c + 3 * d + 2) r.gap
+abbrev pub put_channel : List Float → ℕ → ℕ → Channel → List Float
+put_channel list c d r =
+    set (set (set list (2 * c + 3 * d) r.lo) (2 * c + 3 * d + 1) r.hi) (2 * c + 3 * d + 2) r.least_step
 
 -- the boxes of the two stations stand in their list
 pub record Boxed (frames : List Float) (stations corners : List ℕ) (h : ℕ) : Type 0 where
   pub low : 4 * station_in stations (low_at corners h) + 4 ≤ length frames
   pub high : 4 * station_in stations (high_at corners h) + 4 ≤ length frames
 
--- so do they for a half-edge whose corners are among the first c
+-- so do they for a half-edge whose vertices are among the first c
 pub record Cornered (frames : List Float) (stations corners : List ℕ) (c h : ℕ) : Type 0 where
   pub low : low_at corners h < c
   pub high : high_at corners h < c
   pub boxed : Boxed frames stations corners h
 
--- The list `behind` holds the ranges of so many channels; the c points before them are as they were.
+-- The list `behind` holds so many channels; the c points before them are as they were.
 pub record Ranged (unit : Float) (blocks frames : List Float) (stations corners : List ℕ)
     (m : ℕ) (ends : List ℕ) (c channels : ℕ) (before behind : List Float) : Type 0 where
   pub kept : take (2 * c) behind ≡ take (2 * c) before
   pub ranges : (d : ℕ) → d < channels
-      → range_at c behind d ≡ range_in unit blocks frames stations before corners (edge_in m ends d)
+      → read_channel c behind d ≡ channel_between unit blocks frames stations before corners (half_edge_in m ends d)
 
 -- ---- crossings: three numbers each, its channel, its branch, and one of the crossings grouped by channel
 
--- where crossing x is, at these places
+-- where crossing x is, at these fractions
 unfoldable pub point_in : ℕ → List ℕ → List Float → List ℕ → List ℕ → List Float → ℕ → Point
 point_in m ends centres corners numbers ps x =
-    let h = edge_in m ends (get_or numbers (3 * x) 0) in
+    let h = half_edge_in m ends (get_or numbers (3 * x) 0) in
     between (low_in corners centres h) (high_in corners centres h) (get_or ps x nan)
 
 -- What stands still while crossings are spaced: the number of branches, and that of the points before the exits in
--- their list; the list of ends and routes, that of exits, that of the mesh's points, the mesh's corners, and the
+-- their list; the list of ends and routes, that of exits, that of the mesh's points, the mesh's vertices, and the
 -- crossings' numbers.
 pub record RoundLists : Type 0 where
   pub m : ℕ
@@ -110,7 +111,7 @@ held a b c d e f g = record { m = a; base = b; ends = c; places = d; centres = e
 
 module _ (H : RoundLists) where
   abbrev pub edge_held : ℕ → ℕ
-  edge_held c = edge_in H.m H.ends c
+  edge_held c = half_edge_in H.m H.ends c
 
   abbrev pub start_held : ℕ → ℕ
   start_held c = start_in H.m H.ends c
@@ -136,27 +137,27 @@ module _ (H : RoundLists) where
       let t = get_or ps x nan in
       let u = low_in H.corners H.centres h in
       let w = high_in H.corners H.centres h in
-      cond (ltb x past) (place_or (param (before_in ps e first x) (behind_in ps e past x) u w) t) t
+      cond (ltb x past) (fraction_or (param (before_in ps e first x) (behind_in ps e past x) u w) t) t
 
--- each channel's crossings stand in a stretch of the first `most`
+-- each channel's crossings stand one after another in the first `most`
 pub record Ready (H : RoundLists) (channels most : ℕ) : Type 0 where
   pub rising : (c : ℕ) → c < channels → start_held H c ≤ start_held H (c + 1)
   pub within : (c : ℕ) → c < channels → start_held H (c + 1) ≤ most
 
 -- n crossings, `at` 0, 1, .., spaced by their wishes
 unfoldable pub space_by : Channel → (ℕ → ℕ) → ℕ → (ℕ → Float) → List Float → List Float
-space_by range at n wish ps =
+space_by value at n wish ps =
     let ws = table (λ i. wish (at i)) n in
     let o = wish_order ws in
-    put_all (map at o) (spaced range (in_order ws o)) ps
+    put_all (map at o) (spaced value (in_order ws o)) ps
 
--- `occupied` points stand before the ranges
+-- `occupied` points stand before the channels
 module _ (occupied : ℕ) (H : RoundLists) where
   -- channel c's crossings spaced
   unfoldable pub space_in : ℕ → List Float → List Float
   space_in c ps =
       space_by
-      (range_at occupied H.centres c)
+      (read_channel occupied H.centres c)
       (λ i. member_in H.numbers (start_held H c + i))
       (start_held H (c + 1) - start_held H c)
       (wish_in H ps)
@@ -174,7 +175,7 @@ module _ (occupied : ℕ) (H : RoundLists) where
 
 -- What the rounds begin with: a mesh that passes over c occupied stations of k, their boxes, every line's exits, and
 -- the routing through them in the lists, with so many channels and crossings.
-pub record Entered (G : Grid) (k c : ℕ) (stations : List ℕ) (centres : List Float)
+pub record Entered (G : TracedLists) (k c : ℕ) (stations : List ℕ) (centres : List Float)
     (corners twins numbers : List ℕ) (along : List Float) (channels crossings : ℕ) : Type 0 where
   pub mesh : mesh_ok corners twins c ≡ true
   pub exits : Exited G

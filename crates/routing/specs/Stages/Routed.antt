@@ -7,14 +7,14 @@ use Rattle.network.specs.Views.{counts_in, from_rows_in, to_rows_in, points_in, 
 use Rattle.stations.specs.Unit.{coordinates}
 use Rattle.stations.specs.Stages.Views.{scales_in}
 use Rattle.boxes.specs.Stages.Paths.{path_in}
-use Rattle.runs.specs.Stages.Views.{way_of, way_count}
-use Rattle.routing.specs.Route.{Scene, routing, waypoints}
-use Rattle.routing.specs.Stages.Views.{Grid, lines_in}
-use Rattle.routing.specs.Gap.{gap_of}
+use Rattle.runs.specs.Stages.Views.{first_waypoint, waypoint_count}
+use Rattle.routing.specs.Route.{MeshScene, routing, waypoints}
+use Rattle.routing.specs.Stages.Views.{TracedLists, lines_in}
+use Rattle.routing.specs.Clearance.{clearance_of}
 use Rattle.routing.specs.Routes.{crossings_of, mesh_fits, mesh_used, route_refusal}
 
 -- the scene that the lists of k stations hold, without a mesh where that isn't looked at
-unfoldable pub routed_in : Grid → ℕ → List ℕ → List ℕ → List ℕ → ℕ → Scene
+unfoldable pub routed_in : TracedLists → ℕ → List ℕ → List ℕ → List ℕ → ℕ → MeshScene
 routed_in G k stations corners twins iterations =
     let occ = occupied (counts_in k stations) in
     let used = mesh_used (length occ) iterations in
@@ -23,7 +23,7 @@ routed_in G k stations corners twins iterations =
       centres = coordinates (points_in k G.places) occ;
       boxes = boxes_in k G.frames;
       scales = scales_in k G.blocks;
-      gap = gap_of G.measures.unit;
+      clearance = clearance_of G.measures.unit;
       corners = pick used corners [];
       twins = pick used twins [];
       lines = lines_in G;
@@ -31,7 +31,7 @@ routed_in G k stations corners twins iterations =
 
 -- What routing leaves: bus counts and rows are as before; where nothing is refused, each branch's waypoints stand in
 -- a list.
-pub record Routes (G : Grid) (k : ℕ) (stations corners twins : List ℕ) (iterations room : ℕ)
+pub record Routes (G : TracedLists) (k : ℕ) (stations corners twins : List ℕ) (iterations room : ℕ)
     (late : Option Refusal) (stations' ends' : List ℕ) (ways : List Float) : Type 0 where
   pub late_is :
       late
@@ -43,11 +43,12 @@ pub record Routes (G : Grid) (k : ℕ) (stations corners twins : List ℕ) (iter
   pub from_rows : from_rows_in (length G.from) ends' ≡ from_rows_in (length G.from) G.ends
   pub to_rows : to_rows_in (length G.from) ends' ≡ to_rows_in (length G.from) G.ends
   pub along : late ≡ None → (e : ℕ) → e < length G.from
-      → path_in (way_of ends' e) (way_count ends' e) ways
+      → path_in (first_waypoint ends' e) (waypoint_count ends' e) ways
       ≡ waypoints
       (routed_in G k stations corners twins iterations)
       (routing (routed_in G k stations corners twins iterations))
       (crossings_of (routed_in G k stations corners twins iterations) iterations)
       e
   pub short : late ≡ None → (e : ℕ) → e < length G.from
-      → (way_count ends' e ≤ min (length corners) 24576) × (way_of ends' e + way_count ends' e < 2 ^ 31)
+      → (waypoint_count ends' e ≤ min (length corners) 24576)
+      × (first_waypoint ends' e + waypoint_count ends' e < 2 ^ 31)

@@ -4,14 +4,15 @@ ghost use Rattle.std.specs.Prelude.{◌≡◌, map, ℕ, ◌+◌, ◌-◌, ◌*�
 ghost use Rattle.numbers.specs.Table.{table};
 ghost use Rattle.channels.specs.Space.{put_all};
 ghost use Rattle.network.specs.Views.{points_in};
-ghost use Rattle.routing.specs.Stages.RoundLists.{edge_in, station_in, wish_in, range_in, range_at};
-ghost use Rattle.routing.specs.Stages.RoundLists.{put_range, Boxed, Cornered, Ranged, Ready};
+ghost use Rattle.routing.specs.Stages.RoundLists.{half_edge_in, station_in, wish_in};
+ghost use Rattle.routing.specs.Stages.RoundLists.{channel_between, read_channel};
+ghost use Rattle.routing.specs.Stages.RoundLists.{put_channel, Boxed, Cornered, Ranged, Ready};
 ghost use Rattle.routing.specs.Stages.RoundLists.{space_in, spaced_in, rounds_in};
 ghost use Rattle.routing.specs.Stages.Lent.{fixed_lists, crossing_point};
 ghost use Rattle.channels.specs.Stages.Grouped.{start_in, member_in};
 
+use crate::crossings::clearance::clearance_of;
 use crate::crossings::crossings::{high_at, low_at};
-use crate::crossings::gap::gap_of;
 use crate::wishes::fixed::{Crossed, Fixed};
 use crate::wishes::{edge_of, point_of, wish_of};
 use channels::channel::Channel;
@@ -21,10 +22,10 @@ use network::seeds::put_point;
 use numbers::order::at;
 use plane::geometry::{number_at, point_at};
 
-/// What rounds read: what stands still, with the ranges of so many channels behind `occupied`
-/// points of `centres`; each channel's crossings stand in a stretch of the first `most`.
+/// What rounds read: what stands still, with so many channels behind `occupied`
+/// points of `centres`; each channel's crossings stand one after another in the first `most`.
 #[derive(Clone, Copy)]
-pub(crate) struct Stretches<'a> {
+pub(crate) struct RoundInput<'a> {
     pub(crate) fixed: Fixed<'a>,
     pub(crate) occupied: usize,
     pub(crate) channels: usize,
@@ -54,30 +55,31 @@ fn member_of(numbers: &[u32], number: usize) -> u32
     at(numbers, 3 * number + 2)
 }
 
-// The station of a corner.
+// The station of a vertex.
 #[tactic(auto, unfolding(crate::specs::Stages::RoundLists::station_in))]
-fn station_at(stations: &[u32], corner: u32) -> u32
-    ensures { result ≡ station_in stations.now corner }
+fn station_at(stations: &[u32], vertex: u32) -> u32
+    ensures { result ≡ station_in stations.now vertex }
 {
-    at(stations, 2 * corner as usize + 1)
+    at(stations, 2 * vertex as usize + 1)
 }
 
-// The stretch where lines may cross the channel of a half-edge.
-fn range_of(
+// The part where lines may cross the channel of a half-edge.
+fn channel_between(
     unit: f64,
     blocks: &[f64],
     frames: &[f64],
     stations: &[u32],
     centres: &[f64],
     corners: &[u32],
-    edge: u32,
+    half_edge: u32,
 ) -> Channel
-    requires { Boxed frames.now stations.now corners.now edge }
+    requires { Boxed frames.now stations.now corners.now half_edge }
     ensures { result
-        ≡ range_in unit blocks.now frames.now stations.now centres.now corners.now edge }
+        ≡ channel_between unit blocks.now frames.now stations.now centres.now corners.now
+        half_edge }
 {
-    let a = low_at(corners, edge);
-    let b = high_at(corners, edge);
+    let a = low_at(corners, half_edge);
+    let b = high_at(corners, half_edge);
     let s = station_at(stations, a) as usize;
     let t = station_at(stations, b) as usize;
     channel(
@@ -87,24 +89,24 @@ fn range_of(
         &frames[4 * t..4 * t + 4],
         number_at(blocks, 3 * s + 2),
         number_at(blocks, 3 * t + 2),
-        gap_of(unit),
+        clearance_of(unit),
     )
 }
 
-// Sets the range of a channel, three numbers, behind so many points of a list.
-fn put_range(list: &mut [f64], point_count: usize, channel: usize, range: Channel)
+// Sets a channel, three numbers, behind so many points of a list.
+fn put_channel(list: &mut [f64], point_count: usize, channel: usize, value: Channel)
     requires { 2 * point_count + 3 * channel + 3 ≤ length list.old }
-    ensures { list.new ≡ put_range list.old point_count channel range }
+    ensures { list.new ≡ put_channel list.old point_count channel value }
 {
     let i = 2 * point_count + 3 * channel;
-    list[i] = range.lo;
-    list[i + 1] = range.hi;
-    list[i + 2] = range.gap;
+    list[i] = value.lo;
+    list[i + 1] = value.hi;
+    list[i + 2] = value.least_step;
 }
 
-/// Writes every channel's range behind the points of the mesh's corners.
+/// Writes every channel behind the points of the mesh's vertices.
 #[tactic(auto, using(crate::proofs::rounds::Ranges::ranged))]
-pub(crate) fn write_ranges(
+pub(crate) fn write_channels(
     branch_count: usize,
     unit: f64,
     ends: &[u32],
@@ -112,38 +114,38 @@ pub(crate) fn write_ranges(
     frames: &[f64],
     stations: &[u32],
     corners: &[u32],
-    corner_count: usize,
+    vertex_count: usize,
     channels: usize,
     centres: &mut [f64],
 )
     requires few_branches { branch_count ≤ 2 ^ 32 }
     requires few_channels { channels < 2 ^ 32 }
-    requires centres_fit { 2 * corner_count + 3 * channels ≤ length centres.old }
-    requires edges_cornered { (d : ℕ) → d < channels
-        → Cornered frames.now stations.now corners.now corner_count
-        (edge_in branch_count ends.now d) }
+    requires centres_fit { 2 * vertex_count + 3 * channels ≤ length centres.old }
+    requires half_edges_cornered { (d : ℕ) → d < channels
+        → Cornered frames.now stations.now corners.now vertex_count
+        (half_edge_in branch_count ends.now d) }
     ensures { Ranged unit blocks.now frames.now stations.now corners.now branch_count ends.now
-        corner_count channels centres.old centres.new }
+        vertex_count channels centres.old centres.new }
 {
     for d in 0..channels {
         let h = edge_of(branch_count, ends, d);
-        let r = range_of(unit, blocks, frames, stations, centres, corners, h);
-        put_range(centres, corner_count, d, r);
+        let r = channel_between(unit, blocks, frames, stations, centres, corners, h);
+        put_channel(centres, vertex_count, d, r);
     }
 }
 
-// The range of a channel, behind so many points of a list.
-#[tactic(auto, unfolding(crate::specs::Stages::RoundLists::range_at))]
-fn range_at(list: &[f64], point_count: usize, channel: usize) -> Channel
+// A channel, behind so many points of a list.
+#[tactic(auto, unfolding(crate::specs::Stages::RoundLists::read_channel))]
+fn read_channel(list: &[f64], point_count: usize, channel: usize) -> Channel
     requires few_points { point_count ≤ 2 ^ 32 }
     requires few_channels { channel < 2 ^ 32 }
-    ensures { result ≡ range_at point_count list.now channel }
+    ensures { result ≡ read_channel point_count list.now channel }
 {
     let i = 2 * point_count + 3 * channel;
     Channel {
         lo: number_at(list, i),
         hi: number_at(list, i + 1),
-        gap: number_at(list, i + 2),
+        least_step: number_at(list, i + 2),
     }
 }
 
@@ -155,13 +157,13 @@ fn take_wishes(fixed: &Fixed<'_>, along: &[f64], start: u32, ways: &mut [f64])
         ≡ table (λ i. wish_in (fixed_lists fixed.now) along.now
         (member_in fixed.now.crossed.numbers.now (start + i))) (length ways.old) }
 {
-    for (i, way) in ways.iter_mut().enumerate() {
+    for (i, wish) in ways.iter_mut().enumerate() {
         let x = member_of(fixed.crossed.numbers, start as usize + i);
-        *way = wish_of(fixed, along, x);
+        *wish = wish_of(fixed, along, x);
     }
 }
 
-// Puts each place at its crossing, by the order of the wishes.
+// Puts each fraction at its crossing, by the order of the wishes.
 #[tactic(auto, using(crate::proofs::rounds::Putting::putting))]
 fn put_places(numbers: &[u32], start: u32, order: &[u32], places: &[f64], along: &mut [f64])
     requires { length order.now ≤ length places.now }
@@ -176,10 +178,10 @@ fn put_places(numbers: &[u32], start: u32, order: &[u32], places: &[f64], along:
     }
 }
 
-// Spaces a channel's crossings: all its wishes are taken before any place changes. `ways`,
+// Spaces a channel's crossings: all its wishes are taken before any fraction changes. `ways`,
 // `sorted`, `spare` and `keys` are work lists.
 fn space_one(
-    stretches: &Stretches<'_>,
+    input: &RoundInput<'_>,
     channel: usize,
     along: &mut [f64],
     ways: &mut [f64],
@@ -187,50 +189,50 @@ fn space_one(
     spare: &mut [u32],
     keys: &mut [u64],
 )
-    requires channel_in_bounds { channel < stretches.now.channels }
-    requires ways_fit { stretches.now.most ≤ length ways.old }
-    requires sorted_fits { stretches.now.most ≤ length sorted.old }
-    requires spare_fits { stretches.now.most ≤ length spare.old }
-    requires keys_fit { stretches.now.most ≤ length keys.old }
+    requires channel_in_bounds { channel < input.now.channels }
+    requires ways_fit { input.now.most ≤ length ways.old }
+    requires sorted_fits { input.now.most ≤ length sorted.old }
+    requires spare_fits { input.now.most ≤ length spare.old }
+    requires keys_fit { input.now.most ≤ length keys.old }
     ensures { along.new
-        ≡ space_in stretches.now.occupied (fixed_lists stretches.now.fixed) channel along.old }
+        ≡ space_in input.now.occupied (fixed_lists input.now.fixed) channel along.old }
 {
-    let crossed = &stretches.fixed.crossed;
+    let crossed = &input.fixed.crossed;
     let start = start_of(crossed.m, crossed.ends, channel);
     let n = (start_of(crossed.m, crossed.ends, channel + 1) - start) as usize;
-    take_wishes(&stretches.fixed, along, start, &mut ways[..n]);
-    let range = range_at(crossed.centres, stretches.occupied, channel);
-    space_sorted(range, n, ways, keys, sorted, spare);
+    take_wishes(&input.fixed, along, start, &mut ways[..n]);
+    let value = read_channel(crossed.centres, input.occupied, channel);
+    space_sorted(value, n, ways, keys, sorted, spare);
     put_places(crossed.numbers, start, &sorted[..n], &ways[..n], along);
 }
 
 // One round: the channels' crossings spaced, one channel after another.
 #[tactic(auto, using(crate::proofs::rounds::Making::spaced_laws))]
 fn round(
-    stretches: &Stretches<'_>,
+    input: &RoundInput<'_>,
     along: &mut [f64],
     ways: &mut [f64],
     sorted: &mut [u32],
     spare: &mut [u32],
     keys: &mut [u64],
 )
-    requires ways_fit { stretches.now.most ≤ length ways.old }
-    requires sorted_fits { stretches.now.most ≤ length sorted.old }
-    requires spare_fits { stretches.now.most ≤ length spare.old }
-    requires keys_fit { stretches.now.most ≤ length keys.old }
+    requires ways_fit { input.now.most ≤ length ways.old }
+    requires sorted_fits { input.now.most ≤ length sorted.old }
+    requires spare_fits { input.now.most ≤ length spare.old }
+    requires keys_fit { input.now.most ≤ length keys.old }
     ensures { along.new
-        ≡ spaced_in stretches.now.occupied (fixed_lists stretches.now.fixed) stretches.now.channels
+        ≡ spaced_in input.now.occupied (fixed_lists input.now.fixed) input.now.channels
         along.old }
 {
-    for c in 0..stretches.channels {
-        space_one(stretches, c, along, ways, sorted, spare, keys);
+    for c in 0..input.channels {
+        space_one(input, c, along, ways, sorted, spare, keys);
     }
 }
 
 /// So many rounds. `ways`, `sorted`, `spare` and `keys` are work lists.
 #[tactic(auto, using(crate::proofs::rounds::Making::rounds_laws))]
 pub(crate) fn rounds(
-    stretches: &Stretches<'_>,
+    input: &RoundInput<'_>,
     iterations: u32,
     along: &mut [f64],
     ways: &mut [f64],
@@ -238,16 +240,16 @@ pub(crate) fn rounds(
     spare: &mut [u32],
     keys: &mut [u64],
 )
-    requires ways_fit { stretches.now.most ≤ length ways.old }
-    requires sorted_fits { stretches.now.most ≤ length sorted.old }
-    requires spare_fits { stretches.now.most ≤ length spare.old }
-    requires keys_fit { stretches.now.most ≤ length keys.old }
+    requires ways_fit { input.now.most ≤ length ways.old }
+    requires sorted_fits { input.now.most ≤ length sorted.old }
+    requires spare_fits { input.now.most ≤ length spare.old }
+    requires keys_fit { input.now.most ≤ length keys.old }
     ensures { along.new
-        ≡ rounds_in stretches.now.occupied (fixed_lists stretches.now.fixed) stretches.now.channels
+        ≡ rounds_in input.now.occupied (fixed_lists input.now.fixed) input.now.channels
         iterations along.old }
 {
     for _ in 0..iterations {
-        round(stretches, along, ways, sorted, spare, keys);
+        round(input, along, ways, sorted, spare, keys);
     }
 }
 

@@ -6,14 +6,14 @@ ghost use Rattle.routing.specs.Stages.Store.{Unmarked, MeshPasses};
 ghost use Rattle.routing.specs.Stages.Traced.{Settled, Traced, Pathless};
 ghost use Rattle.routing.specs.Stages.Lent.{scene_over};
 
-use crate::crossings::corners::Vertices;
-use crate::crossings::ways::write_ways;
-use crate::tracing::lines::{Counts, clear_marks, count_all, store_all};
-use channels::half_edges::{Turned, go_round};
+use crate::crossings::line_vertices::write_vertices;
+use crate::crossings::vertices::Vertices;
+use crate::tracing::lines::{TraceCounts, clear_marks, count_all, store_all};
+use channels::half_edges::{MeshByVertex, go_round};
 use network::lists::Network;
 
 /// Sets the paths of all branches to none.
-pub(crate) fn clear_paths(branch_count: usize, ends: &mut [u32])
+pub(crate) fn clear_walks(branch_count: usize, ends: &mut [u32])
     requires { 4 * branch_count ≤ length ends.old }
     ensures { Pathless branch_count ends.old ends.new }
 {
@@ -23,34 +23,43 @@ pub(crate) fn clear_paths(branch_count: usize, ends: &mut [u32])
     }
 }
 
-// Counts the crossings of all branches by their ways, and stores them where there is room; else
+// Counts the crossings of all branches by their vertices, and stores them where there is room; else
 // answers how many there are.
 fn store_routes(
-    turned: &Turned<'_>,
+    by_vertex: &MeshByVertex<'_>,
     points: &[f64],
     branch_count: u32,
     room: usize,
-    trail: &mut [u32],
+    walked: &mut [u32],
     ends: &mut [u32],
     numbers: &mut [u32],
     places: &mut [f64],
-) -> Result<Counts, usize>
+) -> Result<TraceCounts, usize>
     requires few_branches { branch_count ≤ 8192 }
-    requires trail_fits { length turned.now.mesh.corners.now ≤ length trail.old }
-    requires ends_fit { 4 * (branch_count + length turned.now.mesh.corners.now) + 4
+    requires walked_fits { length by_vertex.now.mesh.corners.now ≤ length walked.old }
+    requires ends_fit { 4 * (branch_count + length by_vertex.now.mesh.corners.now) + 4
         ≤ length ends.old }
     requires numbers_fit { 3 * room ≤ length numbers.old }
     requires places_fit { room ≤ length places.old }
-    requires mesh_passes { MeshPasses turned.now.mesh.corners.now turned.now.mesh.twins.now }
-    requires unmarked { Unmarked branch_count turned.now.mesh.corners.now ends.old }
-    ensures { Settled branch_count turned.now.mesh.corners.now turned.now.mesh.twins.now points.now
+    requires mesh_passes { MeshPasses by_vertex.now.mesh.corners.now by_vertex.now.mesh.twins.now }
+    requires unmarked { Unmarked branch_count by_vertex.now.mesh.corners.now ends.old }
+    ensures { Settled branch_count by_vertex.now.mesh.corners.now by_vertex.now.mesh.twins.now
+        points.now
         room ends.old result ends.new numbers.new places.new }
 {
-    let x = count_all(turned, points, branch_count, ends, trail);
+    let x = count_all(by_vertex, points, branch_count, ends, walked);
     if x > room {
         return Err(x);
     }
-    Ok(store_all(turned, points, branch_count, trail, ends, numbers, places))
+    Ok(store_all(
+        by_vertex,
+        points,
+        branch_count,
+        walked,
+        ends,
+        numbers,
+        places,
+    ))
 }
 
 /// Traces every line between the occupied stations, whose places are at the front of `path`, and
@@ -68,7 +77,7 @@ pub(crate) fn trace_all(
     ends: &mut [u32],
     numbers: &mut [u32],
     places: &mut [f64],
-) -> Result<Counts, usize>
+) -> Result<TraceCounts, usize>
     requires few_branches { length network.now.from.now ≤ 8192 }
     requires path_given { 2 * vertices.now.c ≤ length path.now }
     requires keys_fit { length network.now.mesh.corners.now ≤ length keys.old }
@@ -86,16 +95,16 @@ pub(crate) fn trace_all(
 {
     let m = network.from.len() as u32;
     let n = network.mesh.corners.len();
-    write_ways(network, vertices, ends);
+    write_vertices(network, vertices, ends);
     clear_marks(m, n, ends);
     go_round(network.mesh.corners, keys, sorted, spare);
-    let turned = Turned {
+    let by_vertex = MeshByVertex {
         mesh: network.mesh,
         around: sorted,
     };
     let last = 2 * vertices.c;
     store_routes(
-        &turned,
+        &by_vertex,
         &path[..last],
         m,
         room,

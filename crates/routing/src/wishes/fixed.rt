@@ -2,7 +2,7 @@
 ghost use Rattle.std.specs.Prelude.{◌^◌, ◌≤◌};
 
 /// What crossings' points are read from: the numbers of m branches and, behind them, of the
-/// channels; the corners' places; the mesh's corners; and the crossings' numbers.
+/// channels; the vertices' places; the mesh's vertices; and the crossings' numbers.
 #[derive(Clone, Copy)]
 pub(crate) struct Crossed<'a> {
     pub m: usize,

@@ -5,14 +5,22 @@ use Rattle.network.specs.declared.words.Kind.{Kind}
 use Rattle.network.specs.declared.words.Kind.TheVariants.{Undrawn, Open, Internal, Line}
 use Rattle.network.specs.Words.{station_of, kind_of}
 use Rattle.stations.specs.declared.measures.Measures.{Measures}
-use Rattle.runs.specs.Stages.Views.{slot_of, first_exit, second_exit}
+use Rattle.runs.specs.Stages.Views.{row_end_of, first_exit, second_exit}
 use Rattle.runs.specs.declared.requests.LineRequest.{LineRequest}
 
 -- ---- requests
 
 -- a branch that is no line asks for nothing
 unfoldable pub nothing_at : ℕ → LineRequest
-nothing_at b = record { e = b; sa = 0; sb = 0; slot_a = origin; slot_b = origin; exit_a = origin; exit_b = origin }
+nothing_at b = record {
+  e = b;
+  sa = 0;
+  sb = 0;
+  row_end_a = origin;
+  row_end_b = origin;
+  exit_a = origin;
+  exit_b = origin;
+}
 
 -- what line b between the buses i and j asks for, whose ends have the rows ra and rb: its row ends, and its exits,
 -- which a list holds
@@ -21,14 +29,14 @@ unfoldable pub line_request :
 line_request sub measures buses blocks places frames b i j ra rb =
     let s = station_of sub i in
     let t = station_of sub j in
-    let p = slot_of measures buses blocks frames s i ra in
-    let q = slot_of measures buses blocks frames t j rb in
+    let p = row_end_of measures buses blocks frames s i ra in
+    let q = row_end_of measures buses blocks frames t j rb in
     record {
       e = b;
       sa = s;
       sb = t;
-      slot_a = p;
-      slot_b = q;
+      row_end_a = p;
+      row_end_b = q;
       exit_a = first_exit (length sub) places b;
       exit_b = second_exit (length sub) places b;
     }

@@ -16,24 +16,24 @@ use Rattle.stations.specs.declared.bars.Bar.{Bar}
 use Rattle.stations.specs.Bar.{row_y, bar_for, span_of, position}
 use Rattle.stations.specs.Exit.{exit_x}
 
--- what leads lines round boxes: whether there are iterations, the gap, the number of stations, the work list of
+-- what leads lines round boxes: whether there are iterations, the clearance, the number of stations, the work list of
 -- stations, and that of waypoints
 pub record Lead : Type 0 where
   pub led : Bool
-  pub gap : Float
+  pub clearance : Float
   pub k : ℕ
   pub stations : List ℕ
   pub ways : List Float
 
 abbrev pub lead : Bool → Float → ℕ → List ℕ → List Float → Lead
-lead a b c d e = record { led = a; gap = b; k = c; stations = d; ways = e }
+lead a b c d e = record { led = a; clearance = b; k = c; stations = d; ways = e }
 
--- that by the gap which lines keep where they are led, none where they aren't
+-- that by the clearance which lines keep where they are led, none where they aren't
 abbrev pub lead_by : Option Float → ℕ → List ℕ → List Float → Lead
-lead_by gap k stations ways = lead (is_some gap) (unwrap_or gap nan) k stations ways
+lead_by clearance k stations ways = lead (is_some clearance) (unwrap_or clearance nan) k stations ways
 
--- the station numbers, the unit with the gaps, and the work lists of buses, branches' ends, blocks, places and boxes;
--- what leads lines
+-- the station numbers, the unit with the block options, and the work lists of buses, branches' ends, blocks, places and
+-- boxes; what leads lines
 pub record RunLists : Type 0 where
   pub sub : List ℕ
   pub measures : Measures
@@ -56,18 +56,18 @@ block_of unit blocks s = unit ⊗ get_or blocks (3 * s + 2) nan
 unfoldable pub bar_of : Measures → List ℕ → List Float → List Float → ℕ → ℕ → Bar
 bar_of measures buses blocks frames s i =
     bar_for
-    measures.gaps
+    measures.block_options
     (box_at frames s)
     (block_of measures.unit blocks s)
     (get_or buses (3 * i) 0)
     (span_of (get_or buses (3 * i + 1) 0) (get_or buses (3 * i + 2) 0))
 
 -- the row end of bus i of station s
-unfoldable pub slot_of : Measures → List ℕ → List Float → List Float → ℕ → ℕ → ℕ → Point
-slot_of measures buses blocks frames s i row =
+unfoldable pub row_end_of : Measures → List ℕ → List Float → List Float → ℕ → ℕ → ℕ → Point
+row_end_of measures buses blocks frames s i row =
     point
     (bar_of measures buses blocks frames s i).x
-    (row_y measures.gaps (box_at frames s) (block_of measures.unit blocks s) row)
+    (row_y measures.block_options (box_at frames s) (block_of measures.unit blocks s) row)
 
 -- the exit of station s towards t, at the height y
 unfoldable pub exit_of : List Float → List Float → ℕ → ℕ → Float → Point
@@ -90,20 +90,20 @@ open_from sub measures buses blocks frames a b =
 
 unfoldable pub internal_from : List ℕ → Measures → List ℕ → List Float → List Float → ℕ → ℕ → ℕ → ℕ → List Point
 internal_from sub measures buses blocks frames a b ra rb =
-    slot_of measures buses blocks frames (station_of sub a) a ra
-    ∷ slot_of measures buses blocks frames (station_of sub b) b rb
+    row_end_of measures buses blocks frames (station_of sub a) a ra
+    ∷ row_end_of measures buses blocks frames (station_of sub b) b rb
     ∷ []
 
--- the path between the slots of a line from station s to station t, led round boxes where there are iterations
+-- the path between the row ends of a line from station s to station t, led round boxes where there are iterations
 unfoldable pub led_in : Bool → Float → ℕ → List ℕ → List Float → ℕ → ℕ → List Point → List Point
-led_in led gap k stations frames s t path =
-    cond led (detour (boxes_in k frames) (occupied (counts_in k stations)) gap s t path) path
+led_in led clearance k stations frames s t path =
+    cond led (detour (boxes_in k frames) (occupied (counts_in k stations)) clearance s t path) path
 
--- the points of a line from station s to station t between its slots p and q, whose exits are x and y, by n waypoints,
--- the first of them w
+-- the points of a line from station s to station t between its row ends p and q, whose exits are x and y, by n
+-- waypoints, the first of them w
 unfoldable pub led_run : Lead → List Float → ℕ → ℕ → Point → Point → Point → Point → ℕ → ℕ → List Point
 led_run L frames s t p q x y w n =
-    p ∷ (led_in L.led L.gap L.k L.stations frames s t (x ∷ (path_in w n L.ways ++ (y ∷ []))) ++ (q ∷ []))
+    p ∷ (led_in L.led L.clearance L.k L.stations frames s t (x ∷ (path_in w n L.ways ++ (y ∷ []))) ++ (q ∷ []))
 
 -- that of line e between the buses a and b, whose ends have the rows ra and rb; its exits stand behind the places of as
 -- many stations as there are buses
@@ -113,8 +113,8 @@ unfoldable pub line_from :
 line_from sub measures buses blocks places frames L e a b ra rb w n =
     let s = station_of sub a in
     let t = station_of sub b in
-    let p = slot_of measures buses blocks frames s a ra in
-    let q = slot_of measures buses blocks frames t b rb in
+    let p = row_end_of measures buses blocks frames s a ra in
+    let q = row_end_of measures buses blocks frames t b rb in
     led_run L frames s t p q (first_exit (length sub) places e) (second_exit (length sub) places e) w n
 
 unfoldable pub run_from : RunLists → ℕ → ℕ → ℕ → ℕ → ℕ → Kind → List Point
@@ -124,16 +124,16 @@ run_from H e ra rb w n (Internal a b) = internal_from H.sub H.measures H.buses H
 run_from H e ra rb w n (Line a b) = line_from H.sub H.measures H.buses H.blocks H.places H.frames H.lead e a b ra rb w n
 
 -- the first waypoint of branch e, and how many it has
-abbrev pub way_of : List ℕ → ℕ → ℕ
-way_of ends e = get_or ends (4 * e + 2) 0
+abbrev pub first_waypoint : List ℕ → ℕ → ℕ
+first_waypoint ends e = get_or ends (4 * e + 2) 0
 
-abbrev pub way_count : List ℕ → ℕ → ℕ
-way_count ends e = get_or ends (4 * e + 3) 0
+abbrev pub waypoint_count : List ℕ → ℕ → ℕ
+waypoint_count ends e = get_or ends (4 * e + 3) 0
 
 unfoldable pub run_in : RunLists → ℕ → Kind → List Point
 run_in H e kind =
     run_from
-    H e (get_or H.ends (4 * e) 0) (get_or H.ends (4 * e + 1) 0) (way_of H.ends e) (way_count H.ends e) kind
+    H e (get_or H.ends (4 * e) 0) (get_or H.ends (4 * e + 1) 0) (first_waypoint H.ends e) (waypoint_count H.ends e) kind
 
 -- the run of branch e where it is no line, else no points
 unfoldable pub other_run : List ℕ → Measures → List ℕ → List ℕ → List Float → List Float → ℕ → Kind → List Point
@@ -143,13 +143,13 @@ other_run sub measures buses ends blocks frames e (Internal a b) =
     internal_from sub measures buses blocks frames a b (get_or ends (4 * e) 0) (get_or ends (4 * e + 1) 0)
 other_run sub measures buses ends blocks frames e (Line a b) = []
 
--- a list has room for a run by n waypoints, with two slots, two exits and four points more; for that of branch e, whose
--- waypoints have small numbers
+-- a list has room for a run by n waypoints, with two row ends, two exits and four points more; for that of branch e,
+-- whose waypoints have small numbers
 abbrev pub HasRoom : ℕ → List Float → Type 0
 HasRoom n path = 2 * (n + 8) ≤ length path
 
 abbrev pub Fits : List ℕ → List Float → ℕ → Type 0
-Fits ends path e = HasRoom (way_count ends e) path × (way_of ends e + way_count ends e < 2 ^ 31)
+Fits ends path e = HasRoom (waypoint_count ends e) path × (first_waypoint ends e + waypoint_count ends e < 2 ^ 31)
 
 -- a list holds these points and no more than so many are asked for
 pub record Ran (r : ℕ) (path : List Float) (points : List Point) : Type 0 where

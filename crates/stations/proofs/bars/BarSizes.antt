@@ -1,4 +1,4 @@
--- Bars, positions, row ends and exits have bounds: boxes within 2 ^ 70, blocks within 2 ^ 46, columns below 2 ^ 12, rows below 2 ^ 13, gaps of at most 8. Assumes nothing.
+-- Bars, positions, row ends and exits have bounds: boxes within 2 ^ 70, blocks within 2 ^ 46, columns below 2 ^ 12, rows below 2 ^ 13, block options of at most 8. Assumes nothing.
 use Prim.Native.Nat.{ℕ, zero, suc, ◌+◌, ◌-◌, ◌^◌, ◌≤◌}
 use native.Mathlib.Omega.{arith}
 use mathlib.Core.Bool.{Bool, true, false}
@@ -17,11 +17,11 @@ use Rattle.network.specs.declared.words.Kind.{Kind}
 use Rattle.network.specs.declared.words.Kind.TheVariants.{Undrawn, Open, Internal, Line}
 use Rattle.network.specs.Words.{kind_at, station_of}
 use Rattle.network.specs.Seed.{place_at}
-use Rattle.network.specs.declared.options.Gaps.{Gaps}
+use Rattle.network.specs.declared.options.BlockOptions.{BlockOptions}
 use Rattle.stations.proofs.sizes.SideSizes.{table_at, Narrow}
 use Rattle.plane.specs.Plane.{box_in}
 use Rattle.stations.specs.declared.bars.Bar.{Bar}
-use Rattle.stations.specs.Bar.{bar_x, row_y, Span, bare, rows, include, include_end, include_branch, span_to, reach, bar_middle, lengthened, bar_for, spans, block_at, bars, bar_at, position, row_end}
+use Rattle.stations.specs.Bar.{bar_x, row_y, Span, bare, rows, include, include_end, include_branch, span_to, bar_ends, bar_middle, lengthened, bar_for, spans, block_at, bars, bar_at, position, row_end}
 use Rattle.stations.specs.Exit.{exit_x, exit}
 
 -- ---- a bus's rows are at most n, where the rows of the branches' ends are
@@ -73,7 +73,7 @@ pub position_near : (k : ℕ) (b : Bar) → k + 1 ≤ 2097 → Barred k b → Ne
 unfolding position
 position_near k b K B = record { x = B.x; y = middle_most k b K B }
 
-module _ (G : Gaps) (N : Narrow G) where
+module _ (G : BlockOptions) (N : Narrow G) where
   module _ (box : Box) (f : Float) (B : Edges (1074 + 70) box) (F : AtMost (1074 + 46) f) where
     -- so many blocks from an edge
     off : (a x : Float) → AtMost (1074 + 70) a → AtMost (1074 + 16) x → AtMost (1074 + 71) (a ⊕ x ⊗ f)
@@ -98,16 +98,16 @@ module _ (G : Gaps) (N : Narrow G) where
     half_block : AtMost (1074 + 46) (f½ ⊗ f)
     half_block = mul_most (1074 - 1) (1074 + 46) (1074 + 46) f½ f (lit≤ tt) (lit≤ tt) f½_most F
 
-    reach_most : (x : Float) (s : Span) → AtMost (1074 + 71) x → Spanned (2 ^ 13) s → Barred (1074 + 72) (reach G box f x s)
-    unfolding reach
-    reach_most x bare h s = record {
+    bar_ends_most : (x : Float) (s : Span) → AtMost (1074 + 71) x → Spanned (2 ^ 13) s → Barred (1074 + 72) (bar_ends G box f x s)
+    unfolding bar_ends
+    bar_ends_most x bare h s = record {
       x = most_weaken (1074 + 71) (1074 + 72) x (lit≤ tt) h;
       y0 = most_weaken (1074 + 71) (1074 + 72) (box.top ⊕ G.pad ⊗ f) (lit≤ tt) (off box.top G.pad B.1 (most_weaken (1074 + 3) (1074 + 16) G.pad (lit≤ tt) N.pad));
       y1 =
           most_weaken (1074 + 71) (1074 + 72) (box.top ⊕ (G.pad ⊕ G.min_bar) ⊗ f) (lit≤ tt)
           (off box.top (G.pad ⊕ G.min_bar) B.1 (add_under (1074 + 3) (1074 + 3) (1074 + 16) G.pad G.min_bar (lit≤ tt) (lit≤ tt) (lit≤ tt) N.pad N.min_bar));
     }
-    reach_most x (rows a b) h s = record {
+    bar_ends_most x (rows a b) h s = record {
       x = most_weaken (1074 + 71) (1074 + 72) x (lit≤ tt) h;
       y0 = sub_under (1074 + 71) (1074 + 46) (1074 + 72) (row_y G box f a) (f½ ⊗ f) (lit≤ tt) (lit≤ tt) (lit≤ tt) (row_y_most a s.0) half_block;
       y1 = add_under (1074 + 71) (1074 + 46) (1074 + 72) (row_y G box f b) (f½ ⊗ f) (lit≤ tt) (lit≤ tt) (lit≤ tt) (row_y_most b s.1) half_block;
@@ -139,7 +139,7 @@ module _ (G : Gaps) (N : Narrow G) where
 
     pub bar_most : (column : ℕ) (s : Span) → column ≤ 2 ^ 12 → Spanned (2 ^ 13) s → Barred (1074 + 73) (bar_for G box f column s)
     unfolding bar_for
-    bar_most column s l h = lengthened_most (reach G box f (bar_x G box f column) s) (reach_most (bar_x G box f column) s (bar_x_most column l) h)
+    bar_most column s l h = lengthened_most (bar_ends G box f (bar_x G box f column) s) (bar_ends_most (bar_x G box f column) s (bar_x_most column l) h)
 
   module _ (sub columns : List ℕ) (ss : List Span) (fs : List Float) (bs : List Box) (C : (i : ℕ) → get_or columns i 0 ≤ 2 ^ 12) (S : (i : ℕ) → Spanned (2 ^ 13) (get_or ss i bare))
       (F : (s : ℕ) → AtMost (1074 + 46) (block_at fs s)) (B : (s : ℕ) → Edges (1074 + 70) (box_in bs s)) where

@@ -8,15 +8,15 @@ use borrow.Author.Tests.{lt-ltb, le-ltb}
 use Rattle.numbers.specs.Order.{pick, before}
 use Rattle.numbers.specs.Table.{how_many}
 use Rattle.numbers.proofs.order.Tables.{how_many_ext}
-use Rattle.stations.specs.Stages.Ranking.{in_station, place_in}
+use Rattle.stations.specs.Stages.Ranking.{in_station, rank_in}
 
 module _ (of key : ℕ → ℕ) (k c x : ℕ) where
-  pub place_none : k ≤ of x → place_in of key k c x ≡ 0
-  unfolding place_in
+  pub place_none : k ≤ of x → rank_in of key k c x ≡ 0
+  unfolding rank_in
   place_none h = ap (λ (b : Bool). pick b (how_many (λ j. pick (eqb (of j) (of x)) (before key ltb j x) false) c) 0) (le-ltb (of x) k h)
 
-  pub place_some : of x < k → place_in of key k c x ≡ how_many (λ j. pick (eqb (of j) (of x)) (before key ltb j x) false) c
-  unfolding place_in
+  pub place_some : of x < k → rank_in of key k c x ≡ how_many (λ j. pick (eqb (of j) (of x)) (before key ltb j x) false) c
+  unfolding rank_in
   place_some h = ap (λ (b : Bool). pick b (how_many (λ j. pick (eqb (of j) (of x)) (before key ltb j x) false) c) 0) (lt-ltb (of x) k h)
 
 pub before_ext : (key new : ℕ → ℕ) (R S : ℕ → ℕ → Bool) (j i u v : ℕ) → key j ≡ new u → key i ≡ new v → R j i ≡ S u v → before key R j i ≡ before new S u v
@@ -30,8 +30,8 @@ module _ (of on : ℕ → ℕ) (c : ℕ) (same : (j : ℕ) → j < c → of j �
   unfolding in_station
   station_ext s = how_many_ext (λ j. eqb (of j) s) (λ j. eqb (on j) s) c (λ j h. ap (λ (n : ℕ). eqb n s) (same j h))
 
-  pub place_ext : (key new : ℕ → ℕ) → ((j : ℕ) → j < c → key j ≡ new j) → (k x : ℕ) → x < c → place_in of key k c x ≡ place_in on new k c x
-  unfolding place_in
+  pub place_ext : (key new : ℕ → ℕ) → ((j : ℕ) → j < c → key j ≡ new j) → (k x : ℕ) → x < c → rank_in of key k c x ≡ rank_in on new k c x
+  unfolding rank_in
   place_ext key new keyed k x h =
       ap (λ (s : ℕ). pick (ltb s k) (how_many (λ j. pick (eqb (of j) s) (before key ltb j x) false) c) 0) (same x h)
       ∙ ap (λ (n : ℕ). pick (ltb (on x) k) n 0)

@@ -17,7 +17,7 @@ use Rattle.numbers.proofs.order.Laws.{count_nil, count_sort, rank_found, below_s
 use Rattle.numbers.proofs.order.Tables.{table_ext}
 use Rattle.numbers.proofs.order.Strides.{is_table, read_other, strided_other}
 use Rattle.network.specs.Views.{counts_in}
-use Rattle.stations.specs.Stages.Ranking.{in_station, place_in}
+use Rattle.stations.specs.Stages.Ranking.{in_station, rank_in}
 use Rattle.stations.proofs.ranking.Prefix.{prefix_law}
 use Rattle.stations.proofs.ranking.Placing.{place_none, place_some}
 
@@ -52,7 +52,7 @@ pub record Walked (of : List ℕ) (c k : ℕ) (o S₀ P₀ S P : List ℕ) (p : 
   pub size_p : length P ≡ length P₀
   pub counted : (s : ℕ) → s < k → get_or S (2 * s + 1) 0 ≡ count (λ j. eqb (get_or of j 0) s) (take p o)
   pub beside : counts_in k S ≡ counts_in k S₀
-  pub placed : (key : ℕ → ℕ) → take c o ≡ sort_by key (up_from 0 c) → (q : ℕ) → q < p → get_or P (get_or o q 0) 0 ≡ place_in (key_at of) key k c (get_or o q 0)
+  pub placed : (key : ℕ → ℕ) → take c o ≡ sort_by key (up_from 0 c) → (q : ℕ) → q < p → get_or P (get_or o q 0) 0 ≡ rank_in (key_at of) key k c (get_or o q 0)
 
 -- the number at x may be written again by what belongs there
 again : (f : ℕ → ℕ) (P : List ℕ) (x y : ℕ) → x < length P → get_or P y 0 ≡ f y → get_or (set P x (f x)) y 0 ≡ f y
@@ -75,10 +75,10 @@ module _ (of : List ℕ) (c k : ℕ) (o S₀ P₀ : List ℕ) (ol : c ≤ length
 
   module _ (S P : List ℕ) (p : ℕ) (w : Walked of c k o S₀ P₀ S P p) (pc : p < c) (x : ℕ) (e : x ≡ get_or o p 0) (xc : x < c) where
     -- what belongs at x
-    placed_next : (v : ℕ) → ((key : ℕ → ℕ) → take c o ≡ sort_by key (up_from 0 c) → v ≡ place_in (key_at of) key k c x)
-        → (key : ℕ → ℕ) → take c o ≡ sort_by key (up_from 0 c) → (q : ℕ) → q < p + 1 → get_or (set P x v) (get_or o q 0) 0 ≡ place_in (key_at of) key k c (get_or o q 0)
+    placed_next : (v : ℕ) → ((key : ℕ → ℕ) → take c o ≡ sort_by key (up_from 0 c) → v ≡ rank_in (key_at of) key k c x)
+        → (key : ℕ → ℕ) → take c o ≡ sort_by key (up_from 0 c) → (q : ℕ) → q < p + 1 → get_or (set P x v) (get_or o q 0) 0 ≡ rank_in (key_at of) key k c (get_or o q 0)
     placed_next v f key g =
-        let F : ℕ → ℕ = place_in (key_at of) key k c in
+        let F : ℕ → ℕ = rank_in (key_at of) key k c in
         let xl : x < length P = omega (arith, w.size_p) in
         let r : v ≡ F x = f key g in
         subst (λ (u : ℕ). (q : ℕ) → q < p + 1 → get_or (set P x u) (get_or o q 0) 0 ≡ F (get_or o q 0)) (sym r)
@@ -109,7 +109,7 @@ module _ (of : List ℕ) (c k : ℕ) (o S₀ P₀ : List ℕ) (ol : c ≤ length
       pub walk_fits : get_or S (2 * s + 1) 0 < c
       walk_fits = omega (arith, w.counted s h, count_le (λ j. eqb (get_or of j 0) s) (take p o), length-take-le p o (omega arith))
 
-      value : (key : ℕ → ℕ) → take c o ≡ sort_by key (up_from 0 c) → get_or S (2 * s + 1) 0 ≡ place_in (key_at of) key k c x
+      value : (key : ℕ → ℕ) → take c o ≡ sort_by key (up_from 0 c) → get_or S (2 * s + 1) 0 ≡ rank_in (key_at of) key k c x
       value key g =
           let t : ℕ → Bool = λ j. eqb (get_or of j 0) s in
           let u : take p o ≡ take p (sort_by key (up_from 0 c)) = sym (take-take p c o (omega arith)) ∙ ap (take p) g in
@@ -157,9 +157,9 @@ module _ (of : List ℕ) (c k : ℕ) (o S₀ P₀ : List ℕ) (ol : c ≤ length
     unfolding strided
     walk_counts = table_ext (λ s. get_or S (2 * s + 1) 0) (λ s. count (λ j. eqb (get_or of j 0) s) (take c o)) k w.counted
 
-    pub walk_places : (key : ℕ → ℕ) → take c o ≡ sort_by key (up_from 0 c) → take c P ≡ table (place_in (key_at of) key k c) c
+    pub walk_places : (key : ℕ → ℕ) → take c o ≡ sort_by key (up_from 0 c) → take c P ≡ table (rank_in (key_at of) key k c) c
     walk_places key g =
-        let F : ℕ → ℕ = place_in (key_at of) key k c in
+        let F : ℕ → ℕ = rank_in (key_at of) key k c in
         is_table F c (take c P) 0 (length-take-le c P (omega (arith, w.size_p)))
         (λ x h.
         let r = rank_found key c x h in

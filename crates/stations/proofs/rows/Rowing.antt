@@ -21,7 +21,7 @@ use Rattle.network.proofs.Stations.{station_below}
 use Rattle.network.proofs.Branches.{kind_safe}
 use Rattle.stations.specs.Row.{rows_in, row, from_row, to_row, from_rows, to_rows}
 use Rattle.stations.specs.Stages.Entry.{none, end_station, end_key, to_entry, from_end, entry_station, entry_key}
-use Rattle.stations.specs.Stages.Ranking.{in_station, place_in}
+use Rattle.stations.specs.Stages.Ranking.{in_station, rank_in}
 use Rattle.stations.proofs.ranking.Fronts.{front_at}
 use Rattle.stations.proofs.ranking.Placing.{place_none, place_some, station_ext, place_ext}
 use Rattle.stations.proofs.rows.Entries.{of_at, rows_counted, row_counted}
@@ -31,7 +31,7 @@ module _ (sub : List ℕ) (ks : List Kind) (safe : (e : ℕ) → e < length ks �
   of = entry_station sub ks
 
   abbrev place : ℕ → ℕ
-  place = place_in (entry_station sub ks) (entry_key sub seeds ks) k (2 * length ks)
+  place = rank_in (entry_station sub ks) (entry_key sub seeds ks) k (2 * length ks)
 
   below : (a : ℕ) → a < length sub → station_of sub a < k
   below a h = rw kc (station_below sub a h)
@@ -83,10 +83,10 @@ module _ (sub : List ℕ) (ks : List Kind) (safe : (e : ℕ) → e < length ks �
   -- by lists that hold the entries' stations, keys and places
   module _ (own keys places : List ℕ) (f : take (2 * length ks) own ≡ table (entry_station sub ks) (2 * length ks))
       (g : take (2 * length ks) keys ≡ table (entry_key sub seeds ks) (2 * length ks))
-      (h : take (2 * length ks) places ≡ table (place_in (key_at own) (key_at keys) k (2 * length ks)) (2 * length ks)) where
+      (h : take (2 * length ks) places ≡ table (rank_in (key_at own) (key_at keys) k (2 * length ks)) (2 * length ks)) where
     place_at : (x : ℕ) → x < 2 * length ks → get_or places x 0 ≡ place x
     place_at x l =
-        front_at (place_in (key_at own) (key_at keys) k (2 * length ks)) (2 * length ks) places h x l
+        front_at (rank_in (key_at own) (key_at keys) k (2 * length ks)) (2 * length ks) places h x l
         ∙ place_ext (key_at own) of (2 * length ks) (front_at of (2 * length ks) own f) (key_at keys) (entry_key sub seeds ks)
         (front_at (entry_key sub seeds ks) (2 * length ks) keys g) k x l
 
@@ -136,7 +136,7 @@ module _ (sub : List ℕ) (from to : List ℤ) (service : List ℕ) (places : Li
   n = length from
 
   module _ (f : take (2 * n) keys ≡ table (entry_key sub (points_in (station_count sub) places) ks) (2 * n)) (g : take (2 * n) own ≡ table (entry_station sub ks) (2 * n))
-      (h : take (2 * n) ranked ≡ table (place_in (key_at own) (key_at keys) k (2 * n)) (2 * n)) where
+      (h : take (2 * n) ranked ≡ table (rank_in (key_at own) (key_at keys) k (2 * n)) (2 * n)) where
     ln : n ≡ length ks
     ln = sym (length_kinds sub from to service)
 
@@ -151,8 +151,8 @@ module _ (sub : List ℕ) (from to : List ℤ) (service : List ℕ) (places : Li
         subst (λ (m : ℕ). take (2 * m) keys ≡ table (entry_key sub (points_in k places) ks) (2 * m)) ln
         (subst (λ (j : ℕ). take (2 * n) keys ≡ table (entry_key sub (points_in j places) ks) (2 * n)) (sym kc) f)
 
-    ranked_all : take (2 * length ks) ranked ≡ table (place_in (key_at own) (key_at keys) k (2 * length ks)) (2 * length ks)
-    ranked_all = subst (λ (m : ℕ). take (2 * m) ranked ≡ table (place_in (key_at own) (key_at keys) k (2 * m)) (2 * m)) ln h
+    ranked_all : take (2 * length ks) ranked ≡ table (rank_in (key_at own) (key_at keys) k (2 * length ks)) (2 * length ks)
+    ranked_all = subst (λ (m : ℕ). take (2 * m) ranked ≡ table (rank_in (key_at own) (key_at keys) k (2 * m)) (2 * m)) ln h
 
     pub from_rows_end : table (λ e. get_or ranked (2 * e) 0) n ≡ from_rows sub (points_in k places) ks
     from_rows_end =

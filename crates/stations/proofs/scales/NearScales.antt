@@ -20,10 +20,10 @@ use Rattle.stations.specs.Scale.{tier, occupied_below, scale_at, scales_of, scal
 use Rattle.stations.proofs.units.Near.{distance_take}
 
 -- whether a point is near depends on its distance only
-near_by : (ps qs : List Float) (reach : Float) (i j : ℕ) → distance (point_at qs i) (point_at qs j) ≡ distance (point_at ps i) (point_at ps j)
-    → near qs reach i j ≡ near ps reach i j
+near_by : (ps qs : List Float) (tier_distance : Float) (i j : ℕ) → distance (point_at qs i) (point_at qs j) ≡ distance (point_at ps i) (point_at ps j)
+    → near qs tier_distance i j ≡ near ps tier_distance i j
 unfolding near
-near_by ps qs reach i j e = ap (λ (d : Float). not (eqb j i) && le d reach) e
+near_by ps qs tier_distance i j e = ap (λ (d : Float). not (eqb j i) && le d tier_distance) e
 
 -- an occupied station has fewer occupied ones below it than there are
 pub occupied_below_lem : (counts : List ℕ) (s : ℕ) → s < length counts → is_occupied counts s ≡ true → occupied_below counts s < length (occupied counts)
@@ -36,30 +36,30 @@ module _ (ps : List Float) (n : ℕ) where
   abbrev qs : List Float
   qs = take (2 * n) ps
 
-  neighbours_take : (reach : Float) (i : ℕ) → i < n → neighbours qs n reach i ≡ neighbours ps n reach i
+  neighbours_take : (tier_distance : Float) (i : ℕ) → i < n → neighbours qs n tier_distance i ≡ neighbours ps n tier_distance i
   unfolding neighbours within
-  neighbours_take reach i h = ap (λ (c : ℕ). pick (lt f0 reach) c 0) (how_many_ext (near qs reach i) (near ps reach i) n same)
+  neighbours_take tier_distance i h = ap (λ (c : ℕ). pick (lt f0 tier_distance) c 0) (how_many_ext (near qs tier_distance i) (near ps tier_distance i) n same)
     where
-      same : (j : ℕ) → j < n → near qs reach i j ≡ near ps reach i j
-      same j k = near_by ps qs reach i j (distance_take ps n i j h k)
+      same : (j : ℕ) → j < n → near qs tier_distance i j ≡ near ps tier_distance i j
+      same j k = near_by ps qs tier_distance i j (distance_take ps n i j h k)
 
   -- and the scales by them, where they are those of the occupied stations
   module _ (O : Options) (counts : List ℕ) (e : n ≡ length (occupied counts)) where
-    scale_take : (reach : Float) (s : ℕ) → s < length counts → scale_at O qs n reach counts s ≡ scale_at O ps n reach counts s
+    scale_take : (tier_distance : Float) (s : ℕ) → s < length counts → scale_at O qs n tier_distance counts s ≡ scale_at O ps n tier_distance counts s
     unfolding scale_at
-    scale_take reach s h = go (is_occupied counts s) refl
+    scale_take tier_distance s h = go (is_occupied counts s) refl
       where
         go : (b : Bool) → is_occupied counts s ≡ b
-            → pick b (tier O (neighbours qs n reach (occupied_below counts s))) f1 ≡ pick b (tier O (neighbours ps n reach (occupied_below counts s))) f1
-        go true t = ap (tier O) (neighbours_take reach (occupied_below counts s) (rw e (occupied_below_lem counts s h t)))
+            → pick b (tier O (neighbours qs n tier_distance (occupied_below counts s))) f1 ≡ pick b (tier O (neighbours ps n tier_distance (occupied_below counts s))) f1
+        go true t = ap (tier O) (neighbours_take tier_distance (occupied_below counts s) (rw e (occupied_below_lem counts s h t)))
         go false t = refl
 
     pub scales_take : (sp : Float) → scales_of O qs n sp counts ≡ scales_of O ps n sp counts
     unfolding scales_of
-    scales_take sp = table_ext (scale_at O qs n reach counts) (scale_at O ps n reach counts) (length counts) (scale_take reach)
+    scales_take sp = table_ext (scale_at O qs n tier_distance counts) (scale_at O ps n tier_distance counts) (length counts) (scale_take tier_distance)
       where
-        reach : Float
-        reach = O.tier_radius ⊗ sp
+        tier_distance : Float
+        tier_distance = O.tier_radius ⊗ sp
 
 -- ---- with the points of the occupied stations at the front of the list
 module _ (ps : List Float) (n : ℕ) (seeds : List Point) (counts : List ℕ) (e : n ≡ length (occupied counts)) (t : take (2 * n) ps ≡ coordinates seeds (occupied counts)) where

@@ -65,23 +65,23 @@ module _ (O : Options) (first : Scaled O.tier_scale_1) (second : Scaled O.tier_s
       pick_scaled (leb O.tier_count_2 c) O.tier_scale_2 (pick (leb O.tier_count_1 c) O.tier_scale_1 f1) second
       (pick_scaled (leb O.tier_count_1 c) O.tier_scale_1 f1 first one_scaled)
 
-  scale_at_lem : (ps : List Float) (n : ℕ) (reach : Float) (counts : List ℕ) (s : ℕ) → Scaled (scale_at O ps n reach counts s)
+  scale_at_lem : (ps : List Float) (n : ℕ) (tier_distance : Float) (counts : List ℕ) (s : ℕ) → Scaled (scale_at O ps n tier_distance counts s)
   unfolding scale_at
-  scale_at_lem ps n reach counts s =
-      pick_scaled (is_occupied counts s) (tier O (neighbours ps n reach (occupied_below counts s))) f1 (tier_scaled (neighbours ps n reach (occupied_below counts s))) one_scaled
+  scale_at_lem ps n tier_distance counts s =
+      pick_scaled (is_occupied counts s) (tier O (neighbours ps n tier_distance (occupied_below counts s))) f1 (tier_scaled (neighbours ps n tier_distance (occupied_below counts s))) one_scaled
 
-  module _ (seeds : List Point) (counts : List ℕ) (gap : Float) where
-    reach : Float
-    reach = O.tier_radius ⊗ gap
+  module _ (seeds : List Point) (counts : List ℕ) (median_spacing : Float) where
+    tier_distance : Float
+    tier_distance = O.tier_radius ⊗ median_spacing
 
     of : ℕ → Float
-    of s = scale_at O (coordinates seeds (occupied counts)) (length (occupied counts)) reach counts s
+    of s = scale_at O (coordinates seeds (occupied counts)) (length (occupied counts)) tier_distance counts s
 
-    pub scales_all : (s : ℕ) → Scaled (get_or (scales O seeds counts gap) s f1)
-    unfolding scales scales_of of reach
-    scales_all s = table_at Scaled of (length counts) s f1 (λ i l. scale_at_lem (coordinates seeds (occupied counts)) (length (occupied counts)) reach counts i) one_scaled
+    pub scales_all : (s : ℕ) → Scaled (get_or (scales O seeds counts median_spacing) s f1)
+    unfolding scales scales_of of tier_distance
+    scales_all s = table_at Scaled of (length counts) s f1 (λ i l. scale_at_lem (coordinates seeds (occupied counts)) (length (occupied counts)) tier_distance counts i) one_scaled
 
-    pub scales_at : (s : ℕ) (d : Float) → s < length counts → Scaled (get_or (scales O seeds counts gap) s d)
-    unfolding scales scales_of of reach
+    pub scales_at : (s : ℕ) (d : Float) → s < length counts → Scaled (get_or (scales O seeds counts median_spacing) s d)
+    unfolding scales scales_of of tier_distance
     scales_at s d l =
-        subst Scaled (sym (get_d_table of (length counts) s d l)) (scale_at_lem (coordinates seeds (occupied counts)) (length (occupied counts)) reach counts s)
+        subst Scaled (sym (get_d_table of (length counts) s d l)) (scale_at_lem (coordinates seeds (occupied counts)) (length (occupied counts)) tier_distance counts s)

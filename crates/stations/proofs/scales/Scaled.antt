@@ -36,36 +36,36 @@ counts_front f n l d e = ap (take n) e ∙ take_at (table f n) d n (length_table
 pub count_at : (f : ℕ → ℕ) (n : ℕ) (l : List ℕ) (j : ℕ) → take n l ≡ table f n → j < n → get_or l j 0 ≡ f j
 count_at f n l j e h = sym (get_or-take n l j 0 h) ∙ ap (λ (t : List ℕ). get_or t j 0) e ∙ get_d_table f n j 0 h
 
-module _ (O : Options) (ps : List Float) (n : ℕ) (reach : Float) (k : ℕ) (st : List ℕ) where
+module _ (O : Options) (ps : List Float) (n : ℕ) (tier_distance : Float) (k : ℕ) (st : List ℕ) where
   -- the scale of station s, and those of the first s
   abbrev pub scaled : ℕ → List Float
-  scaled s = table (scale_at O ps n reach (counts_in k st)) s
+  scaled s = table (scale_at O ps n tier_distance (counts_in k st)) s
 
   pub scales_start : (l : List Float) → scales_in 0 l ≡ scaled 0
   unfolding strided table_from
   scales_start l = refl
 
   module _ (s : ℕ) (h : s < k) where
-    pub scale_yes : (j c : ℕ) (v : Float) → 0 < get_or st (2 * s) 0 → j ≡ passed_count k st s → c ≡ neighbours ps n reach j → v ≡ tier O c
-        → v ≡ scale_at O ps n reach (counts_in k st) s
+    pub scale_yes : (j c : ℕ) (v : Float) → 0 < get_or st (2 * s) 0 → j ≡ passed_count k st s → c ≡ neighbours ps n tier_distance j → v ≡ tier O c
+        → v ≡ scale_at O ps n tier_distance (counts_in k st) s
     unfolding scale_at occupied_below
     scale_yes j c v g e f d =
-        d ∙ ap (tier O) (f ∙ ap (neighbours ps n reach) e)
-        ∙ sym (ap (λ (b : Bool). pick b (tier O (neighbours ps n reach (passed_count k st s))) f1) (is_occupied_lem k s st h g))
+        d ∙ ap (tier O) (f ∙ ap (neighbours ps n tier_distance) e)
+        ∙ sym (ap (λ (b : Bool). pick b (tier O (neighbours ps n tier_distance (passed_count k st s))) f1) (is_occupied_lem k s st h g))
 
-    pub scale_no : get_or st (2 * s) 0 ≤ 0 → f1 ≡ scale_at O ps n reach (counts_in k st) s
+    pub scale_no : get_or st (2 * s) 0 ≤ 0 → f1 ≡ scale_at O ps n tier_distance (counts_in k st) s
     unfolding scale_at
     scale_no g =
-        sym (ap (λ (b : Bool). pick b (tier O (neighbours ps n reach (occupied_below (counts_in k st) s))) f1) (not_occupied k s st h g))
+        sym (ap (λ (b : Bool). pick b (tier O (neighbours ps n tier_distance (occupied_below (counts_in k st) s))) f1) (not_occupied k s st h g))
 
-    pub scales_step : (l : List Float) (v : Float) → 3 * k ≤ length l → scales_in s l ≡ scaled s → v ≡ scale_at O ps n reach (counts_in k st) s
+    pub scales_step : (l : List Float) (v : Float) → 3 * k ≤ length l → scales_in s l ≡ scaled s → v ≡ scale_at O ps n tier_distance (counts_in k st) s
         → scales_in (s + 1) (set l (3 * s + 2) v) ≡ scaled (s + 1)
     scales_step l v r e f =
         let m : s + 1 ≡ suc s = add-one s in
         let p : 3 * s + 2 < length l = omega arith in
         rw m
         (strided_push 3 2 nan s l v (omega arith) p ∙ ap (λ (t : List Float). t ++ (v ∷ [])) e
-        ∙ ap (λ (x : Float). scaled s ++ (x ∷ [])) f ∙ sym (table_suc (scale_at O ps n reach (counts_in k st)) s))
+        ∙ ap (λ (x : Float). scaled s ++ (x ∷ [])) f ∙ sym (table_suc (scale_at O ps n tier_distance (counts_in k st)) s))
 
 pub scales_end : (O : Options) (ps : List Float) (n : ℕ) (sp : Float) (k : ℕ) (st : List ℕ)
     → scaled O ps n (O.tier_radius ⊗ sp) k st k ≡ scales_of O ps n sp (counts_in k st)

@@ -13,7 +13,7 @@ use Rattle.numbers.specs.Table.{table_from, table}
 use Rattle.numbers.proofs.order.Tables.{length_table, get_d_table, table_suc, table_ext}
 use Rattle.numbers.proofs.order.Strides.{table_push, length_strided, get_d_strided}
 use Rattle.network.specs.Views.{counts_in}
-use Rattle.network.specs.declared.options.Gaps.{Gaps}
+use Rattle.network.specs.declared.options.BlockOptions.{BlockOptions}
 use Rattle.network.specs.declared.words.Kind.{Kind}
 use Rattle.stations.specs.Row.{rows_in}
 use Rattle.stations.specs.Size.{Size, width_for, height_for, size_for, sizes_for, sizes}
@@ -75,7 +75,7 @@ rows_at : (k s : ℕ) (st : List ℕ) → s < k → get_or (row_counts_in k st) 
 rows_at k s st h = get_d_strided 2 1 0 k s st 0 h
 
 -- ---- the loop that fills in the sizes
-module _ (G : Gaps) (k : ℕ) (st : List ℕ) where
+module _ (G : BlockOptions) (k : ℕ) (st : List ℕ) where
   abbrev pub sized : ℕ → List Size
   sized s = table (λ i. size_for G (get_or (counts_in k st) i 0) (get_or (row_counts_in k st) i 0)) s
 
@@ -100,14 +100,14 @@ module _ (G : Gaps) (k : ℕ) (st : List ℕ) where
   sizes_end = ap sized (sym (length_strided 2 0 0 k st))
 
 -- the sizes of the network, where these are the counts of its stations and their rows
-pub sizes_are : (G : Gaps) (sub : List ℕ) (ks : List Kind) (counts rows : List ℕ) → rows ≡ table (rows_in sub ks) (length counts)
+pub sizes_are : (G : BlockOptions) (sub : List ℕ) (ks : List Kind) (counts rows : List ℕ) → rows ≡ table (rows_in sub ks) (length counts)
     → sizes_for G counts rows ≡ sizes G sub ks counts
 unfolding sizes_for sizes
 sizes_are G sub ks counts rows e =
     table_ext (λ s. size_for G (get_or counts s 0) (get_or rows s 0)) (λ s. size_for G (get_or counts s 0) (rows_in sub ks s)) (length counts)
     (λ s h. ap (size_for G (get_or counts s 0)) (ap (λ (t : List ℕ). get_or t s 0) e ∙ get_d_table (rows_in sub ks) (length counts) s 0 h))
 
-pub sizes_view : (G : Gaps) (k : ℕ) (st sub : List ℕ) (ks : List Kind) (counts : List ℕ) → counts_in k st ≡ counts → row_counts_in k st ≡ table (rows_in sub ks) k
+pub sizes_view : (G : BlockOptions) (k : ℕ) (st sub : List ℕ) (ks : List Kind) (counts : List ℕ) → counts_in k st ≡ counts → row_counts_in k st ≡ table (rows_in sub ks) k
     → sizes_for G (counts_in k st) (row_counts_in k st) ≡ sizes G sub ks counts
 sizes_view G k st sub ks counts e f =
     let n : k ≡ length (counts_in k st) = sym (length_strided 2 0 0 k st) in

@@ -1,4 +1,4 @@
--- Sides in blocks have a bound of 2 ^ 16, for at most 4,096 buses and 8,192 rows and gaps of at most 8. Assumes nothing.
+-- Sides in blocks have a bound of 2 ^ 16, for at most 4,096 buses and 8,192 rows and block options of at most 8. Assumes nothing.
 use mathlib.Core.Path.{◌≡◌, refl, sym, subst}
 use mathlib.Core.Logic.{⊎_elim}
 use Prim.Native.Nat.{ℕ, ◌+◌, ◌-◌, ◌^◌, ◌≤◌, ◌<◌}
@@ -17,8 +17,8 @@ use Rattle.numbers.specs.Table.{table}
 use Rattle.numbers.proofs.order.Merging.{le_or_lt}
 use Rattle.numbers.proofs.order.Tables.{length_table, get_d_table, how_many_le}
 use Rattle.network.specs.declared.words.Kind.{Kind}
-use Rattle.network.specs.declared.options.Gaps.{Gaps}
-use Rattle.network.specs.Options.{between, gap_fits, gaps_fit}
+use Rattle.network.specs.declared.options.BlockOptions.{BlockOptions}
+use Rattle.network.specs.Options.{between, block_option_fits, block_options_fit}
 use Rattle.network.specs.Words.{kind_at}
 use Rattle.stations.specs.Row.{has_row, rows_in}
 use Rattle.stations.specs.Size.{Size, width_for, height_for, size_for, sizes, size_at}
@@ -36,8 +36,8 @@ pub record Sides (k : ℕ) (z : Size) : Type 0 where
   pub w : AtMost k z.w
   pub h : AtMost k z.h
 
--- ---- gaps: each at most 8
-pub record Narrow (G : Gaps) : Type 0 where
+-- ---- block options: each at most 8
+pub record Narrow (G : BlockOptions) : Type 0 where
   pub bar_gap : AtMost (1074 + 3) G.bar_gap
   pub pad : AtMost (1074 + 3) G.pad
   pub min_bar : AtMost (1074 + 3) G.min_bar
@@ -55,9 +55,9 @@ lit_eight : AtMost (1074 + 3) (of_bits binary64 0x4020_0000_0000_0000)
 unfolding most_test is_finite of_bits of_fields odd
 lit_eight = most_lit (1074 + 3) (of_bits binary64 0x4020_0000_0000_0000) tt
 
-gap_narrow : (x : Float) → gap_fits x ≡ true → AtMost (1074 + 3) x
-unfolding gap_fits between
-gap_narrow x h =
+option_narrow : (x : Float) → block_option_fits x ≡ true → AtMost (1074 + 3) x
+unfolding block_option_fits between
+option_narrow x h =
     let k = both (le (of_bits binary64 0x3FE0_0000_0000_0000) x) (le x (of_bits binary64 0x4020_0000_0000_0000)) h in
     between_most (1074 + 3) x (of_bits binary64 0x3FE0_0000_0000_0000) (of_bits binary64 0x4020_0000_0000_0000) k.0 k.1 lit_half lit_eight
 
@@ -65,16 +65,16 @@ first_of : (a b : Bool) → (a && b) ≡ true → (a ≡ true) × (b ≡ true)
 first_of true b h = (refl, h)
 first_of false b h = absurd (true≢false (sym h))
 
-pub gaps_narrow : (G : Gaps) → gaps_fit G ≡ true → Narrow G
-unfolding gaps_fit
-gaps_narrow G h =
-    let p = first_of (gap_fits G.bar_gap) (gap_fits G.pad && (gap_fits G.min_bar && gap_fits G.buffer)) h in
-    let q = first_of (gap_fits G.pad) (gap_fits G.min_bar && gap_fits G.buffer) p.1 in
-    let r = first_of (gap_fits G.min_bar) (gap_fits G.buffer) q.1 in
-    record { bar_gap = gap_narrow G.bar_gap p.0; pad = gap_narrow G.pad q.0; min_bar = gap_narrow G.min_bar r.0 }
+pub block_options_narrow : (G : BlockOptions) → block_options_fit G ≡ true → Narrow G
+unfolding block_options_fit
+block_options_narrow G h =
+    let p = first_of (block_option_fits G.bar_gap) (block_option_fits G.pad && (block_option_fits G.min_bar && block_option_fits G.buffer)) h in
+    let q = first_of (block_option_fits G.pad) (block_option_fits G.min_bar && block_option_fits G.buffer) p.1 in
+    let r = first_of (block_option_fits G.min_bar) (block_option_fits G.buffer) q.1 in
+    record { bar_gap = option_narrow G.bar_gap p.0; pad = option_narrow G.pad q.0; min_bar = option_narrow G.min_bar r.0 }
 
 -- ---- sides in blocks
-module _ (G : Gaps) (B : Narrow G) where
+module _ (G : BlockOptions) (B : Narrow G) where
   pads : AtMost (1074 + 4) (f2 ⊗ G.pad)
   pads = mul_most (1074 + 1) (1074 + 3) (1074 + 4) f2 G.pad (lit≤ tt) (lit≤ tt) f2_most B.pad
 

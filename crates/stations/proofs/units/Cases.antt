@@ -15,6 +15,6 @@ use Rattle.stations.specs.Unit.{coordinates, spacing_of, spacing, typical, unit_
 
 -- No buses: unit 0.45 with the defaults, 0.45 by its pattern.
 pub no_buses : (xy : List Float) (ks : List Kind)
-    → unit_for defaults.fill (spacing (seeds [] xy) (bus_counts [])) (typical (sizes defaults.gaps [] ks (bus_counts [])) (bus_counts [])) ≡ of_bits binary64 0x3FDC_CCCC_CCCC_CCCD
+    → unit_for defaults.fill (spacing (seeds [] xy) (bus_counts [])) (typical (sizes defaults.block_options [] ks (bus_counts [])) (bus_counts [])) ≡ of_bits binary64 0x3FDC_CCCC_CCCC_CCCD
 unfolding defaults past_to station_count bus_counts seeds sizes occupied keep up_from table_from coordinates spacing_of spacing sides typical unit_for median_of max_of lt mul div of_bits
 no_buses xy ks = refl

@@ -75,16 +75,16 @@ module _ {i t : ℕ} (lo top : ℕ) (e : i ≡ 52 + lo) (r : lo ≤ 2045) (h : (
         pick_reached (eqb j s) (nearest_reached s a j (le_of_lt b))
         (nearer_reached (nearest_to ps s j) (nearest_to ps' s j) _ _ (nearest_reached s a j (le_of_lt b)) (distance_doubles (point_at ps s) (point_at ps' s) (point_at ps j) (point_at ps' j) (P s a) (P j b)))
 
-    near_of_doubles : {k u : ℕ} (reach reach' : Float) → Doubles k u reach reach' → (s : ℕ) → s < n → (j : ℕ) → j < n → near ps' reach' s j ≡ near ps reach s j
+    near_of_doubles : {k u : ℕ} (tier_distance tier_distance' : Float) → Doubles k u tier_distance tier_distance' → (s : ℕ) → s < n → (j : ℕ) → j < n → near ps' tier_distance' s j ≡ near ps tier_distance s j
     unfolding near
-    near_of_doubles reach reach' f s a j b = ap (λ (c : Bool). not (eqb j s) && c) (le_of_doubles (distance_doubles (point_at ps s) (point_at ps' s) (point_at ps j) (point_at ps' j) (P s a) (P j b)) f)
+    near_of_doubles tier_distance tier_distance' f s a j b = ap (λ (c : Bool). not (eqb j s) && c) (le_of_doubles (distance_doubles (point_at ps s) (point_at ps' s) (point_at ps j) (point_at ps' j) (P s a) (P j b)) f)
 
     -- how many others are near: the same in both drawings
-    pub neighbours_of_doubles : {k u : ℕ} (reach reach' : Float) → Doubles k u reach reach' → (s : ℕ) → s < n → neighbours ps' n reach' s ≡ neighbours ps n reach s
+    pub neighbours_of_doubles : {k u : ℕ} (tier_distance tier_distance' : Float) → Doubles k u tier_distance tier_distance' → (s : ℕ) → s < n → neighbours ps' n tier_distance' s ≡ neighbours ps n tier_distance s
     unfolding neighbours within
-    neighbours_of_doubles {k} {u} reach reach' f s a =
-        ap (λ (c : Bool). pick c (how_many (near ps' reach' s) n) 0) (lt_of_doubles (zero_doubles k u) f)
-        ∙ ap (λ (c : ℕ). pick (lt f0 reach) c 0) (how_many_ext (near ps' reach' s) (near ps reach s) n (near_of_doubles reach reach' f s a))
+    neighbours_of_doubles {k} {u} tier_distance tier_distance' f s a =
+        ap (λ (c : Bool). pick c (how_many (near ps' tier_distance' s) n) 0) (lt_of_doubles (zero_doubles k u) f)
+        ∙ ap (λ (c : ℕ). pick (lt f0 tier_distance) c 0) (how_many_ext (near ps' tier_distance' s) (near ps tier_distance s) n (near_of_doubles tier_distance tier_distance' f s a))
 
     table_paired : (a m : ℕ) → a + m ≤ n → Paired (Reached lo top) (table_from (nearest ps n) a m) (table_from (nearest ps' n) a m)
     unfolding table_from nearest

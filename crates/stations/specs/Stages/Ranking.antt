@@ -9,5 +9,5 @@ unfoldable pub in_station : (ℕ → ℕ) → ℕ → ℕ → ℕ
 in_station of c s = how_many (λ j. eqb (of j) s) c
 
 -- how many of 0, .., c - 1 stand before x in x's station; 0 where that isn't below k
-unfoldable pub place_in : (ℕ → ℕ) → (ℕ → ℕ) → ℕ → ℕ → ℕ → ℕ
-place_in of key k c x = pick (ltb (of x) k) (how_many (λ j. pick (eqb (of j) (of x)) (before key ltb j x) false) c) 0
+unfoldable pub rank_in : (ℕ → ℕ) → (ℕ → ℕ) → ℕ → ℕ → ℕ → ℕ
+rank_in of key k c x = pick (ltb (of x) k) (how_many (λ j. pick (eqb (of j) (of x)) (before key ltb j x) false) c) 0

@@ -10,7 +10,7 @@ use lib.Dec.{T, eqb, ltb, lit<}
 use lib.IntN.{ℤ}
 use lib.ListN.{length, drop, length-append, length-drop}
 use borrow.Author.Tests.{ltb-true}
-use Rattle.text.specs.declared.listing.input.Counts.{Counts}
+use Rattle.text.specs.declared.listing.input.InputCounts.{InputCounts}
 use Rattle.std.specs.Prelude.{Some}
 use Rattle.std.proofs.lemmas.Option.{cond_some}
 use Rattle.text.specs.declared.listing.line.Bus.{Bus}
@@ -101,12 +101,12 @@ parsed_shape t =
     (λ e. simp (parsed, e) (record { kvs = refl; xys = refl; few = omega arith }, no_branches_lem))
 
 -- what the counts say
-pub answered : (p : Input) (c : Counts) → answer p ≡ Some c
+pub answered : (p : Input) (c : InputCounts) → answer p ≡ Some c
     → (p.well_formed ≡ true) × (c.buses ≡ length p.buses.sub) × (c.branches ≡ length p.branches.live)
 unfolding answer
 answered p c e =
     let k = cond_some p.well_formed (record { buses = length p.buses.sub; branches = length p.branches.live }) c e in
-    (k.0, ap (λ (q : Counts). q.buses) (sym k.1), ap (λ (q : Counts). q.branches) (sym k.1))
+    (k.0, ap (λ (q : InputCounts). q.buses) (sym k.1), ap (λ (q : InputCounts). q.branches) (sym k.1))
 
 -- ---- how many bytes a field takes
 closed_bytes : (stop w : ℕ) (x : List ℕ) (v : ℕ) (l : List ℕ) → closed stop w x ≡ got v l → length x ≡ length l + 1

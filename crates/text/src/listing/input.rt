@@ -19,7 +19,7 @@ const BRANCHES: usize = 64;
 
 /// How many buses and branches a text has.
 #[derive(Clone, Copy)]
-pub struct Counts {
+pub struct InputCounts {
     /// Buses, at most 64.
     pub buses: usize,
     /// Branches, at most 64.
@@ -136,10 +136,10 @@ fn branch_lines(
 /// Reads a network from a text: the line `sub kv x y`, at most 64 buses, the line `from to live`,
 /// at most 64 branches (docs/RULES.md, 'Text of drawlist').
 ///
-/// Each bus is its station, its voltage and its seed, each branch its two buses and whether it is
-/// live; voltages and coordinates stand as the bits of a float. They are written over the front of
-/// the lists. `None`: the text is malformed, which is refusal 14; what stands before its first
-/// malformed line is written.
+/// Each bus is its station, its voltage and its map point, each branch its two buses and whether
+/// it is live; voltages and coordinates stand as the bits of a float. They are written over the
+/// front of the lists. `None`: the text is malformed, which is refusal 14; what stands before its
+/// first malformed line is written.
 #[tactic(auto, using(crate::proofs::listing::Parsing::parse_laws), unfolding(crate::specs::Stages::Places::field_of, crate::specs::Line::bus_names, crate::specs::LinePlaces::answer, crate::specs::Input::no_buses, crate::specs::Input::no_branches, numbers::specs::Over::over))]
 pub fn parse(
     text: &[u8],
@@ -149,7 +149,7 @@ pub fn parse(
     from: &mut [i64],
     to: &mut [i64],
     live: &mut [u8],
-) -> Option<Counts>
+) -> Option<InputCounts>
     requires sub_room { 64 ≤ length sub.old }
     requires kv_room { 64 ≤ length kv.old }
     requires xy_room { 128 ≤ length xy.old }
@@ -169,7 +169,7 @@ pub fn parse(
     }
     let buses = bus_lines(text, 11, sub, kv, xy)?;
     let branches = branch_lines(text, buses.next, from, to, live)?;
-    Some(Counts {
+    Some(InputCounts {
         buses: buses.value,
         branches: branches.value,
     })

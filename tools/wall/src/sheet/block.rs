@@ -8,7 +8,7 @@ use crate::args::Settings;
 use crate::drawing::Drawing;
 use crate::help::VERSION;
 use crate::network::Network;
-use crate::number::{short, thousands};
+use crate::number::thousands;
 use crate::plain::one_line;
 use crate::report;
 use tansygate::TxLayoutOptions;
@@ -208,7 +208,7 @@ impl Block<'_> {
         ];
         let other = gaps.into_iter().filter(|(_, gap, usual)| gap != usual);
         let gaps: String = other.map(|(name, gap, _)| format!(", {name} {gap}")).collect();
-        let (fill, drawn) = (short(o.fill), &self.settings.drawn);
+        let (fill, drawn) = (self.settings.fill(), &self.settings.drawn);
         format!("fill {fill}, search {}, iterations {}{gaps}{turned}, {drawn}", o.search, o.route_iterations)
     }
 

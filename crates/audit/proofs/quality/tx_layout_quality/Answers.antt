@@ -33,5 +33,5 @@ audited-a-requires-clause-sort_room c =
 pub returns-clause-is : goal.returns-clause-is
 returns-clause-is c =
     let l = c.audited-a.ensures.long in
-    call_judged _ _ _ _ _ _ _ c.in_ok-check_input.ensures c.audited-a.ensures.is c.clear_work.ensures.is l.0 l.1 l.2 l.3
+    call_judged _ _ _ _ _ _ _ c.in_ok-check_input.ensures c.audited-a.ensures.is c.zero_work.ensures.is l.0 l.1 l.2 l.3
     l.4 l.5

@@ -11,6 +11,6 @@ slice_bounds-partition_point-end c = sym (ap length c.requires ∙ length_round 
 
 pub returns : goal.returns
 returns c =
-    first_found c.args.corners.now c.args.corner _ (rw c.requires at c.partition_point.ensures.bound)
-    (rw c.requires at (IsPartitionPoint-from_clause (λ h. ltb (at c.args.corners.now h) c.args.corner) _ _ c.partition_point.ensures.partitioned
-    (rw c.requires (round_parted c.args.corners.now c.args.corner)) (λ a r f k. search rules)))
+    first_found c.args.corners.now c.args.vertex _ (rw c.requires at c.partition_point.ensures.bound)
+    (rw c.requires at (IsPartitionPoint-from_clause (λ h. ltb (at c.args.corners.now h) c.args.vertex) _ _ c.partition_point.ensures.partitioned
+    (rw c.requires (round_parted c.args.corners.now c.args.vertex)) (λ a r f k. search rules)))

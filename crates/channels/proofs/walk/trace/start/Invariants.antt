@@ -6,4 +6,4 @@ use Rattle.plane.specs.Plane.{point_at}
 use Rattle.channels.proofs.walk.trace.start.Given as goal
 
 abbrev pub invariant-loop-p : goal.invariant-loop-p
-invariant-loop-p l = Seeking l.line.turned.mesh.corners.now (point_at l.line.points.now) l.line.start l.line.end l.p
+invariant-loop-p l = Seeking l.line.by_vertex.mesh.corners.now (point_at l.line.points.now) l.line.start l.line.end l.p

@@ -6,4 +6,4 @@ use Rattle.plane.specs.Plane.{point_at}
 use Rattle.channels.proofs.walk.trace.trace.Given as goal
 
 abbrev pub invariant-loop-n : goal.invariant-loop-n
-invariant-loop-n l = Going l.line.turned.mesh.corners.now l.line.turned.mesh.twins.now (point_at l.line.points.now) l.line.start l.line.end l.initial.trail l.trail l.n l.x
+invariant-loop-n l = Going l.line.by_vertex.mesh.corners.now l.line.by_vertex.mesh.twins.now (point_at l.line.points.now) l.line.start l.line.end l.initial.walked l.walked l.n l.x

@@ -1,8 +1,8 @@
 -- Answers for `plane::neighbours::sweep::count_right`.
 use Rattle.std.proofs.Common.{◌∙◌, ◌+◌, ◌<◌, get_or, arith}
-use Rattle.plane.specs.Stages.Sweep.{in_reach}
+use Rattle.plane.specs.Stages.Sweep.{in_radius}
 use Rattle.plane.proofs.neighbours.Places.{in_part, place_below}
-use Rattle.plane.proofs.neighbours.Sweeps.{reach_by, many_right, none_right, many_stop_right}
+use Rattle.plane.proofs.neighbours.Sweeps.{radius_by, many_right, none_right, many_stop_right}
 use Rattle.plane.proofs.neighbours.sweep.count_right.Goals as goal
 use Rattle.plane.proofs.neighbours.sweep.count_right.Goals.{then-is_near, else-is_near}
 
@@ -17,8 +17,8 @@ returns-then-radius-d c = c.loop-i.invariant.1 ∙ many_stop_right _ c.args.swee
 
 pub loop-i-preserved : goal.loop-i-preserved
 loop-i-preserved c =
-    let near = (reach_by c.args.sweep.now.points.xy.now c.args.sweep.now.order.now c.args.from_x c.args.from_y c.args.radius (c.args.position + 1 + c.loop-i.i-index) _ _ (in_part c.args.sweep.now.order.now (c.args.position + 1) c.args.sweep.now.points.n c.loop-i.i-index (omega arith)) c.is_near.ensures) in
+    let near = (radius_by c.args.sweep.now.points.xy.now c.args.sweep.now.order.now c.args.from_x c.args.from_y c.args.radius (c.args.position + 1 + c.loop-i.i-index) _ _ (in_part c.args.sweep.now.order.now (c.args.position + 1) c.args.sweep.now.points.n c.loop-i.i-index (omega arith)) c.is_near.ensures) in
     elim c.if-is_near.branch [
-      | then-is_near w ↦ (omega arith, rw w.count-is (many_right (in_reach c.args.sweep.now.points.xy.now c.args.sweep.now.order.now c.args.from_x c.args.from_y c.args.radius) _ (c.args.position + 1 + c.loop-i.i-index) _ _ _ (omega arith) c.loop-i.invariant.1 near w.if-is_near.true))
-      | else-is_near w ↦ (omega arith, rw w.count-is (none_right (in_reach c.args.sweep.now.points.xy.now c.args.sweep.now.order.now c.args.from_x c.args.from_y c.args.radius) _ (c.args.position + 1 + c.loop-i.i-index) _ _ _ (omega arith) c.loop-i.invariant.1 near w.if-is_near.false))
+      | then-is_near w ↦ (omega arith, rw w.count-is (many_right (in_radius c.args.sweep.now.points.xy.now c.args.sweep.now.order.now c.args.from_x c.args.from_y c.args.radius) _ (c.args.position + 1 + c.loop-i.i-index) _ _ _ (omega arith) c.loop-i.invariant.1 near w.if-is_near.true))
+      | else-is_near w ↦ (omega arith, rw w.count-is (none_right (in_radius c.args.sweep.now.points.xy.now c.args.sweep.now.order.now c.args.from_x c.args.from_y c.args.radius) _ (c.args.position + 1 + c.loop-i.i-index) _ _ _ (omega arith) c.loop-i.invariant.1 near w.if-is_near.false))
     ]

@@ -2,7 +2,7 @@
 use Rattle.std.proofs.Common.{◌≡◌, get_or, subst, arith}
 use Rattle.plane.specs.Near.{neighbours}
 use Rattle.plane.proofs.neighbours.Fills.{Filled, filled_more, filled_end}
-use Rattle.plane.proofs.neighbours.Places.{place_below, place_of}
+use Rattle.plane.proofs.neighbours.Places.{place_below, entry_of}
 use Rattle.plane.proofs.neighbours.Scans.{neighbours_le}
 use Rattle.plane.proofs.neighbours.sweep.counts_in_order.Goals as goal
 
@@ -16,4 +16,4 @@ pub returns : goal.returns
 returns c =
     let e : c.loop-c.c ≡ c.args.sweep.now.points.n = omega arith in
     let k = subst (Filled (neighbours c.args.sweep.now.points.xy.now c.args.sweep.now.points.n c.args.radius) c.args.sweep.now.order.now c.args.sweep.now.points.n c.args.counts.now c.loop-c.counts) e c.loop-c.invariant in
-    filled_end _ _ _ _ _ k c.requires.room (place_of _ _ _ c.args.sweep.now.swept)
+    filled_end _ _ _ _ _ k c.requires.room (entry_of _ _ _ c.args.sweep.now.swept)

@@ -5,4 +5,4 @@ use Rattle.routing.specs.Stages.Lent.{fixed_lists}
 use Rattle.routing.proofs.rounds.space.rounds.Given as goal
 
 abbrev pub invariant-loop : goal.invariant-loop
-invariant-loop l = l.along ≡ rounds_in l.stretches.occupied (fixed_lists l.stretches.fixed) l.stretches.channels l.counter l.initial.along
+invariant-loop l = l.along ≡ rounds_in l.input.occupied (fixed_lists l.input.fixed) l.input.channels l.counter l.initial.along

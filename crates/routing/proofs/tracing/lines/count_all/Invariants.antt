@@ -6,4 +6,4 @@ use Rattle.routing.specs.Stages.Store.{crossings_to}
 use Rattle.routing.proofs.tracing.lines.count_all.Given as goal
 
 abbrev pub invariant-loop-e : goal.invariant-loop-e
-invariant-loop-e l = (l.e ≤ l.branch_count) × (length l.trail ≡ length l.initial.trail) × (l.total ≤ 24576 * l.e) × (l.total ≡ crossings_to l.turned.mesh.corners.now l.turned.mesh.twins.now l.points l.ends l.e)
+invariant-loop-e l = (l.e ≤ l.branch_count) × (length l.walked ≡ length l.initial.walked) × (l.total ≤ 24576 * l.e) × (l.total ≡ crossings_to l.by_vertex.mesh.corners.now l.by_vertex.mesh.twins.now l.points l.ends l.e)

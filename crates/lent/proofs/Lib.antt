@@ -1,0 +1,2 @@
+-- Laws of the lent lists.
+pub mod Least

@@ -1,2 +1,0 @@
--- What options in range promise.
-pub mod Ranges

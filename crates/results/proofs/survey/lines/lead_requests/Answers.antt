@@ -1,7 +1,0 @@
--- Answers for `results::survey::lines::lead_requests`.
-use native.Mathlib.Omega.{arith}
-use Rattle.results.proofs.survey.Leading.{along_all}
-use Rattle.results.proofs.survey.lines.lead_requests.Goals as goal
-
-pub returns : goal.returns
-returns c = along_all _ _ _ _ _ _ _ _ _ _ _ _ _ _ (omega arith) c.loop-i.invariant

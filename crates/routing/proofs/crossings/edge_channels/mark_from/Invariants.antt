@@ -1,6 +1,0 @@
--- What the loops of `crossings::channels::mark_from` keep.
-use Rattle.routing.proofs.crossings.Marking.{Marking}
-use Rattle.routing.proofs.crossings.edge_channels.mark_from.Given as goal
-
-abbrev pub invariant-loop-p : goal.invariant-loop-p
-invariant-loop-p l = Marking l.turned.mesh.corners.now l.branch_count l.from_corner l.to_corner l.mark l.initial.ends l.ends l.p
