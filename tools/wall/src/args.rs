@@ -1,8 +1,10 @@
 //! The command line.
+use crate::approval::Approval;
 use crate::command::{Command, COMMANDS};
 use crate::fault::{shown, Fault};
 use crate::number::{decimal, short};
 use crate::paper::Paper;
+use crate::part::Wanted;
 use crate::save::is_standard_output;
 use tansygate::TxLayoutOptions;
 
@@ -32,6 +34,14 @@ pub struct Settings {
     /// A file that changes the colours of voltages.
     pub colours: Option<String>,
     pub title: Option<String>,
+    /// What the title block says of the sheet's date, revision and signatures.
+    pub approval: Approval,
+    /// A file of revisions.
+    pub revisions: Option<String>,
+    /// Which part of the network is drawn.
+    pub part: Wanted,
+    /// What the numbers of branches are kept from.
+    pub numbers_from: Option<String>,
     pub strict: bool,
     pub y_up: bool,
     /// Whether one drawing is made, by these options, and not the best of several.
@@ -100,6 +110,10 @@ impl Settings {
             tiles: None,
             colours: None,
             title: None,
+            approval: Approval::default(),
+            revisions: None,
+            part: Wanted::default(),
+            numbers_from: None,
             strict: false,
             y_up: false,
             as_asked: false,
@@ -161,6 +175,9 @@ impl Settings {
         if self.command == Command::Draw && self.output.is_none() {
             return usage("draw: expected -o FILE, the sheet to write");
         }
+        if self.part.hops.is_some() && self.part.around.is_none() {
+            return usage("--hops: expected --around STATION, the substation that they are counted from");
+        }
         if self.tiles.is_some() && !self.pdf() {
             return usage("--tiles: expected -o FILE.pdf: tiles are pages of a PDF file");
         }
@@ -178,6 +195,11 @@ impl Settings {
     /// Whether the sheet is to be a PDF file.
     pub fn pdf(&self) -> bool {
         self.output.as_ref().is_some_and(|name| name.to_lowercase().ends_with(".pdf"))
+    }
+
+    /// Whether the sheet is to be a page for a browser.
+    pub fn html(&self) -> bool {
+        self.output.as_ref().is_some_and(|name| [".html", ".htm"].iter().any(|end| name.to_lowercase().ends_with(end)))
     }
 
     /// Whether this is an option without a value, which is then taken.
@@ -209,9 +231,18 @@ impl Settings {
     }
 
     fn option(&mut self, name: &str, value: &str) -> Result<(), Fault> {
+        if self.approval.set(name, value)? {
+            return Ok(());
+        }
         match name {
+            "--around" => self.part.around = Some(value.to_string()),
+            "--hops" => self.part.hops = Some(whole(name, value, 100)?),
+            "--square" => self.part.square = Some(value.trim().to_string()),
+            "--voltage" => self.part.voltage = Some(kilovolts(name, value)?),
+            "--revisions" => self.revisions = Some(value.to_string()),
             "-o" | "--output" => self.output = Some(value.to_string()),
             "--csv" => self.csv = Some(value.to_string()),
+            "--numbers-from" => self.numbers_from = Some(value.to_string()),
             "--title" => self.title = Some(plain(name, value)?),
             "--paper" => self.paper = paper(name, value)?,
             "--index-paper" => self.index_paper = Some(paper(name, value)?),
@@ -313,6 +344,16 @@ fn scales(name: &str, value: &str) -> Result<[f64; 2], Fault> {
     match two(value).and_then(|(a, b)| Some([one(a)?, one(b)?])) {
         Some(both) => Ok(both),
         None => out_of_range(name, value, "two numbers from 1/64 to 1 with a comma between, such as 2/3,4/9"),
+    }
+}
+
+/// A voltage as people write it: 11, 11kV, 6.6 kV.
+fn kilovolts(name: &str, value: &str) -> Result<f64, Fault> {
+    let bare = value.trim().to_lowercase();
+    let bare = bare.strip_suffix("kv").unwrap_or(&bare).trim();
+    match decimal(bare).filter(|kv| *kv > 0.0) {
+        Some(kv) => Ok(kv),
+        None => usage(format!("{name}: expected a voltage in kV above 0, found {}", shown(value))),
     }
 }
 

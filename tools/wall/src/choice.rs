@@ -79,7 +79,8 @@ fn lead_clear(network: &Network, settings: &Settings, drawing: &mut Drawing) -> 
     let layout = &mut drawing.layout;
     let before = (layout.segments.clone(), layout.segment_edge.clone());
     lead::improve(network, layout, sheet::scale(settings, layout.bounds, layout.unit));
-    if drawing.audit(network).is_err() {
+    drawing.led = drawing.audit(network).is_ok();
+    if !drawing.led {
         (drawing.layout.segments, drawing.layout.segment_edge) = before;
         drawing.audit(network)?;
     }

@@ -13,7 +13,17 @@ pub const COMMANDS: &str = "expected a command: draw, audit, list, compare or ch
 
 /// Options without and with a value.
 const FLAGS: [&str; 5] = ["--strict", "--y-up", "--allow-empty", "--anyway", "--as-asked"];
-const VALUES: [&str; 18] = [
+const VALUES: [&str; 28] = [
+    "--around",
+    "--hops",
+    "--square",
+    "--voltage",
+    "--date",
+    "--revision",
+    "--revisions",
+    "--drawn-by",
+    "--checked-by",
+    "--numbers-from",
     "-o",
     "--output",
     "--csv",
@@ -49,13 +59,15 @@ impl Command {
     /// Whether this command has an option.
     pub fn has(self, option: &str) -> bool {
         match option {
-            "-o" | "--output" | "--title" | "--index-paper" | "--tiles" | "--colours" | "--anyway" => {
+            "-o" | "--output" | "--title" | "--index-paper" | "--tiles" | "--colours" | "--anyway" | "--date"
+            | "--revision" | "--revisions" | "--drawn-by" | "--checked-by" => {
                 matches!(self, Command::Draw | Command::Compare)
             }
+            "--around" | "--hops" | "--square" | "--voltage" => matches!(self, Command::Draw | Command::Audit),
             "--csv" => self == Command::Compare,
             "--strict" => matches!(self, Command::Draw | Command::Audit | Command::Check),
             "--paper" | "--as-asked" => matches!(self, Command::Draw | Command::Audit | Command::Compare),
-            "--allow-empty" => self != Command::List,
+            "--allow-empty" | "--numbers-from" => self != Command::List,
             _ => self != Command::Check,
         }
     }

@@ -1,5 +1,5 @@
 //! Comma-separated text as rows of cells, each with its place.
-use crate::fault::{Fault, Place};
+use crate::fault::{shown, Fault, Place};
 use std::iter::Peekable;
 use std::str::Chars;
 
@@ -11,6 +11,7 @@ pub struct Cell {
 
 struct Reader<'a> {
     file: &'a str,
+    separator: char,
     chars: Peekable<Chars<'a>>,
     at: Place,
 }
@@ -18,14 +19,19 @@ struct Reader<'a> {
 /// What closed a cell.
 #[derive(PartialEq, Eq)]
 enum Close {
-    Comma,
+    Field,
     Line,
     End,
 }
 
-/// All rows; lines with nothing on them are left out.
+/// All rows of comma-separated text; lines with nothing on them are left out.
 pub fn rows(text: &str, file: &str) -> Result<Vec<Vec<Cell>>, Fault> {
-    let mut reader = Reader { file, chars: text.chars().peekable(), at: Place { line: 1, column: 1 } };
+    rows_by(text, file, ',')
+}
+
+/// The same with fields separated by a character.
+pub fn rows_by(text: &str, file: &str, separator: char) -> Result<Vec<Vec<Cell>>, Fault> {
+    let mut reader = Reader { file, separator, chars: text.chars().peekable(), at: Place { line: 1, column: 1 } };
     let mut rows = Vec::new();
     loop {
         let mut row = Vec::new();
@@ -46,7 +52,7 @@ impl Reader<'_> {
             let text = if self.chars.peek() == Some(&'"') { self.quoted()? } else { self.plain()? };
             row.push(Cell { text, place });
             match self.close()? {
-                Close::Comma => {}
+                Close::Field => {}
                 close => return Ok(close),
             }
         }
@@ -67,7 +73,8 @@ impl Reader<'_> {
         let mut text = String::new();
         while let Some(&c) = self.chars.peek() {
             match c {
-                ',' | '\n' | '\r' => break,
+                '\n' | '\r' => break,
+                _ if c == self.separator => break,
                 '"' => {
                     return self
                         .fail(self.at, "expected a quote only where a field begins, or doubled inside a quoted field")
@@ -104,14 +111,18 @@ impl Reader<'_> {
         let place = self.at;
         match self.next() {
             None => Ok(Close::End),
-            Some(',') => Ok(Close::Comma),
+            Some(c) if c == self.separator => Ok(Close::Field),
             Some('\n') => Ok(Close::Line),
             Some('\r') if self.chars.peek() == Some(&'\n') => {
                 self.next();
                 Ok(Close::Line)
             }
             Some('\r') => self.fail(place, "expected a line feed after the carriage return"),
-            Some(_) => self.fail(place, "expected a comma or the end of the line after the closing quote"),
+            Some(_) => {
+                let separator =
+                    if self.separator == ',' { "a comma".to_string() } else { shown(&self.separator.to_string()) };
+                self.fail(place, &format!("expected {separator} or the end of the line after the closing quote"))
+            }
         }
     }
 

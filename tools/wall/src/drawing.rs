@@ -15,13 +15,15 @@ const MOST: (usize, usize) = (4_096, 8_192);
 const FARTHEST: f64 = 1e12;
 
 /// What may be changed where no fill serves.
-const NO_FILL: &str = "however small the boxes, two of them overlap, or they are too small for their distance from (0, 0): \
-    a larger --search tries more places for each box, a smaller --buffer keeps less free beside it, and substations on \
-    one point can be moved apart; --fill with a number draws boxes that overlap";
+const NO_FILL: &str = "at every fill a box finds no free place, or boxes are too small for their distance from (0, 0): \
+    a larger --search tries more places for each box, a smaller --buffer keeps less free beside it, substations on one \
+    point can be moved apart, and a map far from (0, 0) nearer to it; --fill with a number asks for no free places";
 
 pub struct Drawing {
     pub layout: TxLayout,
     pub quality: TxLayoutQuality,
+    /// Whether its lines and open branches are led clear of what they may be misread with.
+    pub led: bool,
 }
 
 impl Drawing {
@@ -69,7 +71,7 @@ pub fn audited(
     let mut both = || {
         let layout = woven(&input, options, weave, threads)?;
         let quality = tx_layout_quality(&input, &layout)?;
-        Ok(Drawing { layout, quality })
+        Ok(Drawing { layout, quality, led: false })
     };
     both().map_err(|refusal| explained(network, refusal))
 }

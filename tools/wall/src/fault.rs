@@ -18,6 +18,8 @@ pub enum Fault {
     File { file: String, problem: String },
     /// A file's content isn't what it has to be.
     Content { file: String, place: Place, expected: String },
+    /// Several faults of a file, and how many more it has.
+    Many { list: Vec<Fault>, more: usize },
     /// The library refuses the network.
     Refused { number: u32, words: String },
     /// A sheet isn't written, or what was compared or checked isn't what it has to be.
@@ -33,10 +35,18 @@ impl Fault {
         Fault::File { file: file.into(), problem: problem.to_string() }
     }
 
+    /// Where it stands among others of its file.
+    pub fn order(&self) -> (usize, usize) {
+        match self {
+            Fault::Content { place, .. } => (place.line, place.column),
+            _ => (0, 0),
+        }
+    }
+
     /// The number that `drawlist` would print, if it is one that it prints.
     pub fn number(&self) -> Option<u32> {
         match self {
-            Fault::Content { .. } => Some(14),
+            Fault::Content { .. } | Fault::Many { .. } => Some(14),
             Fault::Refused { number, .. } => Some(*number),
             Fault::Usage(_) | Fault::File { .. } | Fault::Sheet(_) => None,
         }
@@ -51,6 +61,14 @@ impl fmt::Display for Fault {
             Fault::File { file, problem } => write!(f, "{file}: {problem}"),
             Fault::Content { file, place, expected } => {
                 write!(f, "{file}:{}:{}: {expected}", place.line, place.column)
+            }
+            Fault::Many { list, more } => {
+                let lines: Vec<String> = list.iter().map(Fault::to_string).collect();
+                write!(f, "{}\n{} errors", lines.join("\n"), list.len() + more)?;
+                if *more > 0 {
+                    write!(f, ", of which the first {} are listed", list.len())?;
+                }
+                Ok(())
             }
             Fault::Refused { number, words } => write!(f, "refused {number}: {words}"),
         }

@@ -40,8 +40,7 @@ pub fn has_places(network: &Network, settings: &Settings) -> Result<(), Fault> {
         return Ok(());
     }
     let first = first_buses(network);
-    let mut placed = vec![false; first.len()];
-    network.buses.iter().filter(|bus| bus.at.is_some()).for_each(|bus| placed[bus.station as usize] = true);
+    let placed = network.placed_stations();
     let mut without = first.iter().enumerate().filter_map(|(s, bus)| Some((s, (*bus)?))).filter(|&(s, _)| !placed[s]);
     let Some((station, bus)) = without.next() else { return Ok(()) };
     let name = network.station_name(station);

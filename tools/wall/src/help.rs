@@ -15,15 +15,19 @@ Usage:
   wall check SHEET NETWORK              read a finished sheet back and print where it doesn't
                                         show the network, and where it may be misread
 
-NETWORK is a folder with buses.csv (columns name, substation, kv, x, y) and branches.csv
-(columns name, from, to, in_service; number where the sheet is to call branches by numbers of
-your own, not by their rows), or a file in drawlist's text, or - for such a text on standard
-input. Columns may stand in any order, and others beside them are passed over. A bus with an
-empty coordinate counts as one at (0, 0).
+NETWORK is a folder with files as planning tools and spreadsheets write them (commas, semicolons
+or tabs; UTF-8, UTF-16 or Latin-1; decimal points or commas): buses.csv (columns name,
+substation, kv, x, y) and branches.csv (columns name, from, to, in_service; number where the sheet
+is to call branches by numbers of your own, not by their rows; from_switch, to_switch, bay, kind
+for isolators, bays and the signs of transformers and couplers). Or it is a file in drawlist's
+text, or - for such a text on standard input. Columns may stand in any order, and others beside them
+are passed over. A bus with an empty coordinate counts as one at (0, 0).
 
 Options of the sheet (draw, compare):
-  -o, --output FILE      the sheet to write: FILE.pdf is a PDF file with the index in it, any
-                         other name an SVG file, with pages of the index beside it where
+  -o, --output FILE      the sheet to write: FILE.pdf is a PDF file with the index in it;
+                         FILE.html a page for a browser with the index in it, a search by
+                         number, name, substation and isolator, and circuits that light up;
+                         any other name an SVG file, with pages of the index beside it where
                          the sheet has no room for it (FILE-index.svg, FILE-index-2.svg);
                          - is standard output, an SVG without those pages (draw)
       --paper SIZE       A0, A1, A2, A3 or A4 (audit too)                      [A1]
@@ -36,6 +40,22 @@ Options of the sheet (draw, compare):
                          #rrggbb, style solid, double, long or short
       --title TEXT       the sheet's title                       [the network's name]
 
+      --date TEXT        the sheet's date; without it the title block has none
+      --revision TEXT    its revision
+      --drawn-by NAME    who drew it
+      --checked-by NAME  who checked it: a field that isn't said is left to be filled in by hand
+      --revisions FILE   the revisions up to this one, the oldest first: comma-separated rows
+                         under a header line with revision, date, change, by; the last three are
+                         shown, and the last one gives the sheet's revision and date
+      --around STATION   draw a part: what is within --hops of a substation
+      --hops N           along so many branches, open ones too                       [2]
+      --square SQUARE    a part: the substations in a square of the whole sheet, such as C4
+      --voltage KV       a part: the buses of one voltage; of several of these options a bus has
+                         to be in all (draw, audit)
+      --numbers-from LAST  keep the numbers that branches have on LAST: the last sheet (SVG or PDF),
+                         its list of numbers (columns number, branch, from, to, state), or the
+                         folder of the last export; new branches get new numbers, and a retired
+                         number is never given again (audit and check too)
       --anyway           draw substations without coordinates at (0, 0), and one so far off
                          that boxes become too small to read
       --csv FILE         write what differs as comma-separated rows (compare)

@@ -9,6 +9,7 @@ use crate::number::thousands;
 use crate::pdf;
 use crate::save;
 use crate::sheet::{svg, Sheet};
+use crate::web;
 use std::path::Path;
 
 /// The colours of voltages, changed by the file that the settings name.
@@ -20,9 +21,17 @@ pub fn colours(settings: &Settings) -> Result<Colours, Fault> {
 }
 
 /// The files by name, and remarks. The sheet's own text is the given one.
-pub fn files(sheet: &Sheet, text: String, settings: &Settings) -> (Vec<(String, Vec<u8>)>, Vec<String>) {
+pub fn files(
+    sheet: &Sheet,
+    text: String,
+    network: &Network,
+    settings: &Settings,
+) -> (Vec<(String, Vec<u8>)>, Vec<String>) {
     let name = settings.output.as_deref().unwrap_or("-");
     let mut notes = sheet.notes.clone();
+    if settings.html() {
+        return (vec![(name.to_string(), web::page(sheet, &text, network).into_bytes())], notes);
+    }
     if settings.pdf() {
         let (bytes, missing) = pdf::written(sheet, settings.tiles);
         notes.extend(missing.first().map(|c| {
@@ -47,9 +56,9 @@ pub fn checked(sheet: &Sheet, network: &Network) -> Result<String, Fault> {
 }
 
 /// Writes them all, or none; gives remarks.
-pub fn written(sheet: &Sheet, text: String, settings: &Settings) -> Result<Vec<String>, Fault> {
+pub fn written(sheet: &Sheet, text: String, network: &Network, settings: &Settings) -> Result<Vec<String>, Fault> {
     let name = settings.output.as_deref().unwrap_or("-");
-    let (files, mut notes) = files(sheet, text, settings);
+    let (files, mut notes) = files(sheet, text, network, settings);
     if name == "-" {
         save::written(name, &files[0].1)?;
         notes.extend((files.len() > 1).then(|| {
@@ -60,7 +69,7 @@ pub fn written(sheet: &Sheet, text: String, settings: &Settings) -> Result<Vec<S
     }
     save::all_written(&files)?;
     let next = page_name(name, files.len().max(1));
-    let stale = !settings.pdf() && Path::new(&next).exists();
+    let stale = !settings.pdf() && !settings.html() && Path::new(&next).exists();
     notes.extend(stale.then(|| format!("note: {next} is there from an earlier run and isn't part of this sheet")));
     Ok(notes)
 }

@@ -1,6 +1,6 @@
 //! The text that `drawlist` reads and writes, for networks of any size.
 use crate::fault::{shown, Fault, Place};
-use crate::network::{Branch, Bus};
+use crate::network::{Branch, Bus, More};
 use tansygate::TxLayout;
 
 const BUS_NAMES: &str = "sub kv x y";
@@ -88,6 +88,7 @@ impl Line<'_> {
             from: self.bus_number(from)?,
             to: self.bus_number(to)?,
             service: self.whole(live, u64::from(u8::MAX), "a service flag")? as u8,
+            more: More::default(),
             line: self.number,
         })
     }

@@ -4,7 +4,7 @@ use crate::decode;
 use crate::export;
 use crate::fault::Fault;
 use crate::listing;
-use crate::network::{Network, Source};
+use crate::network::{Network, Numbering, Source};
 use std::fs::File;
 use std::io::Read;
 use std::path::Path;
@@ -30,7 +30,29 @@ pub fn network(word: &str) -> Result<Network, Fault> {
     if word.to_lowercase().ends_with(".csv") {
         return Err(Fault::file(word, "expected the folder with buses.csv and branches.csv, found one file of it"));
     }
-    text(&opened(path)?, name, word.to_string())
+    let bytes = opened(path)?;
+    if bytes.starts_with(WORKBOOK) {
+        let wish =
+            "expected the folder with buses.csv and branches.csv, found an Excel workbook: save its sheets as these \
+                    two files";
+        return Err(Fault::file(word, wish));
+    }
+    text(&bytes, name, word.to_string())
+}
+
+/// How a workbook begins.
+const WORKBOOK: &[u8] = b"PK\x03\x04";
+
+/// A file of a folder, or what is there instead of it.
+fn part(path: &Path) -> Result<Vec<u8>, Fault> {
+    let book = path.with_extension("xlsx");
+    if !path.exists() && book.exists() {
+        let name = path.file_name().map_or_else(String::new, |name| name.to_string_lossy().into_owned());
+        let wish =
+            format!("expected {name}, found an Excel workbook: save its sheet as CSV (UTF-8), beside it as {name}");
+        return Err(Fault::file(book.display().to_string(), wish));
+    }
+    opened(path)
 }
 
 /// The last part of a path, followed where it is a link or a dot.
@@ -61,13 +83,15 @@ fn source(name: &str, path: &str, bytes: &[u8]) -> Source {
 
 fn folder(path: &Path, name: String) -> Result<Network, Fault> {
     let (one, two) = (path.join("buses.csv"), path.join("branches.csv"));
-    let (first, second) = (opened(&one)?, opened(&two)?);
+    let (first, second) = (part(&one)?, part(&two)?);
     let (one, two) = (one.display().to_string(), two.display().to_string());
     let buses = export::buses(&first, &one)?;
     let branches = export::branches(&second, &two, &buses)?;
     let notes = [&buses.notes[..], &branches.notes].concat();
     let sources = vec![source("buses.csv", &one, &first), source("branches.csv", &two, &second)];
-    Ok(Network { name, sources, stations: buses.stations, buses: buses.buses, branches: branches.branches, notes })
+    let numbering = branches.numbering;
+    let (stations, buses, branches) = (buses.stations, buses.buses, branches.branches);
+    Ok(Network { name, sources, stations, buses, branches, numbering, retired: Vec::new(), part: None, notes })
 }
 
 fn text(bytes: &[u8], name: String, path: String) -> Result<Network, Fault> {
@@ -76,5 +100,6 @@ fn text(bytes: &[u8], name: String, path: String) -> Result<Network, Fault> {
     }
     let (buses, branches) = listing::read(decode::text(bytes, &path)?, &path)?;
     let sources = vec![source(&name, &path, bytes)];
-    Ok(Network { name, sources, stations: Vec::new(), buses, branches, notes: Vec::new() })
+    let (stations, retired, notes) = (Vec::new(), Vec::new(), Vec::new());
+    Ok(Network { name, sources, stations, buses, branches, numbering: Numbering::Rows, retired, part: None, notes })
 }

@@ -1,5 +1,6 @@
 //! Draws substation networks for the wall, audits the drawings, and lists their pieces.
 mod alike;
+mod approval;
 mod args;
 mod check;
 mod checksum;
@@ -27,12 +28,15 @@ mod misread;
 mod network;
 mod number;
 mod paper;
+mod part;
 mod pdf;
 mod plain;
+mod register;
 mod remarks;
 mod report;
 mod save;
 mod sheet;
+mod web;
 mod whole;
 
 use args::{Settings, Wish};
@@ -56,7 +60,12 @@ fn run(words: &[String]) -> Result<ExitCode, Fault> {
     match args::parsed(words)? {
         Wish::Help => save::printed(help::HELP)?,
         Wish::Version => save::printed(help::VERSION)?,
-        Wish::Run(settings) => return obey(&settings),
+        Wish::Run(mut settings) => {
+            if let Some(file) = settings.revisions.clone() {
+                settings.approval.read(&file)?;
+            }
+            return obey(&settings);
+        }
     }
     Ok(ExitCode::SUCCESS)
 }
@@ -71,6 +80,7 @@ fn obey(settings: &Settings) -> Result<ExitCode, Fault> {
     let network = read(settings)?;
     guard::has_rows(&network, settings)?;
     let colours = leaves::colours(settings)?;
+    let network = part::asked(network, settings, &colours)?;
     let choice::Chosen { drawing, settings: chosen } = choice::drawn(&network, settings, &colours)?;
     let mut notes = report::notes(&network, &drawing);
     notes.extend(remarks::all(&network, &drawing));
@@ -83,7 +93,7 @@ fn obey(settings: &Settings) -> Result<ExitCode, Fault> {
     let sheet = sheet::drawn(&network, &drawing, &chosen, &colours);
     if settings.command == Command::Draw {
         let text = leaves::checked(&sheet, &network)?;
-        notes.extend(leaves::written(&sheet, text, settings)?);
+        notes.extend(leaves::written(&sheet, text, &network, settings)?);
     } else {
         save::printed(&report::printed(&network, &drawing, &chosen, &sheet.doubts))?;
     }
@@ -99,7 +109,19 @@ fn read(settings: &Settings) -> Result<network::Network, Fault> {
     if settings.y_up {
         network.turn_over();
     }
+    keep_numbers(&mut network, settings)?;
+    let notes = export::warn::all(&network, settings.y_up);
+    network.notes.extend(notes);
     Ok(network)
+}
+
+/// Keeps the numbers that the settings name, with notes on what is new and what is retired.
+pub fn keep_numbers(network: &mut network::Network, settings: &Settings) -> Result<(), Fault> {
+    if let Some(word) = &settings.numbers_from {
+        let notes = register::continued(network, &register::last(word)?, word)?;
+        network.notes.extend(notes);
+    }
+    Ok(())
 }
 
 /// What `drawlist` would print, a refusal's line included.

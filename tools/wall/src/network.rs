@@ -1,5 +1,7 @@
 //! A network with its names, and where each bus and branch stands in its file.
 use crate::fault::shown;
+use crate::part::Part;
+use crate::register::Entry;
 use tansygate::TxLayoutInput;
 
 pub struct Bus {
@@ -11,6 +13,44 @@ pub struct Bus {
     pub line: usize,
 }
 
+/// What a branch is, where the export says it.
+#[derive(Clone, Copy, Debug, PartialEq, Eq)]
+pub enum Kind {
+    Transformer,
+    Coupler,
+    Line,
+}
+
+impl Kind {
+    pub const ALL: [Kind; 3] = [Kind::Transformer, Kind::Coupler, Kind::Line];
+
+    pub fn word(self) -> &'static str {
+        match self {
+            Kind::Transformer => "transformer",
+            Kind::Coupler => "coupler",
+            Kind::Line => "line",
+        }
+    }
+
+    /// Which buses such a branch is expected between.
+    pub fn expected(self) -> &'static str {
+        match self {
+            Kind::Transformer => "from substation to substation, where two buses of one are usual",
+            Kind::Coupler => "between two substations or voltages, where two buses of one of each are usual",
+            Kind::Line => "between two voltages, where one is usual",
+        }
+    }
+}
+
+/// What an export may say of a branch beside its ends.
+#[derive(Clone, Debug, Default, PartialEq, Eq)]
+pub struct More {
+    /// The isolators at its two ends; empty where none is said.
+    pub switches: [String; 2],
+    pub bay: String,
+    pub kind: Option<Kind>,
+}
+
 pub struct Branch {
     pub name: String,
     /// What the sheet calls it: short, and no other's.
@@ -18,10 +58,24 @@ pub struct Branch {
     pub from: i64,
     pub to: i64,
     pub service: u8,
+    pub more: More,
     pub line: usize,
 }
 
+/// Where the numbers of branches are from.
+#[derive(Clone, Copy, Debug, Default, PartialEq, Eq)]
+pub enum Numbering {
+    /// Each branch has that of its row.
+    #[default]
+    Rows,
+    /// The export has them.
+    Given,
+    /// An earlier sheet has them.
+    Kept,
+}
+
 /// A file that was read, by the name that the sheet shows and the one that messages show.
+#[derive(Clone)]
 pub struct Source {
     pub name: String,
     pub path: String,
@@ -36,6 +90,11 @@ pub struct Network {
     pub stations: Vec<String>,
     pub buses: Vec<Bus>,
     pub branches: Vec<Branch>,
+    pub numbering: Numbering,
+    /// Numbers that no branch gets again.
+    pub retired: Vec<Entry>,
+    /// Where it is a part, what of.
+    pub part: Option<Part>,
     /// Remarks on names that are easily misread.
     pub notes: Vec<String>,
 }
@@ -62,11 +121,28 @@ impl Network {
         }
     }
 
+    /// Which stations have a bus with coordinates, by number.
+    pub fn placed_stations(&self) -> Vec<bool> {
+        let most = self.buses.iter().map(|bus| bus.station as usize + 1).max().unwrap_or(0);
+        let mut placed = vec![false; most];
+        self.buses.iter().filter(|bus| bus.at.is_some()).for_each(|bus| placed[bus.station as usize] = true);
+        placed
+    }
+
     /// The same network with y growing the other way.
     pub fn turn_over(&mut self) {
         for place in self.buses.iter_mut().filter_map(|bus| bus.at.as_mut()) {
             place[1] = -place[1];
         }
+    }
+
+    /// Whether a branch has an isolator, or a bay.
+    pub fn has_switches(&self) -> bool {
+        self.branches.iter().any(|branch| branch.more.switches.iter().any(|name| !name.is_empty()))
+    }
+
+    pub fn has_bays(&self) -> bool {
+        self.branches.iter().any(|branch| !branch.more.bay.is_empty())
     }
 
     /// The row of a bus, as messages name it.

@@ -188,10 +188,17 @@
     for (const element of digits) {
         if ((rows.get(element.dataset.number) || [])[0] !== name(element)) wrong.push(`'${name(element)}' isn't in the index`);
     }
+    // Columns that only some networks have: isolators and bays.
+    const hasAny = (name) => branches.some((row) => row[name]);
+    const isolated = hasAny('from_switch') || hasAny('to_switch'), columnCount = 9 + isolated + hasAny('bay');
     for (const [branch, role] of roles) {
         const cells = rows.get(branch) || [], [a, b] = both(branch), row = branches[branch];
         const two = (one, other) => (a.station === b.station ? one : `${one}–${other}`);
-        if (cells.length !== 9 || cells.some((cell) => !cell)) wrong.push(`branch ${branch} isn't whole in the index: ${cells}`);
+        const isolators = row && isolated ? [row.from_switch, row.to_switch].map((text) => text || 'none').join(' – ') : '';
+        const more = [isolators === 'none – none' ? '' : isolators, row && hasAny('bay') ? row.bay : ''];
+        if (!same(cells.slice(9).join(''), more.join(''))) wrong.push(`branch ${branch} has the isolators and bay ${cells.slice(9)}`);
+        if (row && row.kind && cells[5] !== row.kind.toLowerCase()) wrong.push(`branch ${branch} is a ${cells[5]} in the index`);
+        if (cells.length > columnCount || cells.length < 9 || cells.slice(0, 9).some((cell) => !cell)) wrong.push(`branch ${branch} isn't whole in the index: ${cells}`);
         if (cells[6] !== (role === '2' ? 'open' : 'live')) wrong.push(`branch ${branch} is ${cells[6]} in the index`);
         if (cells[7] !== two(squares.get(a.station), squares.get(b.station))) wrong.push(`branch ${branch} stands in '${cells[7]}'`);
         const joined = a.station === b.station && a.row === b.row ? a.row : `${a.row}–${b.row}`;

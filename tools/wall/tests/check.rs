@@ -63,13 +63,13 @@ fn rows_of_a_box() {
     changed(&folder, one, with_points(&sheet()[one], &between), "ends on no row of substation 'Kestrel Moor'");
 }
 
-/// An open run may have a gap under the box of another substation, and nowhere else.
+/// A straight open run may have a gap under the box of another substation, and nowhere else.
 #[test]
 fn gaps_of_open_runs() {
     let folder = Folder::new("gaps");
     folder.write("buses.csv", b"name,substation,kv,x,y\nA,S,66,0,0\nB,T,66,100,0\nC,U,66,50,0\n");
     folder.write("branches.csv", b"name,from,to,in_service\nL,A,B,0\nM,A,C,1\nN,C,B,1\n");
-    let drawn = text(&wall_in(&folder.0, &["draw", ".", "-o", "-", "--paper", "A3"]).stdout);
+    let drawn = text(&wall_in(&folder.0, &["draw", ".", "-o", "-", "--paper", "A3", "--as-asked"]).stdout);
     let run = drawn.lines().find(|line| line.contains("id=\"branch-L\"")).unwrap();
     let boxed = drawn.lines().find(|line| line.contains("id=\"station-U\"")).unwrap();
     let [left, wide] = ["x", "width"].map(|name| value(boxed, name).parse::<f64>().unwrap());
@@ -219,6 +219,10 @@ fn numbers() {
         for (i, title) in [one, two].into_iter().zip(titles) {
             let at = lines.iter().position(|line| *line == sheet()[i]).unwrap();
             lines[at] = titled(i, title);
+            let (old, name) = (help::svg::title(&sheet()[i]), help::svg::title(&lines[at]));
+            let [old, name] = [old, name].map(|title| title.replacen(' ', ",", 1));
+            let list = lines.iter().position(|line| line.contains("<metadata")).unwrap();
+            lines[list] = lines[list].replace(&format!(";{old},"), &format!(";{name},"));
         }
         let group = lines.iter().position(|line| line.contains("<g id=\"numbers\"")).unwrap();
         lines.insert(group + 1, texts.join("\n"));

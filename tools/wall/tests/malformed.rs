@@ -38,16 +38,17 @@ const BUS_HEADER: &str = "expected a header line with the columns name, substati
 const BRANCH_HEADER: &str = "expected a header line with the columns name, from, to, in_service";
 const KV: &str = "expected a voltage in kV, a decimal number above 0 (0 for an unknown one is not taken)";
 const X: &str = "expected a coordinate x, a decimal number or nothing";
-const SERVICE: &str = "expected 1, true or yes (in service), or 0, false or no (open)";
+const SERVICE: &str = "expected 1, true, yes or closed (in service), or 0, false, no or open (open)";
 
 #[test]
 fn bus_files() {
     let header = "name,substation,kv,x,y\n";
     let after_header: &[(&str, &str)] = &[
         ("A,S,66,0\n", "2:1: expected 5 fields, as in the header line; found 4"),
+        ("A,S,66,0,0,,7\n", "2:12: expected 5 fields, as in the header line; found 7"),
         ("A,S,66,0,0,7\n", "2:12: expected 5 fields, as in the header line; found 6"),
         ("A,S,,0,0\n", &format!("2:5: {KV}, found nothing")),
-        ("A,S,66 kV,0,0\n", &format!("2:5: {KV}, found '66 kV'")),
+        ("A,S,66 kV,0,0\n", &format!("2:5: {KV}, found '66 kV'; did you mean '66'?")),
         ("A,S,-66,0,0\n", &format!("2:5: {KV}, found '-66'")),
         ("A,S,0,0,0\n", &format!("2:5: {KV}, found '0'")),
         ("A,S,-0,0,0\n", &format!("2:5: {KV}, found '-0'")),
@@ -84,17 +85,26 @@ fn bus_headers_and_encodings() {
     let cases: &[(&[u8], &str)] = &[
         (b"", &format!("1:1: {BUS_HEADER}; the file is empty")),
         (b"\r\n\r\n", &format!("1:1: {BUS_HEADER}; the file is empty")),
-        (b"name,substation,x,y\n", &format!("1:1: {BUS_HEADER}; 'kv' isn't there")),
-        (b"A,S,66,0,0\n", &format!("1:1: {BUS_HEADER}; 'name' isn't there")),
         (
-            b"name;substation;kv;x;y\n",
+            b"name,substation,x,y\n",
+            &format!("1:1: {BUS_HEADER}; 'kv' isn't there, found 'name', 'substation', 'x', 'y'"),
+        ),
+        (b"A,S,66,0,0\n", &format!("1:1: {BUS_HEADER}; 'name' isn't there, found 'A', 'S', '66', '0', '0'")),
+        (
+            b"name;sub station 1;kv;x;y\n",
             &format!(
-                "1:1: {BUS_HEADER}; 'name' isn't there; columns are separated by commas, not by semicolons or tabs"
+                "1:1: {BUS_HEADER}; 'substation' isn't there, found 'name', 'sub station 1', 'kv', 'x', 'y'; is it \
+                 'sub station 1'?"
             ),
         ),
+        (
+            b"name|substation|kv|x|y\n",
+            &format!("1:1: {BUS_HEADER}; 'name' isn't there, found 'name|substation|kv|x|y'"),
+        ),
+        (b"PK\x03\x04rest", " expected comma-separated text, found an Excel workbook: save its sheet as CSV (UTF-8)"),
         (b"name,substation,kv,x,y,KV\n", "1:24: expected one column 'kv', found a second"),
-        (b"\xFF\xFEn\0a\0", "1:1: expected UTF-8 text; this file is in UTF-16: export it as UTF-8"),
-        (b"name,substation,kv,x,y\nS\xFCd,S,66,0,0\n", "2:2: expected UTF-8 text, found the byte FC"),
+        (b"\xFF\xFEn\0a\0m", "1:3: expected UTF-16 text, found half a character"),
+        (b"name,substation,kv,x,y\nS\x81d,S,66,0,0\n", "2:2: expected text, found the control character U+0081"),
         (b"name,substation,kv,x,y\nA,S\0,66,0,0\n", "2:4: expected text, found the control character U+0000"),
     ];
     for (content, expected) in cases {
@@ -107,11 +117,11 @@ fn branch_files() {
     let header = "name,from,to,in_service\n";
     let cases: &[(&str, &str)] = &[
         ("L,A,C,1\n", "2:5: expected the name of a bus of buses.csv, found 'C'"),
-        ("L,a,B,1\n", "2:3: expected the name of a bus of buses.csv, found 'a'"),
+        ("L,a,B,1\n", "2:3: expected the name of a bus of buses.csv, found 'a'; did you mean 'A'?"),
         ("L,,B,1\n", "2:3: expected the name of a bus, found nothing"),
         ("L,A,B,\n", &format!("2:7: {SERVICE}; found nothing")),
         ("L,A,B,2\n", &format!("2:7: {SERVICE}; found '2'")),
-        ("L,A,B,closed\n", &format!("2:7: {SERVICE}; found 'closed'")),
+        ("L,A,B,clsoed\n", &format!("2:7: {SERVICE}; found 'clsoed'; did you mean 'closed'?")),
         ("L,A,B,1\nL,B,A,1\n", "3:1: expected a name that no other row has; 'L' stands in line 2 too"),
         (",A,B,1\n", "2:1: expected a branch's name, found nothing"),
         ("L,A,B\n", "2:1: expected 4 fields, as in the header line; found 3"),
@@ -126,7 +136,7 @@ fn branch_files() {
     }
     assert_eq!(
         message("branches.csv", b"name,from,to\n"),
-        format!("branches.csv:1:1: {BRANCH_HEADER}; 'in_service' isn't there")
+        format!("branches.csv:1:1: {BRANCH_HEADER}; 'in_service' isn't there, found 'name', 'from', 'to'")
     );
 }
 

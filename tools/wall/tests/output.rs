@@ -65,6 +65,22 @@ fn stations_without_coordinates() {
     );
     let said = drawn(&folder, &["-o", "sheet.svg", "--anyway"]);
     assert!(said.contains("buses without coordinates") && is_sheet(&folder, "sheet.svg"));
+    let sheet = fs::read_to_string(folder.0.join("sheet.svg")).unwrap();
+    let frames: Vec<&str> = sheet.lines().filter(|line| line.contains("data-placeless=")).collect();
+    assert_eq!(frames.len(), 2);
+    assert!(sheet.contains(">place not known</text>") && sheet.contains(">Substations whose place isn't known</text>"));
+    for (new, expected) in [
+        (String::new(), "substation 'U' has no coordinates, and no frame says so"),
+        (
+            frames[0].replace("data-placeless=\"2\"", "data-placeless=\"0\""),
+            "a frame of a place that isn't known, at no",
+        ),
+        (frames[0].replace(" y=\"", " y=\"1"), "a frame of a place that isn't known, at no such box"),
+    ] {
+        folder.write("damaged.svg", sheet.replace(frames[0], &new).as_bytes());
+        let output = wall_in(&folder.0, &["check", "damaged.svg", "."]);
+        assert!(status(&output) == 1 && text(&output.stdout).contains(expected), "{}", text(&output.stdout));
+    }
     folder.write("buses.csv", format!("{BUSES}C,T,66,,\n").as_bytes());
     assert!(drawn(&folder, &["-o", "sheet.svg"]).contains("buses without coordinates"), "its station has a place");
 }

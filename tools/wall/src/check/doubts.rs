@@ -3,18 +3,21 @@
 use super::plane::{Point, Span};
 use super::reading::Part;
 use super::Check;
-use crate::misread::shapes::{Band, Bar, Boxed, Name, Number, Round, Run, Shapes};
+use crate::misread::shapes::{Band, Bar, Boxed, Name, Number, Round, Run, Shapes, Tag};
 use crate::misread::{found, Kind, Place};
 use std::collections::{BTreeMap, HashMap, HashSet};
 
-/// The group of the marks.
+/// The group of the marks, and that of their edges over names and numbers.
 const MARKS: &str = "doubts";
+const RINGS: &str = "doubt-rings";
 
 impl Check<'_> {
     /// The places that may be misread, in words; says where one has no mark, or a mark has no place.
     pub fn doubts(&mut self) -> Vec<String> {
         let places = found(&self.shapes());
-        let marks: Vec<(Point, f64)> = self.circles(MARKS).into_iter().map(|(_, at, radius)| (at, radius)).collect();
+        let of = |group: &str| self.circles(group).into_iter().map(|(_, at, radius)| (at, radius)).collect::<Vec<_>>();
+        let (discs, rings) = (of(MARKS), of(RINGS));
+        let marks: Vec<(Point, f64)> = discs.iter().filter(|disc| rings.contains(disc)).copied().collect();
         let holds = |(at, radius): &(Point, f64), p: Point| (at[0] - p[0]).hypot(at[1] - p[1]) <= radius + 0.02;
         let words: Vec<String> = places.iter().map(|place| self.place(place)).collect();
         for (place, words) in places.iter().zip(&words) {
@@ -22,7 +25,7 @@ impl Check<'_> {
                 self.say(format!("{words}: may be misread, and isn't marked"));
             }
         }
-        for (at, _) in marks.iter().filter(|mark| !places.iter().any(|place| holds(mark, place.at))) {
+        for (at, _) in discs.iter().chain(&rings).filter(|mark| !places.iter().any(|place| holds(mark, place.at))) {
             self.say(format!(
                 "there is a mark at ({:.2}, {:.2}), where nothing is found that may be misread",
                 at[0], at[1]
@@ -95,6 +98,7 @@ impl Check<'_> {
         shapes.bands = self.seen_bands();
         shapes.numbers = self.seen_numbers();
         shapes.names = self.seen_names();
+        shapes.tags = self.seen_tags();
         shapes
     }
 
@@ -188,13 +192,26 @@ impl Check<'_> {
 
     fn seen_names(&self) -> Vec<Name> {
         let led: HashSet<usize> = self.leaders().into_iter().map(|(station, _)| station).collect();
-        let mut names: BTreeMap<usize, Span> = BTreeMap::new();
+        let mut names: BTreeMap<usize, Vec<Span>> = BTreeMap::new();
         for label in &self.reading.station_labels {
             if let (Some(station), Some(span)) = (label.number, self.reading.covered(label.element)) {
-                names.entry(station).and_modify(|whole| *whole = whole.and(&span)).or_insert(span);
+                names.entry(station).or_default().push(span);
             }
         }
-        names.into_iter().map(|(station, span)| Name { station, span, led: led.contains(&station) }).collect()
+        let name = |(station, lines): (usize, Vec<Span>)| {
+            let span = lines.iter().copied().reduce(|a, b| a.and(&b))?;
+            Some(Name { station, span, lines, led: led.contains(&station) })
+        };
+        names.into_iter().filter_map(name).collect()
+    }
+
+    fn seen_tags(&self) -> Vec<Tag> {
+        let tag = |label: &super::reading::Label| {
+            let bus = label.number.filter(|&bus| bus < self.network.buses.len())?;
+            let station = self.network.buses[bus].station as usize;
+            Some(Tag { bus, station, span: self.reading.covered(label.element)? })
+        };
+        self.reading.bus_labels.iter().filter_map(tag).collect()
     }
 
     /// Lines that lead from a substation's name to its box, by substation.

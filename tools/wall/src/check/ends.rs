@@ -2,7 +2,7 @@
 use super::parts::{Bar, Boxed, Kind, Wanted};
 use super::plane::{away, Point, Span};
 use super::Check;
-use crate::misread::shapes::{inside, part_of};
+use crate::misread::shapes::{inside, length, part_of};
 use std::collections::{BTreeMap, HashMap, HashSet};
 
 /// Numbers on the sheet are rounded to a hundredth of a millimetre.
@@ -16,6 +16,10 @@ const UNDER: f64 = 1.7;
 
 /// How far inside its edge a box begins.
 const EDGE: f64 = 0.03;
+
+/// A run that is inside a box for less, in millimetres, or less deep, only touches it or runs along its edge.
+const TOUCHES: f64 = 0.4;
+const DEEP: f64 = 0.08;
 
 /// How many steps what is seen over a box is looked at in.
 const STEPS: usize = 8;
@@ -91,29 +95,22 @@ impl Check<'_> {
         runs
     }
 
-    /// Whether a run has its gaps only at boxes which it passes under: an open one, which is straight, at boxes of other
-    /// stations; a live one at these and at its own, but with none of its ends inside these.
+    /// Whether a run has its gaps only at boxes which it passes under, with none of their ends inside its own boxes.
     fn gaps_under_boxes(&self, branch: usize, stretches: &[Vec<Point>], boxes: &HashMap<usize, Boxed>) -> bool {
-        let all = stretches.concat();
-        let (Some(buses), Some((&p, &q))) = (self.two_buses(branch), all.first().zip(all.last())) else { return false };
-        let (live, own) = (self.live(branch), buses.map(|bus| self.network.buses[bus].station as usize));
-        let along = |r: &Point| (r[0] - p[0]) * (q[0] - p[0]) + (r[1] - p[1]) * (q[1] - p[1]);
-        let straight = live || all.iter().all(|&r| away(r, p, q) < 2.0 * ROUNDING);
-        let onwards = live || all.windows(2).all(|two| along(&two[0]) <= along(&two[1]));
+        let Some(buses) = self.two_buses(branch) else { return false };
+        let own = buses.map(|bus| self.network.buses[bus].station as usize);
         let spot = |r: Point| Span::of(r, r);
         let under = |a: Point, b: Point| {
-            let other = boxes.iter().filter(|(s, _)| live || !own.contains(s));
-            let wide: Vec<&Boxed> =
-                other.map(|(_, boxed)| boxed).filter(|boxed| meets(&boxed.span.grown(UNDER), a, b)).collect();
+            let wide: Vec<&Boxed> = boxes.values().filter(|boxed| meets(&boxed.span.grown(UNDER), a, b)).collect();
             let near = |r: Point| wide.iter().any(|boxed| boxed.span.grown(UNDER).holds(&spot(r)));
             let within =
                 |r: Point| own.iter().filter_map(|s| boxes.get(s)).any(|boxed| boxed.span.grown(-EDGE).holds(&spot(r)));
             let steps = (b[0] - a[0]).hypot(b[1] - a[1]).ceil().clamp(2.0, 1e4) as usize;
             let part = |i: usize| i as f64 / steps as f64;
             let at = |i: usize| [a[0] + (b[0] - a[0]) * part(i), a[1] + (b[1] - a[1]) * part(i)];
-            (0..=steps).all(|i| near(at(i))) && !(live && (within(a) || within(b)))
+            (0..=steps).all(|i| near(at(i))) && !within(a) && !within(b)
         };
-        straight && onwards && stretches.windows(2).all(|two| under(two[0][two[0].len() - 1], two[1][0]))
+        stretches.windows(2).all(|two| under(two[0][two[0].len() - 1], two[1][0]))
     }
 
     /// The first substation, by its number, over whose box an open run is seen, outside the boxes of its own.
@@ -122,13 +119,18 @@ impl Check<'_> {
         let own: Vec<Span> = stations.iter().filter_map(|s| boxes.get(s)).map(|b| b.span.grown(EDGE)).collect();
         let over = |boxed: &Boxed, two: &[Point]| {
             let piece = [two[0], two[1]];
-            let Some([from, to]) = inside(&boxed.span.grown(-EDGE), piece) else { return false };
-            (0..=STEPS).any(|i| {
-                let at = part_of(piece, from + (to - from) * i as f64 / STEPS as f64);
-                !own.iter().any(|own| own.holds(&Span::of(at, at)))
-            })
+            let Some([from, to]) = inside(&boxed.span.grown(-DEEP), piece) else { return false };
+            let long = (to - from) * length(piece);
+            long > TOUCHES
+                && (0..=STEPS).any(|i| {
+                    let at = part_of(piece, from + (to - from) * i as f64 / STEPS as f64);
+                    !own.iter().any(|own| own.holds(&Span::of(at, at)))
+                })
         };
-        let pieces = || stretches.iter().flat_map(|one| one.windows(2));
+        // Rows at both ends are seen, whatever lies on them.
+        let count: usize = stretches.iter().map(|one| one.len() - 1).sum();
+        let rows = if count > 2 { 1 } else { 0 };
+        let pieces = || stretches.iter().flat_map(|one| one.windows(2)).skip(rows).take(count - 2 * rows);
         let seen = |(s, boxed): &(&usize, &Boxed)| !stations.contains(s) && pieces().any(|two| over(boxed, two));
         boxes.iter().filter(seen).map(|(&s, _)| s).min()
     }

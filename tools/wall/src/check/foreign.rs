@@ -1,8 +1,9 @@
 //! Strokes, fills and texts that belong to nothing on the sheet: whatever has ink is a part that the check knows, goes with
 //! one, or stands beside the drawing.
+use super::changes::Changes;
+use super::leaders::Leaders;
 use super::plane::{away, Point, Span};
 use super::reading::Part;
-use super::xml::Element;
 use super::Check;
 use std::collections::{HashMap, HashSet};
 
@@ -15,10 +16,6 @@ const SIGN: f64 = 2.0;
 
 /// How far a band, a guide or a leader may lie from what it belongs to.
 const BESIDE: f64 = 1.6;
-
-/// How far from its number or label a line that leads from there may begin: the outlines of texts are about so.
-const FROM: f64 = 1.0;
-const WIDER: f64 = 0.2;
 
 /// The colour of lines that lead to labels, and that of lines that lead to marks of changes.
 const LEADING: [&str; 2] = ["#6b675e", "#8f0068"];
@@ -34,10 +31,8 @@ struct Outlines<'a> {
     points: HashSet<(i64, i64)>,
     /// Ends of open runs.
     ends: HashSet<(i64, i64)>,
-    /// What numbers and labels cover, by the group.
-    texts: HashMap<&'a str, Vec<Span>>,
-    /// Whether it is the sheet of a comparison: one with a group of changed parts, which lie under its lines.
-    compared: bool,
+    leaders: Leaders,
+    changes: Changes,
 }
 
 fn key(p: Point) -> (i64, i64) {
@@ -81,23 +76,9 @@ impl Check<'_> {
             let all = part.stretches.as_ref()?;
             Some([*all.first()?.first()?, *all.last()?.last()?])
         });
-        let covered = |name: &'static str| {
-            let named = move |(i, e): (usize, &Element<'_>)| {
-                let key = e.attribute(name).filter(|_| e.name == "text")?.to_string();
-                Some((key, reading.covered(i)?))
-            };
-            reading.elements.iter().enumerate().filter_map(named)
-        };
-        // A label may have two lines.
-        let mut labels: HashMap<String, Span> = HashMap::new();
-        for (mark, span) in covered("data-mark") {
-            labels.entry(mark).and_modify(|whole| *whole = whole.and(&span)).or_insert(span);
-        }
-        let numbers = covered("data-number").map(|(_, span)| span).collect();
-        let texts = HashMap::from([("numbers", numbers), ("marks", labels.into_values().collect())]);
         Outlines {
-            texts,
-            compared: reading.elements.iter().any(|e| e.attribute("id") == Some("changed")),
+            leaders: Leaders::new(reading),
+            changes: Changes::new(self),
             drawn: Span::around(&points),
             paths: reading.bars.iter().chain(&reading.runs).map(|part| d(part.element)).collect(),
             bands: bands.collect(),
@@ -126,7 +107,7 @@ impl Check<'_> {
             }
             "boxes" => has("data-station"),
             "fives" => has("data-five"),
-            "doubts" => element.name == "circle",
+            "doubts" | "doubt-rings" => element.name == "circle",
             "signs" => has("data-sign") && span.0[2] - span.0[0] < SIGN && span.0[3] - span.0[1] < SIGN,
             "guides" => span.0[2] - span.0[0] < 0.02 && self.in_a_box(&span),
             "lines" | "inside" | "open" => has("data-branch") || (!text && along()),
@@ -136,35 +117,28 @@ impl Check<'_> {
                 element.name == "circle" && self.reading.circle(i).is_some_and(|(at, _)| of.ends.contains(&key(at)))
             }
             "crosses" => has("data-cross") || pale,
+            "placeless" => has("data-placeless"),
+            "kinds" => has("data-kind"),
+            "switches" => text && has("data-switch") || pale,
             "bus-names" => text && has("data-label"),
-            "numbers" => text && (has("data-number") || has("data-at-gap")) || pale || self.leads_from(i, of),
+            "numbers" => {
+                text && (has("data-number") || has("data-at-gap"))
+                    || pale
+                    || self.leads(i) && of.leaders.to_its_end(self.reading, i)
+            }
             "station-names" => text && has("data-of") || has("data-leads") && self.leads(i),
-            "marks" => text && has("data-mark") || self.leads_from(i, of),
+            "marks" => text && has("data-mark") || self.leads(i) && of.leaders.to_its_band(self.reading, i),
             "changed" => !text && points.iter().all(|&p| of.points.contains(&key(p))),
-            "changes" if !of.compared => false,
-            "changes" => text || element.name == "rect" || beside() || self.leads(i),
+            "changes" => of.changes.compared && (beside() || of.changes.has(self, i)),
             "title-block" | "index" => beside(),
             _ => false,
         }
     }
 
     /// Whether an element is a thin line in the colour of those that lead to texts.
-    fn leads(&self, i: usize) -> bool {
+    pub fn leads(&self, i: usize) -> bool {
         let (look, element) = (&self.reading.looks[i], &self.reading.elements[i]);
         element.name == "path" && LEADING.contains(&&*look.stroke) && look.wide * look.map.scale() < 0.3
-    }
-
-    /// Whether an element is such a line, and one of its ends is at a number or a label of its own group.
-    fn leads_from(&self, i: usize, of: &Outlines<'_>) -> bool {
-        let Some(points) = self.reading.points(i).filter(|points| points.len() == 2) else { return false };
-        let texts = of.texts.get(&*self.reading.looks[i].group).map_or(&[][..], Vec::as_slice);
-        // Widths of texts are about right: wide fonts have more.
-        let wide = |span: &Span| {
-            let ([left, top, right, bottom], more) = (span.grown(FROM).0, WIDER * (span.0[2] - span.0[0]));
-            Span([left - more, top, right + more, bottom])
-        };
-        let at = |p: &Point| texts.iter().any(|span| wide(span).holds(&Span::of(*p, *p)));
-        self.leads(i) && (at(&points[0]) || at(&points[1]))
     }
 
     /// Whether each stroke of a path is short or lies beside the drawing.

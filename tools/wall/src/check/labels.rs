@@ -7,7 +7,7 @@ use super::Check;
 use std::collections::{BTreeMap, HashMap, HashSet};
 
 /// How far from its box a name may stand where a line leads there.
-const LED: f64 = 10.0;
+const LED: f64 = 13.0;
 
 impl Check<'_> {
     fn unnamed(&self, element: usize) -> bool {

@@ -1,8 +1,11 @@
 //! Whether a finished sheet shows its network: it is read back as a file, with code that shares nothing with the writer.
+mod changes;
 mod doubts;
 mod ends;
 mod foreign;
+pub mod html;
 mod labels;
+mod leaders;
 mod look;
 mod names;
 mod numbers;
@@ -11,7 +14,9 @@ mod page;
 mod parts;
 mod plane;
 pub mod reading;
+mod register;
 mod rows;
+mod switches;
 mod xml;
 
 pub use doubts::tally;
@@ -53,6 +58,11 @@ pub fn findings(reading: &Reading<'_>, network: &Network) -> Findings {
     check.crosses(&runs);
     check.dots(&runs);
     check.numbers(&boxes, &runs);
+    check.switches(&boxes, &runs);
+    check.kinds(&runs);
+    check.fields();
+    check.placeless(&boxes);
+    check.register();
     check.station_labels(&boxes);
     check.bus_labels(&boxes, &bars);
     check.foreign();

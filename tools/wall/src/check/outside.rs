@@ -70,8 +70,8 @@ impl<'a> Around<'a> {
         gap(span, &Span::of(*from, *from)) < BEGINS && (to[0] - there[0]).hypot(to[1] - there[1]) < ENDS
     }
 
-    /// Whether a number stands on the run of its branch, and on no other run and no box.
-    fn on_run_only(&self, i: usize, branch: usize) -> bool {
+    /// Whether a text stands on the run of its branch, and on no other run and no box.
+    pub fn on_run_only(&self, i: usize, branch: usize) -> bool {
         let Some(Span([left, top, right, bottom])) = self.reading.covered(i) else { return false };
         // Digits don't reach below the baseline.
         let narrow = Span([left, top, right, top + DIGITS * (bottom - top)]).narrowed(0.8);

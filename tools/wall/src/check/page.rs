@@ -7,7 +7,7 @@ use std::collections::HashSet;
 const SMALLEST: f64 = 2.5;
 
 /// Elements that draw nothing themselves.
-const SILENT: [&str; 4] = ["svg", "g", "title", "desc"];
+const SILENT: [&str; 5] = ["svg", "g", "title", "desc", "metadata"];
 
 const SHAPES: [&str; 7] = ["path", "rect", "circle", "line", "polyline", "polygon", "text"];
 

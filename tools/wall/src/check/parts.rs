@@ -140,6 +140,31 @@ impl<'a> Check<'a> {
         bars
     }
 
+    /// Each substation without coordinates has a frame round its box, and no other has one.
+    pub fn placeless(&mut self, boxes: &HashMap<usize, Boxed>) {
+        let known = self.network.placed_stations();
+        let mut framed = BTreeMap::new();
+        for (i, element) in self.reading.elements.iter().enumerate() {
+            let Some(station) = element.attribute("data-placeless") else { continue };
+            let station = station.parse::<usize>().ok().filter(|station| boxes.contains_key(station));
+            let fits = |station: &usize| {
+                let own = boxes[station].span;
+                let frame = self.reading.covered(i).filter(|_| element.name == "rect");
+                !known[*station] && frame.is_some_and(|frame| frame.holds(&own) && own.grown(1.0).holds(&frame))
+            };
+            if !station.is_some_and(|station| fits(&station) && self.reading.looks[i].inked()) {
+                self.found.push(format!("line {}: a frame of a place that isn't known, at no such box", element.line));
+            }
+            framed.extend(station.map(|station| (station, i)));
+        }
+        let mut without: Vec<usize> = boxes.keys().copied().filter(|station| !known[*station]).collect();
+        without.sort_unstable();
+        for station in without.into_iter().filter(|station| !framed.contains_key(station)) {
+            let name = self.network.station_name(station);
+            self.say(format!("substation '{name}' has no coordinates, and no frame says so"));
+        }
+    }
+
     /// Says where a part has no ink.
     pub fn seen(&mut self, part: &Part, thing: &str, row: &str) {
         if !self.reading.looks[part.element].inked() {

@@ -115,6 +115,12 @@ pub fn read<'a>(text: &'a str, file: &'a str) -> Result<Reading<'a>, Fault> {
     Ok(reading)
 }
 
+/// The text of the element that has an id.
+pub fn inner_text(text: &str, file: &str, id: &str) -> Result<Option<String>, Fault> {
+    let elements = elements(text, file)?;
+    Ok(elements.iter().find(|e| e.attribute("id") == Some(id)).map(|e| e.text.to_string()))
+}
+
 /// The page in millimetres, and how its numbers become millimetres.
 fn page(root: &Element<'_>, file: &str) -> Result<(Span, Map), Fault> {
     let side =
@@ -183,6 +189,15 @@ impl Reading<'_> {
             list.min_by(|a, b| far(a.1).total_cmp(&far(b.1))).map(|(text, _)| text)
         };
         Some(format!("{}{}", nearest(true)?, nearest(false)?))
+    }
+
+    /// The buses of the part of a network that the sheet says it shows.
+    pub fn part(&self) -> Option<Vec<usize>> {
+        let said = self
+            .elements
+            .iter()
+            .find_map(|e| e.text.strip_prefix("part with the buses ").filter(|_| e.name == "desc"))?;
+        said.split(' ').map(|bus| bus.parse().ok()).collect()
     }
 
     /// Whether the sheet says that it was drawn from a file of this name with this SHA-256.

@@ -32,6 +32,12 @@ pub enum Change {
     Turned,
     Voltage,
     Coordinates,
+    /// A branch has another number on the sheet.
+    Number,
+    /// It has another isolator at an end, another bay, or is something else.
+    Isolator,
+    Bay,
+    Kind,
 }
 
 /// One difference of a substation, bus or branch: what it was and what it is.
@@ -43,7 +49,7 @@ pub struct Difference {
 }
 
 /// A substation, bus or branch that differs.
-#[derive(Debug, PartialEq)]
+#[derive(Clone, Debug, PartialEq)]
 pub struct Item {
     pub kind: Kind,
     /// Its name in the new network; in the old one where it is removed.
@@ -75,6 +81,11 @@ pub fn items(old: &Network, new: &Network) -> Vec<Item> {
     items.extend(buses::buses(old, new, &twins));
     items.extend(branches::branches(old, new, &twins));
     items
+}
+
+/// Branches whose numbers differ only since rows moved: the drawing of the new network can't mark them all.
+pub fn renumbered(old: &Network, new: &Network) -> Vec<Item> {
+    branches::renumbered(old, new, &Twins::new(old, new))
 }
 
 #[cfg(test)]

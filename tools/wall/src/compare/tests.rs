@@ -1,7 +1,7 @@
 //! Differences between small networks.
 use super::words::{csv, line, text};
 use super::*;
-use crate::network::{Branch, Bus};
+use crate::network::{Branch, Bus, More, Numbering};
 
 /// A network from rows: bus, substation, kv and place; branch, from, to and service.
 fn network(buses: &[(&str, &str, f64, [f64; 2])], branches: &[(&str, &str, &str, u8)]) -> Network {
@@ -23,10 +23,13 @@ fn network(buses: &[(&str, &str, f64, [f64; 2])], branches: &[(&str, &str, &str,
             from: end(from),
             to: end(to),
             service,
+            more: More::default(),
             line: i + 2,
         })
         .collect();
-    Network { name: "net".to_string(), sources: Vec::new(), stations, buses: list, branches, notes: Vec::new() }
+    let (numbering, retired) = (Numbering::Rows, Vec::new());
+    let (sources, notes) = (Vec::new(), Vec::new());
+    Network { name: "net".to_string(), sources, stations, buses: list, branches, numbering, retired, part: None, notes }
 }
 
 const A: (&str, &str, f64, [f64; 2]) = ("A", "S", 66.0, [0.0, 0.0]);

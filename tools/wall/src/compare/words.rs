@@ -25,6 +25,10 @@ impl Change {
             Change::Turned => "turned round",
             Change::Voltage => "voltage",
             Change::Coordinates => "coordinates",
+            Change::Number => "number",
+            Change::Isolator => "isolator",
+            Change::Bay => "bay",
+            Change::Kind => "kind",
         }
     }
 
@@ -40,6 +44,10 @@ impl Change {
             Change::Closed => "CLOSED",
             Change::Voltage => "VOLTAGE",
             Change::Coordinates => "PLACE",
+            Change::Number => "NUMBER",
+            Change::Isolator => "ISOLATOR",
+            Change::Bay => "BAY",
+            Change::Kind => "KIND",
         }
     }
 }
@@ -55,7 +63,9 @@ fn said(d: &Difference) -> String {
         Change::Renamed => format!("{word}, was {}", d.before),
         Change::Moved => format!("{word} from {} to {}", d.before, d.after),
         Change::Turned => format!("{word}, now {}", d.after),
-        Change::Voltage | Change::Coordinates => format!("{word} {}, was {}", d.after, d.before),
+        Change::Voltage | Change::Coordinates | Change::Number | Change::Isolator | Change::Bay | Change::Kind => {
+            format!("{word} {}, was {}", d.after, d.before)
+        }
     }
 }
 
@@ -68,6 +78,18 @@ pub fn line(item: &Item) -> String {
 /// Names may hold line breaks.
 fn plain(text: &str) -> String {
     text.split_whitespace().collect::<Vec<_>>().join(" ")
+}
+
+/// What is said of branches whose numbers are those of rows: how many have others, and which.
+pub fn numbers(renumbered: &[Item], new: &Network) -> String {
+    let mut lines: Vec<String> = renumbered.iter().map(|item| format!("{}\n", line(item))).collect();
+    if !lines.is_empty() {
+        let (count, all) = (thousands(lines.len()), thousands(new.branches.len()));
+        lines.push(format!(
+            "Other numbers on the sheet, since rows moved: {count} of {all} branches; --numbers-from keeps numbers.\n"
+        ));
+    }
+    lines.concat()
 }
 
 /// One line for each item, and a last one that counts them.

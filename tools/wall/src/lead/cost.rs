@@ -1,5 +1,7 @@
 //! What is wrong with a way of a line: the less, the better.
+use super::slots::Slot;
 use super::Plan;
+use crate::check::Span;
 use crate::misread::shapes::{away, crossing, inside, Point};
 use crate::misread::turns::is_hairpin;
 
@@ -15,17 +17,24 @@ const CROSSING: f64 = 4.0;
 const SHALLOW: f64 = 40.0;
 const BAR: f64 = 6.0;
 const TIGHT: f64 = 30.0;
+const GRAZED: f64 = 200.0;
+const SHARED: f64 = 2000.0;
 const OUTSIDE: f64 = 5000.0;
 
-/// Strokes nearer than this, beside half their widths, touch to the eye; lines that run so close are read as one.
+/// Strokes nearer than this, beside half their widths, touch to the eye, and lines whose middles are nearer are taken as one;
+/// lines that run so close are read as one.
 const TOUCH: f64 = 0.2;
+const TAKEN: f64 = 0.65;
 const CLOSE: f64 = 0.75;
 
-/// The paper that lines keep free round boxes, where there is room.
-const CLEAR: f64 = 0.4;
+/// The paper that lines keep free round boxes, where there is room, and what is an edge to the eye.
+const CLEAR: f64 = 0.75;
+const EDGE: f64 = 0.35;
 
-/// A shorter way beside another line isn't seen as one.
+/// A shorter way beside another line isn't seen as one; nor is one along an edge.
 const LONG: f64 = 2.5;
+const GRAZES: f64 = 1.2;
+const NEAR: f64 = 1.0;
 
 /// Pieces of ways of one line that are measured: their ends, whether they are its rows, and what is wrong with them.
 #[derive(Default)]
@@ -64,13 +73,13 @@ impl Plan {
         if let Some((.., cost)) = known.0.iter().find(|(of, row, _)| *of == ends && *row == at_row) {
             return *cost;
         }
-        let outside = if self.page.holds(&crate::check::Span::of(ends[0], ends[1])) { 0.0 } else { OUTSIDE };
+        let outside = if self.page.holds(&Span::of(ends[0], ends[1])) { 0.0 } else { OUTSIDE };
         let cost = outside + self.boxes(line, ends, at_row) + self.lines(line, ends, at_row);
         known.0.push((ends, at_row, cost));
         cost
     }
 
-    /// Bars that the rows pass under.
+    /// Bars that the rows pass under, and rows of other open branches that an open one would be on.
     fn rows(&self, line: usize, points: &[Point]) -> f64 {
         let count = points.len();
         let ends = [[points[0], points[1]], [points[count - 1], points[count - 2]]];
@@ -78,7 +87,11 @@ impl Plan {
             let bars = self.place(station).map_or(&[][..], |place| &place.bars);
             bars.iter().filter(|x| (**x - p[0]) * (**x - q[0]) < -1e-6).count()
         };
-        BAR * self.lines[line].stations.into_iter().zip(ends).map(passed).sum::<usize>() as f64
+        let of = &self.lines[line];
+        let shared = |(station, [p, q]): (usize, [Point; 2])| self.clashes(station, &Slot::new(of.branch, p, q));
+        let bars = of.stations.into_iter().zip(ends).map(passed).sum::<usize>();
+        let rows = if of.open { of.stations.into_iter().zip(ends).map(shared).sum::<usize>() } else { 0 };
+        BAR * bars as f64 + SHARED * rows as f64
     }
 
     /// Boxes that a piece passes, or comes too close to. Rows lie in their own boxes.
@@ -93,13 +106,29 @@ impl Plan {
             }
             let long =
                 |by: f64| inside(&place.span.grown(by), ends).map_or(0.0, |[a, b]| (b - a) * far(ends[0], ends[1]));
+            let row_end = |i: usize| own[i] && self.is_exit(line, i, ends);
+            let turns = |p: Point| place.span.grown(EDGE).holds(&Span::of(p, p));
             cost += match long(-0.05) {
                 within if within > 0.3 => within + if own[0] || own[1] { OWN } else { FOREIGN },
-                _ if long(CLEAR) > LONG => TIGHT,
+                _ if long(EDGE) > GRAZES => GRAZED,
+                _ if (turns(ends[0]) || turns(ends[1])) && !row_end(0) && !row_end(1) => GRAZED,
+                _ if long(CLEAR) > if own[0] || own[1] { LONG } else { NEAR } => TIGHT,
                 _ => 0.0,
             };
         });
         cost
+    }
+
+    /// Whether a piece begins or ends where the row at an end of its line does.
+    fn is_exit(&self, line: usize, end: usize, ends: [Point; 2]) -> bool {
+        let Some(points) = self.rows_end(line) else { return false };
+        ends.iter().any(|p| (p[1] - points[end]).abs() < 0.01)
+    }
+
+    /// The heights of the rows of a line.
+    fn rows_end(&self, line: usize) -> Option<[f64; 2]> {
+        let points = &self.lines[line].points;
+        Some([points.first()?[1], points.last()?[1]])
     }
 
     /// Other lines that a piece bends on, runs beside or crosses. The outer end of a row is a bend too.
@@ -132,7 +161,7 @@ fn apart([p, q]: [Point; 2], [u, v]: [Point; 2], by: f64) -> bool {
 
 /// What is wrong between a piece and one of another line, half of whose strokes together are so wide.
 fn met(ends: [Point; 2], other: [Point; 2], half: f64, at_row: [bool; 2]) -> f64 {
-    let touch = half + TOUCH;
+    let touch = (half + TOUCH).max(TAKEN);
     let bent = |p: Point| away(p, ends[0], ends[1]) < touch;
     let meets = crossing(ends, other).is_some();
     let mut cost = if meets { CROSSING } else { 0.0 };

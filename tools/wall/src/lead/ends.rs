@@ -41,10 +41,35 @@ impl Exit {
 
 /// A way as it is put together: the exits at both ends, none where it stays as it is, their lanes, and the points between.
 #[derive(Clone)]
-struct Wish {
+pub struct Wish {
     exits: [Option<Exit>; 2],
     lanes: [usize; 2],
     between: std::ops::Range<usize>,
+}
+
+impl Wish {
+    /// All ways out of both boxes of a line that runs straight between them; in a large network those round one corner at
+    /// most.
+    pub fn all(many: bool) -> Vec<Wish> {
+        let most = if many { 1 } else { 2 };
+        let exits = || Exit::all().filter(move |exit| exit.corners.abs() <= most);
+        let wish = |start: Exit, end: Exit| Wish { exits: [Some(start), Some(end)], lanes: [0, 0], between: 2..2 };
+        exits().flat_map(|start| exits().map(move |end| wish(start, end))).collect()
+    }
+
+    /// All ways out of both boxes of a line, or as it is, with the points from the first to the last or all but one of them.
+    fn with_between(first: usize, last: usize) -> Vec<Wish> {
+        let ends = || std::iter::once(None).chain(Exit::all().map(Some));
+        let parts = [first..last, (first + 1).min(last)..last, first..last.saturating_sub(1).max(first)];
+        let mut list = Vec::new();
+        for start in ends() {
+            for end in ends() {
+                let wish = |between: std::ops::Range<usize>| Wish { exits: [start, end], lanes: [0, 0], between };
+                list.extend(parts.iter().cloned().map(wish));
+            }
+        }
+        list
+    }
 }
 
 impl Plan {
@@ -58,23 +83,27 @@ impl Plan {
         let count = self.lines[line].points.len();
         let first = back[0].unwrap_or(2).min(count - 2);
         let last = (count - back[1].unwrap_or(2).min(count - 2)).max(first);
-        let mut wishes = Vec::new();
-        let ends = |end: usize, all: bool| {
-            let exits: Vec<Option<Exit>> = Exit::all().map(Some).collect();
-            [vec![None], if all || back[end].is_some() { exits } else { Vec::new() }].concat()
-        };
-        for start in ends(0, true) {
-            for end in ends(1, true) {
-                for between in [first..last, (first + 1).min(last)..last, first..last.saturating_sub(1).max(first)] {
-                    wishes.push(Wish { exits: [start, end], lanes: [0, 0], between });
-                }
-            }
-        }
-        self.choose(line, wishes);
+        self.choose(line, Wish::with_between(first, last));
     }
 
-    /// Takes the best of the wishes, each also in other lanes where it is among the shortest.
+    /// Tries all ways out of its boxes for a line that something grave is left on.
+    pub fn lead_exits(&mut self, line: usize) {
+        let count = self.lines[line].points.len();
+        if count >= 4 && !self.grave(line, &mut Known::default()).is_empty() {
+            self.choose(line, Wish::with_between(2, count - 2));
+        }
+    }
+
+    /// Takes the best of the wishes, where one is better than the line is.
     fn choose(&mut self, line: usize, wishes: Vec<Wish>) {
+        let (_, way) = self.best(line, wishes);
+        if way != self.lines[line].points {
+            self.set(line, way);
+        }
+    }
+
+    /// The best of the line as it is and the wishes, each also in other lanes where it is among the shortest.
+    pub fn best(&self, line: usize, wishes: Vec<Wish>) -> (f64, Vec<Point>) {
         let mut rough: Vec<(f64, Wish)> =
             wishes.into_iter().map(|wish| (self.rough(line, &self.way(line, &wish)), wish)).collect();
         rough.sort_by(|a, b| a.0.total_cmp(&b.0));
@@ -97,9 +126,7 @@ impl Plan {
                 }
             }
         }
-        if best.1 != self.lines[line].points {
-            self.set(line, best.1);
-        }
+        best
     }
 
     /// The points of a wish.

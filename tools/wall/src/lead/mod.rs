@@ -1,14 +1,21 @@
 //! Lines led off what they may be misread with. The library's way of a line stays where nothing is wrong with it; where it
 //! turns back into its own box, runs back on itself, bends on another line or passes a foreign box, a better one is looked for
-//! near it. Boxes, bars and the rows of lines stay where they are.
+//! near it. Boxes, bars and the rows of lines stay where they are. Open branches, which the library has straight, are led anew.
 mod cost;
 mod ends;
+mod inside;
 mod near_ways;
+mod open;
+mod slots;
 
 use crate::misread::near::Near;
 use crate::misread::shapes::{Point, Span};
 use crate::network::Network;
-use tansygate::{TxLayout, TX_ROLE_LINE};
+use slots::Slot;
+use tansygate::{TxLayout, TX_ROLE_LINE, TX_ROLE_OPEN};
+
+/// In networks with more branches fewer ways are tried, so that a sheet takes seconds.
+const MANY: usize = 1_500;
 
 /// Paper round the drawing, in millimetres, that lines may be led over.
 const MARGIN: f64 = 6.0;
@@ -20,6 +27,7 @@ struct Line {
     points: Vec<Point>,
     /// The width of its stroke.
     wide: f64,
+    open: bool,
 }
 
 /// A straight piece of a line, as it was when the line had been led so many times.
@@ -29,11 +37,18 @@ struct Piece {
     ends: [Point; 2],
 }
 
-/// A box, its bars from left to right, and the side of a block.
+/// A box, its bars from left to right, the side of a block, and how far from the edge bars and rows begin.
 struct Place {
     span: Span,
     bars: Vec<f64>,
     block: f64,
+    pad: f64,
+}
+
+struct Bar {
+    x: f64,
+    top: f64,
+    bottom: f64,
 }
 
 struct Plan {
@@ -41,6 +56,12 @@ struct Plan {
     /// By station number; none where a station has no bus.
     places: Vec<Option<Place>>,
     boxes: Near,
+    /// By bus.
+    bars: Vec<Bar>,
+    /// The rows that open branches take, by station number.
+    slots: Vec<Vec<Slot>>,
+    /// Whether there are so many branches that fewer ways are tried.
+    many: bool,
     lines: Vec<Line>,
     versions: Vec<usize>,
     pieces: Vec<Piece>,
@@ -68,21 +89,39 @@ pub fn improve(network: &Network, layout: &mut TxLayout, scale: f64) {
     let paper = Paper { scale, corner: [layout.bounds[0], layout.bounds[1]] };
     let mut plan = Plan::new(network, layout, &paper);
     let before: Vec<Vec<Point>> = plan.lines.iter().map(|line| line.points.clone()).collect();
-    for line in 0..plan.lines.len() {
+    for line in 0..before.len() {
         plan.lead_ends(line);
     }
-    for line in (0..plan.lines.len()).chain(0..plan.lines.len()) {
+    for line in 0..before.len() {
         plan.lead_near(line);
     }
-    let led = |line: usize| (plan.lines[line].points != before[line]).then(|| &plan.lines[line]);
-    let led: Vec<&Line> = (0..plan.lines.len()).filter_map(led).collect();
+    let inside = plan.lead_all_open(network, layout, &paper);
+    for line in 0..plan.lines.len() {
+        plan.lead_near(line);
+    }
+    if !plan.many {
+        (0..plan.lines.len()).for_each(|line| plan.lead_exits(line));
+    }
+    let led = |&line: &usize| before.get(line).is_none_or(|way| plan.lines[line].points != *way);
+    let led = (0..plan.lines.len()).filter(led).map(|line| {
+        let Line { branch, points, open, .. } = &plan.lines[line];
+        Led { branch: *branch, points: points.clone(), open: *open }
+    });
+    let led: Vec<Led> = led.chain(inside).filter(|led| led.points.len() > 1).collect();
     write(layout, &led, &paper);
 }
 
-/// Puts the ways of these lines into the lists of pieces; both ends stay as they were, to the bit.
-fn write(layout: &mut TxLayout, led: &[&Line], paper: &Paper) {
-    let mut ways: Vec<Option<&Line>> = vec![None; layout.role.len()];
-    led.iter().for_each(|line| ways[line.branch] = Some(line));
+/// The way that a branch is led.
+struct Led {
+    branch: usize,
+    points: Vec<Point>,
+    open: bool,
+}
+
+/// Puts ways into the lists of pieces; both ends of a live line stay as they were, to the bit.
+fn write(layout: &mut TxLayout, led: &[Led], paper: &Paper) {
+    let mut ways: Vec<Option<&Led>> = vec![None; layout.role.len()];
+    led.iter().for_each(|led| ways[led.branch] = Some(led));
     let (mut segments, mut edges) = (Vec::new(), Vec::new());
     let mut at = 0;
     while at < layout.segment_edge.len() {
@@ -91,13 +130,16 @@ fn write(layout: &mut TxLayout, led: &[&Line], paper: &Paper) {
         let old = &layout.segments[4 * at..4 * (at + count)];
         match ways[branch as usize] {
             None => segments.extend_from_slice(old),
-            Some(line) => {
+            Some(led) => {
                 let last = old.len() - 2;
-                let mut points: Vec<Point> = line.points.iter().map(|&p| paper.back(p)).collect();
+                let mut points: Vec<Point> = led.points.iter().map(|&p| paper.back(p)).collect();
                 let end = points.len() - 1;
-                (points[0], points[end]) = ([old[0], old[1]], [old[last], old[last + 1]]);
-                (points[1][1], points[end - 1][1]) = (old[1], old[last + 1]);
-                points.windows(2).for_each(|two| segments.extend([two[0][0], two[0][1], two[1][0], two[1][1]]));
+                if !led.open {
+                    (points[0], points[end]) = ([old[0], old[1]], [old[last], old[last + 1]]);
+                    (points[1][1], points[end - 1][1]) = (old[1], old[last + 1]);
+                }
+                let pieces = points.windows(2).filter(|two| two[0] != two[1]);
+                pieces.for_each(|two| segments.extend([two[0][0], two[0][1], two[1][0], two[1][1]]));
             }
         }
         edges.resize(segments.len() / 4, branch);
@@ -107,6 +149,25 @@ fn write(layout: &mut TxLayout, led: &[&Line], paper: &Paper) {
 }
 
 impl Plan {
+    /// Leads all open branches that are drawn; gives the ways of those inside one box.
+    fn lead_all_open(&mut self, network: &Network, layout: &TxLayout, paper: &Paper) -> Vec<Led> {
+        let mut drawn: Vec<usize> = layout.segment_edge.iter().map(|&branch| branch as usize).collect();
+        drawn.dedup();
+        let mut inside = Vec::new();
+        for branch in drawn.into_iter().filter(|&branch| layout.role[branch] == TX_ROLE_OPEN) {
+            let row = &network.branches[branch];
+            let Some((from, to)) = network.known(row.from).zip(network.known(row.to)) else { continue };
+            let stations = [from, to].map(|bus| network.buses[bus].station as usize);
+            if stations[0] == stations[1] {
+                let points = self.lead_inside(branch, [from, to], stations[0]);
+                inside.push(Led { branch, points, open: true });
+            } else {
+                self.lead_open(branch, [from, to], stations, stroke(layout, stations, paper));
+            }
+        }
+        inside
+    }
+
     fn new(network: &Network, layout: &TxLayout, paper: &Paper) -> Self {
         let far = paper.point(&layout.bounds[2..]);
         let page = Span([0.0, 0.0, far[0] + MARGIN, far[1] + MARGIN]);
@@ -114,6 +175,9 @@ impl Plan {
             page,
             places: places(network, layout, paper),
             boxes: Near::new(&page),
+            bars: bars(layout, paper),
+            slots: vec![Vec::new(); layout.scale.len()],
+            many: network.branches.len() > MANY,
             lines: Vec::new(),
             versions: Vec::new(),
             pieces: Vec::new(),
@@ -157,10 +221,26 @@ fn places(network: &Network, layout: &TxLayout, paper: &Paper) -> Vec<Option<Pla
         let four = &layout.boxes[4 * station..4 * station + 4];
         let block = layout.unit * layout.scale[station] * paper.scale;
         let span = Span::of(paper.point(&four[..2]), paper.point(&four[2..]));
-        let place = list[station].get_or_insert(Place { span, bars: Vec::new(), block });
-        place.bars.push(paper.point(&layout.busbars[4 * i..4 * i + 2])[0]);
+        let x = paper.point(&layout.busbars[4 * i..4 * i + 2])[0];
+        let place = list[station].get_or_insert(Place { span, bars: Vec::new(), block, pad: f64::INFINITY });
+        place.bars.push(x);
+        place.pad = place.pad.min(x - span.0[0]);
     }
     list
+}
+
+fn bars(layout: &TxLayout, paper: &Paper) -> Vec<Bar> {
+    let bar = |four: &[f64]| {
+        let ([x, top], [_, bottom]) = (paper.point(&four[..2]), paper.point(&four[2..]));
+        Bar { x, top: top.min(bottom), bottom: top.max(bottom) }
+    };
+    layout.busbars.chunks_exact(4).map(bar).collect()
+}
+
+/// The width of the stroke of a line between two stations.
+fn stroke(layout: &TxLayout, stations: [usize; 2], paper: &Paper) -> f64 {
+    let block = stations.map(|s| layout.unit * layout.scale[s] * paper.scale);
+    (0.13 * 1.35 * block[0].min(block[1])).clamp(0.18, 0.8)
 }
 
 /// The lines that leave their boxes level, at the edges, as the library has them.
@@ -178,11 +258,10 @@ fn lines(network: &Network, layout: &TxLayout, paper: &Paper) -> Vec<Line> {
         let row = &network.branches[branch];
         let stations =
             [network.known(row.from)?, network.known(row.to)?].map(|bus| network.buses[bus].station as usize);
-        let block = stations.map(|s| layout.unit * layout.scale[s] * paper.scale);
-        let wide = (0.13 * 1.35 * block[0].min(block[1])).clamp(0.18, 0.8);
+        let wide = stroke(layout, stations, paper);
         let last = points.len().checked_sub(1).filter(|&last| last >= 3)?;
         let level = (points[0][1] - points[1][1]).abs() + (points[last][1] - points[last - 1][1]).abs() < 1e-6;
-        level.then_some(Line { branch, stations, points, wide })
+        level.then_some(Line { branch, stations, points, wide, open: false })
     };
     ways.filter_map(line).collect()
 }
@@ -195,17 +274,19 @@ mod tests {
     /// Two boxes, one below the other and a little to its right, with a bar each, and lines between them.
     fn plan(ways: &[&[Point]]) -> Plan {
         let page = Span([0.0, 0.0, 120.0, 160.0]);
-        let place = |span: [f64; 4], bar: f64| Some(Place { span: Span(span), bars: vec![bar], block: 2.0 });
+        let place = |span: [f64; 4], bar: f64| Some(Place { span: Span(span), bars: vec![bar], block: 2.0, pad: 2.0 });
         let places = vec![place([20.0, 20.0, 30.0, 60.0], 25.0), place([24.0, 100.0, 34.0, 140.0], 29.0)];
         let (boxes, near) = (Near::new(&page), Near::new(&page));
         let (lines, versions, pieces) = (Vec::new(), Vec::new(), Vec::new());
-        let mut plan = Plan { page, places, boxes, lines, versions, pieces, near };
+        let bars = [[25.0, 22.0, 58.0], [29.0, 102.0, 138.0]].map(|[x, top, bottom]| Bar { x, top, bottom });
+        let (bars, slots) = (bars.into(), vec![Vec::new(), Vec::new()]);
+        let mut plan = Plan { page, places, boxes, bars, slots, many: false, lines, versions, pieces, near };
         for station in [0, 1] {
             let span = plan.places[station].as_ref().unwrap().span;
             plan.boxes.add(station, &span);
         }
         for (branch, points) in ways.iter().enumerate() {
-            plan.lines.push(Line { branch, stations: [0, 1], points: points.to_vec(), wide: 0.3 });
+            plan.lines.push(Line { branch, stations: [0, 1], points: points.to_vec(), wide: 0.3, open: false });
             plan.versions.push(0);
             plan.enter(branch);
         }

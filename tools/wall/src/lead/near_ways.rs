@@ -5,7 +5,7 @@ use super::Plan;
 use crate::misread::shapes::{inside, Point};
 
 /// How far points are moved, in millimetres.
-const STEPS: [f64; 2] = [1.1, 2.8];
+const STEPS: [f64; 3] = [0.6, 1.1, 2.8];
 
 /// How often a line is changed.
 const TURNS: usize = 5;
@@ -79,7 +79,7 @@ fn changed(points: &[Point], grave: &[usize]) -> Vec<Vec<Point>> {
             {
                 let outwards =
                     if i == 1 { points[1][0] - points[0][0] } else { points[count - 2][0] - points[count - 1][0] };
-                if level && (y != 0.0 || x * outwards < 0.0) {
+                if level && (y != 0.0 || x * outwards < 0.0) || !level && step == STEPS[0] {
                     continue;
                 }
                 let mut way = points.to_vec();

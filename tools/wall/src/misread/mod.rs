@@ -1,95 +1,20 @@
 //! What on a finished sheet may be misread, measured on the shapes as they are drawn: a line that looks joined to a bar that
-//! it isn't joined to, and what looks like another thing's name or number.
+//! it isn't joined to, and what looks like another thing's name or number. Open branches are lines as live ones are.
 mod bars;
 mod bends;
+mod edges;
+mod gaps;
+mod hidden;
+mod kinds;
 pub mod near;
 pub mod shapes;
+#[cfg(test)]
+mod tests;
 mod texts;
 pub mod turns;
 
+pub use kinds::Kind;
 use shapes::{Point, Shapes};
-
-/// In the order of gravity: what may put a wrong end on a switching sheet comes first.
-#[derive(Clone, Copy, Debug, PartialEq, Eq, PartialOrd, Ord)]
-pub enum Kind {
-    /// A live line under a bar of another substation in its colour.
-    Bar,
-    /// A live line over the dot of another branch.
-    Dot,
-    /// A live line at the tip of a bar of its colour that it isn't joined to.
-    Tip,
-    /// A live line across its own box, beyond its row.
-    Across,
-    /// A live line over the box of another substation.
-    Box,
-    /// A live line that runs back on itself.
-    Hairpin,
-    /// A bend of a live line on another's stroke.
-    Bend,
-    /// Open branches that end in one ring.
-    Ring,
-    /// A cross without its number, or with it nearer to another cross.
-    Cross,
-    /// A substation's name that stands nearer to another box.
-    Name,
-    /// A box without a name or a sign.
-    Unnamed,
-    /// A box whose rows have to be counted, without a band or a sign.
-    Rows,
-}
-
-impl Kind {
-    pub const ALL: [Kind; 12] = [
-        Kind::Bar,
-        Kind::Dot,
-        Kind::Tip,
-        Kind::Across,
-        Kind::Box,
-        Kind::Hairpin,
-        Kind::Bend,
-        Kind::Ring,
-        Kind::Cross,
-        Kind::Name,
-        Kind::Unnamed,
-        Kind::Rows,
-    ];
-
-    /// What the audit's figures call it.
-    pub fn figure(self) -> &'static str {
-        match self {
-            Kind::Bar => "Under bars of their colour",
-            Kind::Dot => "Over other branches' dots",
-            Kind::Tip => "At tips of other bars",
-            Kind::Across => "Across their own boxes",
-            Kind::Box => "Over other boxes",
-            Kind::Hairpin => "Hairpins",
-            Kind::Bend => "Bends on another line",
-            Kind::Ring => "Rings of several branches",
-            Kind::Cross => "Crosses without their number",
-            Kind::Name => "Names nearer to another box",
-            Kind::Unnamed => "Boxes without a name or sign",
-            Kind::Rows => "Boxes by row without a sign",
-        }
-    }
-
-    /// What the index and messages call it.
-    pub fn words(self) -> &'static str {
-        match self {
-            Kind::Bar => "under a bar of its colour",
-            Kind::Dot => "over another branch's dot",
-            Kind::Tip => "at the tip of a bar",
-            Kind::Across => "across its own box",
-            Kind::Box => "over another box",
-            Kind::Hairpin => "runs back on itself",
-            Kind::Bend => "bends on another line",
-            Kind::Ring => "ends in one ring",
-            Kind::Cross => "cross without its number",
-            Kind::Name => "name nearer to another box",
-            Kind::Unnamed => "box without a name or sign",
-            Kind::Rows => "rows without a sign",
-        }
-    }
-}
 
 /// A place that may be misread: where, and what stands there.
 #[derive(Clone, Debug, PartialEq)]
@@ -116,13 +41,16 @@ impl Place {
 pub fn of_lines(shapes: &Shapes) -> Vec<Place> {
     let mut places = turns::hairpins(shapes);
     places.extend(bars::found(shapes));
+    places.extend(edges::found(shapes));
     places.extend(bends::found(shapes));
+    places.extend(gaps::found(shapes));
     sorted(places)
 }
 
 /// All that may be misread, by gravity.
 pub fn found(shapes: &Shapes) -> Vec<Place> {
     let mut places = of_lines(shapes);
+    places.extend(hidden::found(shapes));
     places.extend(texts::found(shapes));
     sorted(places)
 }

@@ -55,7 +55,7 @@ impl Run {
 
     /// The length of what is seen.
     pub fn length(&self) -> f64 {
-        self.pieces().map(|[p, q]| (q[0] - p[0]).hypot(q[1] - p[1])).sum()
+        self.pieces().map(length).sum()
     }
 }
 
@@ -77,7 +77,16 @@ pub struct Number {
 pub struct Name {
     pub station: usize,
     pub span: Span,
+    /// What each of its lines covers.
+    pub lines: Vec<Span>,
     pub led: bool,
+}
+
+/// The name of a bus in its box.
+pub struct Tag {
+    pub bus: usize,
+    pub station: usize,
+    pub span: Span,
 }
 
 /// A band under circuits that run as one stroke.
@@ -99,6 +108,25 @@ pub struct Shapes {
     pub bands: Vec<Band>,
     pub numbers: Vec<Number>,
     pub names: Vec<Name>,
+    pub tags: Vec<Tag>,
+}
+
+/// Rounding of numbers on the sheet.
+pub const LEVEL: f64 = 0.011;
+
+/// Whether a piece is the row of a line in one of its own boxes.
+pub fn on_row(run: &Run, station: usize, piece: [Point; 2]) -> bool {
+    let level = (piece[0][1] - piece[1][1]).abs() < LEVEL;
+    let own = |end: usize| run.stations[end] == station && run.ends().is_some_and(|ends| piece.contains(&ends[end]));
+    level && (own(0) || own(1))
+}
+
+pub fn apart(p: Point, q: Point) -> f64 {
+    ((p[0] - q[0]) * (p[0] - q[0]) + (p[1] - q[1]) * (p[1] - q[1])).sqrt()
+}
+
+pub fn length([p, q]: [Point; 2]) -> f64 {
+    apart(p, q)
 }
 
 /// How far text reaches above and below its baseline, in sizes: capitals and descenders.

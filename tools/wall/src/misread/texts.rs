@@ -1,6 +1,6 @@
 //! Names, numbers and signs: what stands nearer to another thing than to its own, and what isn't there.
 use super::near::Near;
-use super::shapes::{gap, Point, Round, Shapes, Span};
+use super::shapes::{apart, gap, Round, Shapes, Span};
 use super::{Kind, Place};
 use std::collections::HashMap;
 
@@ -78,10 +78,6 @@ fn numbered(shapes: &Shapes, ring: &Round) -> bool {
     let here = |end: usize| ends.is_some_and(|ends| apart(ends[end], ring.at) < 0.02);
     let mut own = shapes.numbers.iter().filter(|number| number.branch == ring.branch);
     own.any(|number| number.end.is_some_and(here))
-}
-
-fn apart(p: Point, q: Point) -> f64 {
-    (p[0] - q[0]).hypot(p[1] - q[1])
 }
 
 /// Crosses that have no number, or one that stands nearer to another cross.

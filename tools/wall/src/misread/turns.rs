@@ -1,4 +1,4 @@
-//! Hairpins: a live line that overshoots and runs back on itself reads as a tap.
+//! Hairpins: a line that overshoots and runs back on itself reads as a tap.
 use super::shapes::{Point, Shapes};
 use super::{Kind, Place};
 
@@ -8,10 +8,10 @@ const SHARPEST: f64 = std::f64::consts::FRAC_1_SQRT_2;
 /// Points nearer than this, in millimetres, are one to a reader.
 const ONE: f64 = 0.3;
 
-/// One place for each hairpin of a live line.
+/// One place for each hairpin of a line.
 pub fn hairpins(shapes: &Shapes) -> Vec<Place> {
     let mut places = Vec::new();
-    for run in shapes.runs.iter().filter(|run| !run.open) {
+    for run in &shapes.runs {
         for part in &run.parts {
             let turns = thinned(part);
             let spikes = turns.windows(3).filter(|three| is_hairpin([three[0], three[1], three[2]]));

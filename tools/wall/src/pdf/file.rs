@@ -4,14 +4,19 @@ use super::{number, POINTS};
 pub struct File {
     /// The objects from number 1 up; the first three are kept for the catalogue, the list of pages and the title.
     objects: Vec<Vec<u8>>,
+    /// The files attached, each with its name.
+    attached: Vec<(&'static str, usize)>,
 }
+
+/// What stands at the head of an attached list.
+pub const ATTACHED: &str = "/Type /EmbeddedFile /Subtype /text#2Fcsv";
 
 const KEPT: usize = 3;
 const PAGES: usize = 2;
 
 impl File {
     pub fn new() -> Self {
-        File { objects: vec![Vec::new(); KEPT] }
+        File { objects: vec![Vec::new(); KEPT], attached: Vec::new() }
     }
 
     pub fn add(&mut self, text: impl Into<Vec<u8>>) -> usize {
@@ -25,6 +30,14 @@ impl File {
         object.extend_from_slice(bytes);
         object.extend_from_slice(b"\nendstream");
         self.add(object)
+    }
+
+    /// Attaches a file of comma-separated text, under a name without brackets.
+    pub fn attach(&mut self, name: &'static str, bytes: &[u8]) {
+        let stream = self.stream(ATTACHED, bytes);
+        let entry = format!("<< /Type /Filespec /F ({name}) /UF ({name}) /EF << /F {stream} 0 R >> >>");
+        let number = self.add(entry);
+        self.attached.push((name, number));
     }
 
     /// A page of a size in millimetres, on which one unit is a millimetre from the upper left corner.
@@ -41,7 +54,10 @@ impl File {
     /// The file's bytes.
     pub fn finished(mut self, pages: &[usize], title: &str) -> Vec<u8> {
         let list: Vec<String> = pages.iter().map(|page| format!("{page} 0 R")).collect();
-        self.objects[0] = format!("<< /Type /Catalog /Pages {PAGES} 0 R >>").into_bytes();
+        let names: Vec<String> = self.attached.iter().map(|(name, file)| format!("({name}) {file} 0 R")).collect();
+        let attached = format!(" /Names << /EmbeddedFiles << /Names [{}] >> >>", names.join(" "));
+        let attached = if names.is_empty() { String::new() } else { attached };
+        self.objects[0] = format!("<< /Type /Catalog /Pages {PAGES} 0 R{attached} >>").into_bytes();
         self.objects[1] = format!("<< /Type /Pages /Count {} /Kids [{}] >>", pages.len(), list.join(" ")).into_bytes();
         let units: String = title.encode_utf16().map(|unit| format!("{unit:04X}")).collect();
         self.objects[2] = format!("<< /Title <FEFF{units}> /Producer (wall) >>").into_bytes();

@@ -8,6 +8,7 @@ use crate::paper::Paper;
 use crate::sheet::{Leaf, Sheet};
 use content::Content;
 use file::File;
+pub use file::ATTACHED;
 use std::collections::BTreeSet;
 
 /// Points in a millimetre.
@@ -34,17 +35,24 @@ pub fn written(sheet: &Sheet, tiles: Option<Paper>) -> (Vec<u8>, Vec<char>) {
             None => pages.push(whole(&mut file, leaf, form, fonts)),
         }
     }
+    let list = sheet.leaves.first().and_then(|leaf| held(leaf, "metadata"));
+    if let Some(list) = list {
+        file.attach("numbers.csv", list.as_bytes());
+    }
     (file.finished(&pages, &title), missing.into_iter().collect())
 }
 
 fn title(leaf: &Leaf) -> String {
+    held(leaf, "title").unwrap_or_default()
+}
+
+/// The text of an element that stands right in the root.
+fn held(leaf: &Leaf, name: &str) -> Option<String> {
     use crate::sheet::svg::Content::{Nodes, Text};
-    let Nodes(nodes) = &leaf.root.content else { return String::new() };
-    let found = nodes.iter().find(|node| node.name == "title").map(|node| &node.content);
-    if let Some(Text(text)) = found {
-        text.clone()
-    } else {
-        String::new()
+    let Nodes(nodes) = &leaf.root.content else { return None };
+    match nodes.iter().find(|node| node.name == name).map(|node| &node.content) {
+        Some(Text(text)) => Some(text.clone()),
+        _ => None,
     }
 }
 

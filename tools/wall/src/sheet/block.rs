@@ -20,6 +20,8 @@ pub struct Lost {
     pub left_out: usize,
     pub numbers: usize,
     pub marks: usize,
+    pub kinds: usize,
+    pub switches: usize,
 }
 
 pub struct Block<'a> {
@@ -57,6 +59,7 @@ impl Block<'_> {
         }
         svg.open("g", &[("id", "title-block".to_string()), ("fill", "#111111".to_string())]);
         self.rules(svg, &edges);
+        self.approval(svg);
         let end = self.title(svg, edges[4]);
         self.open_branches(svg, end + 3.0 * t, edges[4]);
         self.voltages(svg, edges[4]);
@@ -80,8 +83,9 @@ impl Block<'_> {
             d.push_str(&path(&[[b.left, top], [b.right, top]]));
         }
         let beside = Some(edges[4]).filter(|_| top == b.top);
+        let bottom = b.bottom - PITCH * self.page.strip * self.page.text;
         for x in [edges[2]].into_iter().chain(beside) {
-            d.push_str(&path(&[[x, top], [x, b.bottom]]));
+            d.push_str(&path(&[[x, top], [x, bottom]]));
         }
         svg.leaf("path", &stroke(d, "#111111", 0.35));
     }
@@ -92,10 +96,24 @@ impl Block<'_> {
     }
 
     /// A text at a place and row, shortened to a width; gives how wide it is.
-    pub fn put(&self, svg: &mut Svg, text: &str, [x, row]: [f64; 2], size: f64, bold: bool, most: f64) -> f64 {
+    pub fn put(&self, svg: &mut Svg, text: &str, place: [f64; 2], size: f64, bold: bool, most: f64) -> f64 {
+        self.put_field(svg, text, place, (size, bold), most, None)
+    }
+
+    /// The same with a size and whether it is bold, and the name of the field that it fills.
+    pub fn put_field(
+        &self,
+        svg: &mut Svg,
+        text: &str,
+        [x, row]: [f64; 2],
+        (size, bold): (f64, bool),
+        most: f64,
+        field: Option<&str>,
+    ) -> f64 {
         let Some(text) = fitted(&one_line(text), size, bold, most) else { return 0.0 };
         let line = Line { text, x, y: self.row(row), size, bold, anchor: Anchor::Start };
-        svg.line(&line, &[]);
+        let key: Vec<_> = field.map(|field| ("data-field", field.to_string())).into_iter().collect();
+        svg.line(&line, &key);
         line.width()
     }
 
@@ -149,7 +167,10 @@ impl Block<'_> {
 
     /// What was drawn, and how; where the index is comes last.
     fn rows(&self) -> Vec<String> {
-        let mut rows = vec![format!("Network {}", self.network.name)];
+        let stations = self.drawing.quality.displacement.len();
+        let part = self.network.part.as_ref().map(|part| part.said(stations, self.network.branches.len()));
+        let part = part.map_or(String::new(), |part| format!(", {part}"));
+        let mut rows = vec![format!("Network {}{part}", self.network.name)];
         rows.extend(report::files(self.network).iter().map(|(name, sum)| format!("{name}: SHA-256 {sum}…")));
         rows.push(self.drawn_with());
         rows.push(format!("{}, {}", self.page.name, VERSION.trim()));

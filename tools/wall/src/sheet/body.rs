@@ -64,19 +64,22 @@ impl Body<'_> {
         let mut ids = Ids::new();
         self.bands(svg);
         self.boxes(svg, &mut ids);
+        self.placeless(svg);
         self.fives(svg);
         self.doubts(svg);
         self.guides(svg);
         self.runs(svg, &mut ids, TX_ROLE_LINE, "lines");
         self.alternating(svg);
         self.runs(svg, &mut ids, TX_ROLE_INTERNAL, "inside");
-        self.bars(svg, &mut ids);
         self.runs(svg, &mut ids, TX_ROLE_OPEN, "open");
+        self.bars(svg, &mut ids);
         self.rings(svg);
         self.dots(svg);
         self.crosses(svg);
+        self.kinds(svg);
         self.signs(svg);
         self.names(svg);
+        self.doubt_rings(svg);
     }
 
     /// A pale band under each stretch where circuits run as one stroke.
@@ -175,6 +178,16 @@ impl Body<'_> {
     fn doubts(&self, svg: &mut Svg) {
         let look = [("fill", DOUBTED.to_string()), ("stroke", DOUBT.to_string()), ("stroke-width", "0.3".to_string())];
         svg.open("g", &[&[("id", "doubts".to_string())], &look[..]].concat());
+        for at in doubts::marks(&self.placed.doubts) {
+            svg.leaf("circle", &[("cx", mm(at[0])), ("cy", mm(at[1])), ("r", mm(doubts::RADIUS))]);
+        }
+        svg.close();
+    }
+
+    /// The edge of each mark once more, over names and numbers that may hide the disc.
+    fn doubt_rings(&self, svg: &mut Svg) {
+        let look = [("stroke", DOUBT.to_string()), ("stroke-width", "0.3".to_string())];
+        svg.open("g", &[&group("doubt-rings")[..], &look[..]].concat());
         for at in doubts::marks(&self.placed.doubts) {
             svg.leaf("circle", &[("cx", mm(at[0])), ("cy", mm(at[1])), ("r", mm(doubts::RADIUS))]);
         }

@@ -174,6 +174,9 @@ mod tests {
             stations: vec![station.to_string()],
             buses: names.iter().map(bus).collect(),
             branches: Vec::new(),
+            numbering: crate::network::Numbering::Rows,
+            retired: Vec::new(),
+            part: None,
             notes: Vec::new(),
         };
         let rect = Rect::new(0.0, 0.0, 9.0, 9.0);

@@ -1,7 +1,9 @@
 //! Where the red cross of an open branch stands: on its run, clear of other things where it can.
 use super::near::Near;
 use super::scene::Scene;
-use super::shape::{between, distance, Point, Rect};
+use super::shape::{distance, Point, Rect};
+use super::together;
+use crate::misread::shapes::away;
 
 /// Parts of the way that are tried: the middle first, then ever farther from it.
 fn parts() -> impl Iterator<Item = f64> {
@@ -35,8 +37,7 @@ pub fn placed(scene: &Scene, pieces: &Near, boxes: &Near, bars: &Near, page: &Re
     let mut list: Vec<Cross> = Vec::new();
     for (i, run) in scene.runs.iter().enumerate().filter(|(_, run)| run.is_open()) {
         let arm = (0.45 * run.block).clamp(0.8, 2.2).min(0.4 * run.length().max(1.0));
-        let [p, q] = run.ends();
-        let tries = parts().map(|part| Cross { run: i, at: between(p, q, part), arm });
+        let tries = parts().map(|part| Cross { run: i, at: together::at(&run.points, part).0, arm });
         let clash = |cross: &Cross| {
             earlier
                 .near(&cross.rect().grown(2.0 * arm))
@@ -63,18 +64,16 @@ impl Around<'_> {
             )
         };
         let bars = self.bars.near(&rect).iter().filter(|i| bar(i)).count();
-        let [p, q] = self.scene.runs[cross.run].ends();
-        let whole = |s: &Rect| s.grown(0.01).holds(&Rect::around(p, q));
+        let points = &self.scene.runs[cross.run].points;
+        let whole = |s: &Rect| points.iter().all(|&p| s.grown(0.01).has(p));
         let on = |&i: &usize| self.scene.stations[i].rect.overlaps(&rect) && !whole(&self.scene.stations[i].rect);
         let boxes = self.boxes.near(&rect).iter().filter(|i| on(i)).count();
         let through = |rect: &Rect| self.scene.through(self.pieces, rect, Some(cross.run));
         // On the stroke of another branch it would be read as that one's.
         let struck = through(&cross.rect()) + 3 * through(&cross.rect().grown(-0.5 * cross.arm));
-        let hidden = !self.scene.runs[cross.run]
-            .shown
-            .iter()
-            .any(|part| Rect::around(part[0], part[1]).grown(1e-6).has(cross.at));
-        1000 * usize::from(hidden) + 10 * bars + 6 * boxes + 2 * through(&rect) + struck
+        let hidden = !self.scene.runs[cross.run].seen().any(|[p, q]| away(cross.at, p, q) < 1e-6);
+        let turns = points.iter().filter(|&&p| rect.has(p)).count();
+        1000 * usize::from(hidden) + 10 * bars + 6 * boxes + 3 * turns + 2 * through(&rect) + struck
     }
 }
 

@@ -39,7 +39,8 @@ fn kilovolts(a: f64, b: f64) -> String {
 
 impl Contents<'_> {
     pub fn tables(&self) -> Vec<Table> {
-        vec![self.branches(), self.doubts(), self.together(), self.boxes(), self.bars(), self.rows()]
+        let lists = [self.branches(), self.doubts(), self.together(), self.boxes(), self.bars(), self.rows()];
+        lists.into_iter().chain([self.out(), self.placeless(), self.substations(), self.branch_names()]).collect()
     }
 
     fn doubts(&self) -> Table {
@@ -56,9 +57,66 @@ impl Contents<'_> {
         let mut order: Vec<usize> = (0..runs.len()).collect();
         order.sort_by_cached_key(|&e| list_key(&self.network.branches[e].number));
         let rows = order.into_iter().map(|e| (e.to_string(), self.branch(e, runs[e]))).collect();
-        let heads = [("No.", false), ("Branch", true), ("From bus", true), ("To bus", true), ("kV", false)];
-        let more = [("Kind", false), ("State", false), ("Squares", false), ("Rows", false)];
-        table("Branches", "data-index", &[&heads[..], &more[..]].concat(), rows)
+        let mut heads = vec![("No.", false), ("Branch", true), ("From bus", true), ("To bus", true), ("kV", false)];
+        heads.extend([("Kind", false), ("State", false), ("Squares", false), ("Rows", false)]);
+        heads.extend(self.network.has_switches().then_some(("Isolators", false)));
+        heads.extend(self.network.has_bays().then_some(("Bay", true)));
+        table("Branches", "data-index", &heads, rows)
+    }
+
+    /// Branches with one end in a part of a network.
+    fn out(&self) -> Table {
+        let list = self.network.part.as_ref().map_or(&[][..], |part| part.out.as_slice());
+        let row = |(i, out): (usize, &crate::part::Out)| {
+            let bus = &self.network.buses[out.bus];
+            let cells = [out.number.clone(), one_line(&out.name), one_line(&bus.name), one_line(&out.other)];
+            (i.to_string(), cells.into_iter().chain([self.square(bus.station as usize)]).collect())
+        };
+        let rows = list.iter().enumerate().map(row).collect();
+        let heads = [("No.", false), ("Branch", true), ("Bus", true), ("Leads out to", true), ("Square", false)];
+        table("Branches that lead out of this part, not drawn", "data-out", &heads, rows)
+    }
+
+    /// Substations that have no coordinates: where they are drawn is invented.
+    fn placeless(&self) -> Table {
+        let known = self.network.placed_stations();
+        let number = |place: &usize| self.placed.scene.stations[*place].number;
+        let without = self.by_name().into_iter().filter(|place| !known[number(place)]);
+        let row = |place: usize| (number(&place).to_string(), vec![self.station(place), self.square(number(&place))]);
+        let rows = without.map(row).collect();
+        table("Substations whose place isn't known", "data-unplaced", &[("Substation", true), ("Square", false)], rows)
+    }
+
+    /// All substations in the order of their names, with their squares.
+    fn substations(&self) -> Table {
+        let row = |place: usize| {
+            let station = &self.placed.scene.stations[place];
+            let mut levels: Vec<f64> = station.buses.iter().map(|&bus| self.network.buses[bus].kv).collect();
+            levels.sort_by(|a, b| b.total_cmp(a));
+            levels.dedup();
+            let levels: Vec<String> = levels.iter().map(|kv| kv.to_string()).collect();
+            (station.number.to_string(), vec![self.station(place), self.square(station.number), levels.join(", ")])
+        };
+        let rows = self.by_name().into_iter().map(row).collect();
+        table("Substations", "data-place", &[("Substation", true), ("Square", false), ("kV", true)], rows)
+    }
+
+    /// All branches in the order of their names, with their numbers, where that isn't the order of the numbers.
+    fn branch_names(&self) -> Table {
+        let name = |e: &usize| list_key(&one_line(&self.network.branches[*e].name));
+        let mut order: Vec<usize> = (0..self.network.branches.len()).collect();
+        order.sort_by_cached_key(|e| (list_key(&self.network.branches[*e].number), *e));
+        let by_number = order.clone();
+        order.sort_by_cached_key(|e| (name(e), *e));
+        if order == by_number {
+            order.clear();
+        }
+        let row = |e: usize| {
+            let branch = &self.network.branches[e];
+            (e.to_string(), vec![one_line(&branch.name), branch.number.clone()])
+        };
+        let rows = order.into_iter().map(row).collect();
+        table("Branches by name", "data-name", &[("Branch", true), ("No.", false)], rows)
     }
 
     /// A branch, and its run where it has one.
@@ -72,7 +130,7 @@ impl Contents<'_> {
         let both = from.zip(to).map(|(a, b)| (bus(a), bus(b)));
         let [kv, kind, squares, rows] = both.map_or_else(Default::default, |(a, b)| {
             let (s, t) = (a.station as usize, b.station as usize);
-            let kind = if s == t { "inside" } else { "line" };
+            let kind = row.more.kind.map_or(if s == t { "inside" } else { "line" }, |kind| kind.word());
             let two = |one: String, other: String| if s == t { one } else { format!("{one}–{other}") };
             let row = |run: usize, end: usize| self.placed.rows.at(run, end).to_string();
             let joined =
@@ -86,7 +144,9 @@ impl Contents<'_> {
             None => "not drawn",
         };
         let cells = [row.number.clone(), one_line(&row.name), name(from, row.from), name(to, row.to), kv, kind];
-        cells.into_iter().chain([state.to_string(), squares, rows]).collect()
+        let switches = self.network.has_switches().then(|| isolators(&row.more.switches));
+        let bay = self.network.has_bays().then(|| row.more.bay.clone());
+        cells.into_iter().chain([state.to_string(), squares, rows]).chain(switches).chain(bay).collect()
     }
 
     /// What ends in each row of the boxes whose rows have to be counted, by substation.
@@ -200,6 +260,14 @@ impl Contents<'_> {
     /// A station's name and square.
     fn heading(&self, place: usize) -> String {
         format!("{}, {}", self.station(place), self.square(self.placed.scene.stations[place].number))
+    }
+}
+
+/// The isolators of the first and of the second end.
+fn isolators(two: &[String; 2]) -> String {
+    match [two[0].is_empty(), two[1].is_empty()] {
+        [true, true] => String::new(),
+        _ => two.each_ref().map(|name| if name.is_empty() { "none" } else { name }).join(" – "),
     }
 }
 

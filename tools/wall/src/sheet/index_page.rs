@@ -32,7 +32,7 @@ const NARROWED: f64 = 0.85;
 impl<'a> Sides<'a> {
     /// Columns as wide as they are, or narrower where one more then fits beside them, whichever takes fewer pages.
     fn new(paper: Paper, tables: &Contents<'a>, upright: bool) -> Self {
-        let page = || Page::new(paper, upright, ROWS, 0.0);
+        let page = || Page::new(paper, upright, [ROWS, 0], 0.0);
         let (room, gap) = (room(&page()).width(), GUTTER * SMALLEST);
         let plain = Sides::within(page(), tables, room);
         let wide = if plain.flow.count() > 0 { plain.flow.step(0) - gap } else { room };
@@ -115,7 +115,9 @@ fn foot(svg: &mut Svg, source: Source<'_>, page: &Page, title: &str) {
     let files = report::files(source.network);
     let sums: Vec<String> = files.iter().map(|(name, sum)| format!("{} SHA-256 {sum}…", one_line(name))).collect();
     let (paper, name) = (source.settings.paper.name(), one_line(&source.network.name));
-    let words = format!("To the sheet on {paper} of network {name}; {}", sums.join(", "));
+    let approval = source.settings.approval.fields().into_iter().take(2).filter(|(_, value)| !value.is_empty());
+    let approval: String = approval.map(|(field, value)| format!("{} {value}; ", field.to_lowercase())).collect();
+    let words = format!("To the sheet on {paper} of network {name}; {approval}{}", sums.join(", "));
     for (row, text, size) in [(0.0, title, 1.3), (1.15, words.as_str(), 1.0)] {
         let Some(text) = fitted(text, size * t, size > 1.0, b.width() - 2.0 * t) else { continue };
         let y = b.top + (PITCH * row + 1.75) * t;

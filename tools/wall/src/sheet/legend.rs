@@ -38,10 +38,12 @@ pub enum Sign {
     Fives,
     Doubt,
     Index,
+    Kinds,
+    Placeless,
 }
 
 impl Sign {
-    const ALL: [Sign; 11] = [
+    const ALL: [Sign; 13] = [
         Sign::Bar,
         Sign::Branch,
         Sign::Mixed,
@@ -53,6 +55,8 @@ impl Sign {
         Sign::Fives,
         Sign::Doubt,
         Sign::Index,
+        Sign::Kinds,
+        Sign::Placeless,
     ];
 
     fn words(self) -> &'static str {
@@ -68,6 +72,8 @@ impl Sign {
             Sign::Fives => "rows in fives, see index",
             Sign::Doubt => "may be misread, see index",
             Sign::Index => "name, rows: see index",
+            Sign::Kinds => "transformer, coupler",
+            Sign::Placeless => "place not known",
         }
     }
 }
@@ -80,6 +86,9 @@ pub struct Present {
     pub fives: bool,
     pub doubts: bool,
     pub index: bool,
+    pub kinds: bool,
+    pub placeless: bool,
+    pub switches: bool,
 }
 
 impl Present {
@@ -90,6 +99,8 @@ impl Present {
             Sign::Fives => self.fives,
             Sign::Doubt => self.doubts,
             Sign::Index => self.index,
+            Sign::Kinds => self.kinds,
+            Sign::Placeless => self.placeless,
             _ => true,
         }
     }
@@ -134,13 +145,15 @@ impl Block<'_> {
     pub fn signs(&self, svg: &mut Svg, left: f64) {
         let t = self.page.text;
         let mut shown: Vec<Sign> = Sign::ALL.into_iter().filter(|sign| self.present.has(*sign)).collect();
-        let spare = shown.len().saturating_sub(ROWS - 1).min(2);
+        let spare = shown.len().saturating_sub(ROWS - 1).min(4);
         shown.drain(..spare);
         self.put(svg, "Signs", [left + t, 0.0], t, true, SIGNS * t);
         for (i, sign) in shown.into_iter().enumerate() {
             let row = (i + 1) as f64;
             self.sign(svg, sign, left + t, self.row(row) - 0.36 * t);
-            self.put(svg, sign.words(), [left + 5.0 * t, row], t, false, (SIGNS - 5.2) * t);
+            let isolated = sign == Sign::Joined && self.present.switches;
+            let words = if isolated { "joined, number [isolator]" } else { sign.words() };
+            self.put(svg, words, [left + 5.0 * t, row], t, false, (SIGNS - 5.2) * t);
         }
     }
 
@@ -182,8 +195,24 @@ impl Block<'_> {
                     svg.leaf("path", &[("d", path(&outline) + "Z"), ("fill", "#111111".to_string())]);
                 }
             }
+            Sign::Placeless => {
+                let (at, size) = ([middle - 0.8 * t, y - 0.5 * t], [1.6 * t, t]);
+                svg.leaf("rect", &filled(at, size, PAPER, Some(RED)));
+            }
+            Sign::Kinds => self.kinds_sign(svg, [middle, y], &colour),
             Sign::Joined | Sign::UnderBar => self.joint(svg, sign == Sign::Joined, x, y),
         }
+    }
+
+    /// A transformer's circles and a coupler's square.
+    fn kinds_sign(&self, svg: &mut Svg, [x, y]: Point, colour: &str) {
+        let (t, edge) = (self.page.text, Some(colour));
+        for middle in [x - 1.05 * t, x - 0.65 * t] {
+            let circle = [("cx", mm(middle)), ("cy", mm(y)), ("r", mm(0.35 * t)), ("fill", "none".to_string())];
+            let stroke = [("stroke", colour.to_string()), ("stroke-width", "0.2".to_string())];
+            svg.leaf("circle", &[&circle[..], &stroke[..]].concat());
+        }
+        svg.leaf("rect", &filled([x + 0.4 * t, y - 0.35 * t], [0.7 * t, 0.7 * t], "#ffffff", edge));
     }
 
     /// A box with a band of five rows.

@@ -19,6 +19,8 @@ pub struct Measure {
     bends: usize,
     /// Numbers that found no place.
     numbers: usize,
+    /// Lines along edges of boxes.
+    edges: usize,
     /// Times that a line passes under a box.
     under: usize,
     length: f64,
@@ -28,9 +30,13 @@ pub struct Measure {
 pub fn roughly(network: &Network, drawing: &Drawing, settings: &Settings, colours: &Colours) -> usize {
     let palette = Palette::new(network, colours);
     let layout = &drawing.layout;
-    let (page, view) = Page::fitted(settings.paper, &scene::extent(layout), layout.unit, &|_| 0.0);
+    let (page, view) =
+        Page::fitted(settings.paper, settings.approval.rows(), &scene::extent(layout), layout.unit, &|_| 0.0);
     let scene = placing::cut(network, drawing, &palette, &page, &view);
-    let places = misread::of_lines(&seen::of_scene(network, &scene, &palette, &page.whole));
+    let mut shapes = seen::of_scene(network, &scene, &palette, &page.whole);
+    // Open branches are led anew, whatever the drawing.
+    shapes.runs.retain(|run| !run.open);
+    let places = misread::of_lines(&shapes);
     let led = places.iter().filter(|place| matches!(place.kind, Kind::Hairpin | Kind::Bend)).count();
     led + 3 * drawing.quality.lines_through_boxes
 }
@@ -39,19 +45,20 @@ pub fn roughly(network: &Network, drawing: &Drawing, settings: &Settings, colour
 pub fn measured(network: &Network, drawing: &Drawing, settings: &Settings, colours: &Colours) -> Measure {
     let palette = Palette::new(network, colours);
     let layout = &drawing.layout;
-    let (page, view) = Page::fitted(settings.paper, &scene::extent(layout), layout.unit, &|_| 0.0);
+    let (page, view) =
+        Page::fitted(settings.paper, settings.approval.rows(), &scene::extent(layout), layout.unit, &|_| 0.0);
     let placed = Placed::new(network, drawing, &palette, &page, &view);
     let (shapes, numbers) = (seen::of(network, &placed, &palette, &page.whole), placed.numbers.left_out.len());
     let places = misread::of_lines(&shapes);
     let count = |kinds: &[Kind]| places.iter().filter(|place| kinds.contains(&place.kind)).count();
-    let live = || shapes.runs.iter().filter(|run| !run.open);
     Measure {
         overlaps: drawing.quality.overlapping_pairs,
-        joints: count(&[Kind::Bar, Kind::Dot, Kind::Tip, Kind::Across, Kind::Box]),
+        joints: count(&Kind::JOINTS),
         hairpins: count(&[Kind::Hairpin]),
-        bends: count(&[Kind::Bend]),
+        bends: count(&[Kind::Bend, Kind::Bent, Kind::Beside]),
         numbers,
-        under: live().map(|run| run.parts.len().saturating_sub(1)).sum(),
-        length: live().map(|run| run.length()).sum(),
+        edges: count(&[Kind::Edge]),
+        under: shapes.runs.iter().map(|run| run.parts.len().saturating_sub(1)).sum(),
+        length: shapes.runs.iter().map(|run| run.length()).sum(),
     }
 }

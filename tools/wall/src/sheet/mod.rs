@@ -1,4 +1,5 @@
 //! The sheet: pages in millimetres, the same for the same network and settings.
+mod approval;
 mod block;
 mod body;
 mod bus_names;
@@ -7,6 +8,7 @@ mod doubts;
 mod ids;
 mod index;
 mod index_page;
+mod kinds;
 mod legend;
 pub mod lettering;
 mod marks;
@@ -16,6 +18,7 @@ mod numbers;
 mod outside;
 mod page;
 mod palette;
+mod placeless;
 mod placing;
 mod rows;
 mod scene;
@@ -26,7 +29,8 @@ mod signs;
 mod squares;
 mod station_names;
 pub mod svg;
-mod tables;
+mod switches;
+pub mod tables;
 mod taken;
 mod together;
 mod under;
@@ -42,6 +46,7 @@ use crate::network::Network;
 use crate::number::{thousands, voltage};
 use crate::paper::Paper;
 use crate::plain::{one_line, visible};
+use crate::register;
 pub use measure::{measured, roughly, Measure};
 
 use block::{Block, Lost};
@@ -68,6 +73,8 @@ pub struct Sheet {
     pub notes: Vec<String>,
     /// What on the sheet may be misread.
     pub doubts: Vec<Place>,
+    /// The index.
+    pub tables: Vec<Table>,
 }
 
 /// What a sheet is drawn from.
@@ -110,7 +117,7 @@ pub fn drawn(network: &Network, drawing: &Drawing, settings: &Settings, colours:
     let words = index_words(pages.len(), lost, composed.placed.apart());
     let sheet = composed.leaf(source, lost, words, if beside { &tables } else { &[] });
     let leaves = std::iter::once(sheet).chain(pages).collect();
-    Sheet { leaves, notes, doubts: composed.placed.doubts }
+    Sheet { leaves, notes, doubts: composed.placed.doubts, tables }
 }
 
 /// The sheet with room kept free at its right, as much as the function takes for a height, and that room. Its index
@@ -125,20 +132,37 @@ pub fn drawn_beside(
     let palette = Palette::new(network, colours);
     let source = Source { network, drawing, settings, palette: &palette };
     let composed = Composed::new(source, side);
-    let pages = index_page::leaves(source, &composed.tables(network));
+    let tables = composed.tables(network);
+    let pages = index_page::leaves(source, &tables);
     let (lost, notes) = composed.notes(source);
     let words = index_words(pages.len(), lost, composed.placed.apart());
     let sheet = composed.leaf(source, lost, words, &[]);
     let page = &composed.page;
     let panel = shape::Rect::new(page.area.right, page.area.top, page.inner.right, page.area.bottom);
     let leaves = std::iter::once(sheet).chain(pages).collect();
-    (Sheet { leaves, notes, doubts: composed.placed.doubts }, panel)
+    (Sheet { leaves, notes, doubts: composed.placed.doubts, tables }, panel)
+}
+
+/// The square in which each station's box stands, on a sheet of its own.
+pub fn squares_of(
+    network: &Network,
+    drawing: &Drawing,
+    settings: &Settings,
+    colours: &Colours,
+) -> Vec<(usize, String)> {
+    let palette = Palette::new(network, colours);
+    let source = Source { network, drawing, settings, palette: &palette };
+    let bare = Composed::new(source, &|_| 0.0);
+    let composed = bare.with_index(source).unwrap_or(bare);
+    let stations = composed.placed.scene.stations.iter();
+    stations.map(|station| (station.number, composed.page.squares.name(station.rect.middle()))).collect()
 }
 
 /// How many millimetres a unit of the drawing becomes, where this is what the drawing takes up.
 pub fn scale(settings: &Settings, extent: [f64; 4], unit: f64) -> f64 {
     let [left, top, right, bottom] = extent;
-    Page::fitted(settings.paper, &shape::Rect::new(left, top, right, bottom), unit, &|_| 0.0).1.scale
+    let strip = settings.approval.rows();
+    Page::fitted(settings.paper, strip, &shape::Rect::new(left, top, right, bottom), unit, &|_| 0.0).1.scale
 }
 
 /// Rows that are closer, in millimetres, can't be counted on paper.
@@ -169,7 +193,8 @@ struct Composed {
 impl Composed {
     fn new(source: Source<'_>, side: &dyn Fn(f64) -> f64) -> Self {
         let layout = &source.drawing.layout;
-        let (page, view) = Page::fitted(source.settings.paper, &scene::extent(layout), layout.unit, side);
+        let strip = source.settings.approval.rows();
+        let (page, view) = Page::fitted(source.settings.paper, strip, &scene::extent(layout), layout.unit, side);
         let placed = Placed::new(source.network, source.drawing, source.palette, &page, &view);
         Composed { page, view, placed }
     }
@@ -210,7 +235,8 @@ impl Composed {
         let close = (lost.numbers > 0 && apart < COUNTABLE).then(|| {
             let (layout, paper) = (&source.drawing.layout, source.settings.paper);
             let larger = |paper: &Paper| {
-                let (_, view) = Page::fitted(*paper, &scene::extent(layout), layout.unit, &|_| 0.0);
+                let strip = source.settings.approval.rows();
+                let (_, view) = Page::fitted(*paper, strip, &scene::extent(layout), layout.unit, &|_| 0.0);
                 apart * view.scale / self.view.scale >= COUNTABLE
             };
             let way = match Paper::ALL.iter().rev().find(|paper| larger(paper)) {
@@ -244,6 +270,13 @@ impl Composed {
         let present = placed.present();
         let block = Block { network, drawing, settings, palette, page, lost, open, stretches, doubts, present, index };
         leaf(source, page, &source.title(), &|svg| {
+            if let Some(part) = &network.part {
+                let buses: Vec<String> = part.buses.iter().map(usize::to_string).collect();
+                svg.holding("desc", &[("id", "part".to_string())], &format!("part with the buses {}", buses.join(" ")));
+            } else if !network.stations.is_empty() {
+                let list = register::written(&register::of(network));
+                svg.holding("metadata", &[("id", register::ID.to_string())], &list);
+            }
             page.squares.draw(svg, page);
             body.draw(svg);
             block.draw(svg);
@@ -312,6 +345,8 @@ fn lost_notes(lost: Lost) -> Vec<String> {
         note("names", lost.left_out, "the index has them"),
         note("numbers of branches", lost.numbers, "the index has them by the rows of shaded boxes"),
         note("labels of circuits that run as one stroke", lost.marks, "the index has them"),
+        note("signs of transformers and couplers", lost.kinds, "the index has them"),
+        note("isolators", lost.switches, "the index has them"),
     ];
     list.into_iter().flatten().collect()
 }

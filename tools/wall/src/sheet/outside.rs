@@ -161,10 +161,9 @@ impl Around<'_> {
 const AT_GAP: [f64; 5] = [0.8, 2.0, 3.5, 5.5, 8.0];
 
 impl Around<'_> {
-    /// The number of each live line on both sides of each gap where it passes under a box, as far as there is room.
+    /// The number of each line on both sides of each gap where it passes under a box, as far as there is room.
     pub fn at_gaps(&self, numbers: &mut Numbers, taken: &mut Taken) {
-        let live = self.scene.runs.iter().enumerate().filter(|(_, run)| !run.is_open());
-        for (i, run) in live {
+        for (i, run) in self.scene.runs.iter().enumerate() {
             for two in run.shown.windows(2) {
                 let before: Vec<Point> = two[0].iter().rev().copied().collect();
                 for way in [&before, &two[1]] {

@@ -32,8 +32,9 @@ pub struct Page {
     pub inner: Rect,
     pub area: Rect,
     pub block: Rect,
-    /// Rows of the block above its tables.
+    /// Rows of the block above its tables, and below them.
     pub banner: f64,
+    pub strip: f64,
     pub text: f64,
     pub name: String,
     pub squares: Squares,
@@ -48,8 +49,8 @@ pub struct View {
 }
 
 impl Page {
-    /// A page with so many rows in its block, and so much room right of its area.
-    pub fn new(paper: Paper, upright: bool, rows: usize, side: f64) -> Self {
+    /// A page with so many rows in its block, those of its tables and those below them, and so much room right of its area.
+    pub fn new(paper: Paper, upright: bool, [rows, strip]: [usize; 2], side: f64) -> Self {
         let (long, short) = paper.sides();
         let (width, height) = if upright { (short, long) } else { (long, short) };
         let text = paper.text();
@@ -58,7 +59,7 @@ impl Page {
         let frame = whole.grown(-MARGINS[small]);
         let inner = frame.grown(-BANDS[small]);
         let banner = if rows == ROWS && inner.width() < WIDE * text { BANNER } else { 0 };
-        let edge = inner.bottom - ((rows + banner) as f64 * PITCH + 1.2) * text;
+        let edge = inner.bottom - ((rows + banner + strip) as f64 * PITCH + 1.2) * text;
         let area = Rect::new(inner.left, inner.top, inner.right - side, edge);
         Page {
             whole,
@@ -67,6 +68,7 @@ impl Page {
             area,
             block: Rect::new(inner.left, edge, inner.right, inner.bottom),
             banner: banner as f64,
+            strip: strip as f64,
             text,
             name: format!("{} {}, {width} × {height} mm", paper.name(), if upright { "portrait" } else { "landscape" }),
             squares: Squares::new(area, upright),
@@ -74,11 +76,11 @@ impl Page {
     }
 
     /// The page on which the drawing is larger, and how it stands there; room is kept at its side for columns of the
-    /// given width: as many as the function takes for an area's height.
-    pub fn fitted(paper: Paper, extent: &Rect, unit: f64, side: &dyn Fn(f64) -> f64) -> (Page, View) {
+    /// given width: as many as the function takes for an area's height; and so many rows below the block's tables.
+    pub fn fitted(paper: Paper, strip: usize, extent: &Rect, unit: f64, side: &dyn Fn(f64) -> f64) -> (Page, View) {
         let [across, upright] = [false, true].map(|upright| {
-            let bare = Page::new(paper, upright, ROWS, 0.0);
-            let page = Page::new(paper, upright, ROWS, side(bare.area.height()));
+            let bare = Page::new(paper, upright, [ROWS, strip], 0.0);
+            let page = Page::new(paper, upright, [ROWS, strip], side(bare.area.height()));
             let view = View::fitted(&page, extent, unit);
             (page, view)
         });

@@ -3,6 +3,7 @@ use super::block::Lost;
 use super::body::line_width;
 use super::bus_names::{self, BusName};
 use super::crosses::{self, Cross};
+use super::kinds::{self, KindSign};
 use super::legend::Present;
 use super::marks::{self, Mark};
 use super::numbers::{self, Around, Numbers};
@@ -13,6 +14,7 @@ use super::scene::{Run, Scene};
 use super::seen;
 use super::signs::{self, Sign};
 use super::station_names::{self, StationName};
+use super::switches::{self, Switch};
 use super::taken::Taken;
 use super::together::{self, Stretch};
 use super::under;
@@ -27,10 +29,16 @@ pub struct Placed {
     pub marks: Vec<Mark>,
     pub crosses: Vec<Cross>,
     pub numbers: Numbers,
+    pub kinds: Vec<KindSign>,
+    pub switches: Vec<Switch>,
+    /// Signs of kinds and isolators that found no room.
+    pub unshown: [usize; 2],
     pub rows: Rows,
     pub bus_names: Vec<BusName>,
     pub station_names: Vec<StationName>,
     pub signs: Vec<Sign>,
+    /// Whether a substation has no coordinates.
+    pub placeless: bool,
     /// What may be misread of all this, by gravity.
     pub doubts: Vec<Place>,
 }
@@ -46,6 +54,9 @@ impl Placed {
         bus_names.iter().filter_map(|name| name.line.as_ref()).for_each(|line| taken.add(line.rect()));
         let around = Around { network, scene: &scene, pieces: &pieces, bars: &bars, boxes: &boxes, largest: page.text };
         let mut numbers = numbers::placed(&around, &crosses, &mut taken);
+        let (kinds, kinds_lost) = kinds::placed(&around, &mut taken);
+        let (switches, switches_lost) = switches::placed(&around, &numbers, &mut taken);
+        let unshown = [kinds_lost, switches_lost];
         scene.stations.iter().for_each(|s| taken.add(s.rect));
         numbers.list.iter().flat_map(|number| number.outer(&scene)).for_each(|rect| taken.add(rect));
         let station_names = station_names::placed(network, &scene, [&pieces, &boxes], 1.5 * page.text, &mut taken);
@@ -63,9 +74,24 @@ impl Placed {
             let uncounted = |place: usize| rows.counted(place) && rows.bands(&scene, place).is_empty();
             signs::placed(&scene, &unnamed, &uncounted, &mut taken)
         };
-        let doubts = Vec::new();
-        let mut placed =
-            Placed { scene, stretches, marks, crosses, numbers, rows, bus_names, station_names, signs, doubts };
+        let (doubts, known) = (Vec::new(), network.placed_stations());
+        let placeless = scene.stations.iter().any(|station| !known[station.number]);
+        let mut placed = Placed {
+            scene,
+            stretches,
+            marks,
+            crosses,
+            numbers,
+            kinds,
+            switches,
+            unshown,
+            rows,
+            bus_names,
+            station_names,
+            signs,
+            placeless,
+            doubts,
+        };
         placed.doubts = misread::found(&seen::of(network, &placed, palette, &page.whole));
         placed
     }
@@ -85,6 +111,9 @@ impl Placed {
             fives: stations.into_iter().any(|i| self.rows.counted(i) && !self.rows.bands(scene, i).is_empty()),
             doubts: !self.doubts.is_empty(),
             index: !self.signs.is_empty(),
+            placeless: self.placeless,
+            kinds: !self.kinds.is_empty(),
+            switches: !self.switches.is_empty(),
         }
     }
 
@@ -96,6 +125,8 @@ impl Placed {
             left_out: buses(|name| name.line.is_none()) + stations(|name| name.lines.is_empty()),
             numbers: self.numbers.left_out.len(),
             marks: self.marks.iter().filter(|mark| mark.lines.is_empty()).count(),
+            kinds: self.unshown[0],
+            switches: self.unshown[1],
         }
     }
 }

@@ -62,7 +62,9 @@ impl Scene {
             bars: bars(network, layout, palette, view),
             runs: runs(network, layout, palette, view, &block),
         };
-        scene.clear_rows(network);
+        if !drawing.led {
+            scene.clear_rows(network);
+        }
         scene.clear_tips();
         scene
     }
@@ -113,8 +115,8 @@ impl Scene {
         pieces.some(rect).into_iter().map(|run| self.runs[run].shown.iter().map(inner).sum::<usize>()).sum()
     }
 
-    /// Moves the ends of open runs along their bars to between two rows, so that they lie on no live run, each where no other
-    /// ends.
+    /// Moves the ends of straight open runs along their bars to between two rows, so that they lie on no live run, each where no
+    /// other ends. Open runs that are led have their ends there.
     fn clear_rows(&mut self, network: &Network) {
         let mut taken: Vec<Vec<f64>> = vec![Vec::new(); self.bars.len()];
         for run in self.runs.iter_mut().filter(|run| run.is_open() && run.points.len() == 2) {
@@ -140,7 +142,7 @@ const NEAR_ROW: f64 = 0.3;
 const SHORT: f64 = 0.35;
 
 impl Scene {
-    /// Shortens bars whose tips lie on the rows of other branches, which would look joined to them, unless something ends there.
+    /// Shortens bars whose tips lie on the level rows of other branches, which would look joined to them, unless something ends there.
     fn clear_tips(&mut self) {
         let mut rows: Vec<Vec<(f64, [f64; 2])>> = vec![Vec::new(); self.stations.len()];
         let mut ends: Vec<Vec<(f64, f64)>> = vec![Vec::new(); self.stations.len()];
@@ -150,7 +152,7 @@ impl Scene {
             for (station, (row, next)) in run.stations.into_iter().zip(two) {
                 let (place, [p, q]) = (self.place(station), [run.points[row], run.points[next]]);
                 ends[place].push((p[0], p[1]));
-                if !run.is_open() {
+                if (p[1] - q[1]).abs() < 0.01 {
                     rows[place].push((p[1], [p[0].min(q[0]), p[0].max(q[0])]));
                 }
             }
@@ -244,15 +246,6 @@ fn runs(network: &Network, layout: &TxLayout, palette: &Palette, view: &View, bl
 impl Run {
     pub fn is_open(&self) -> bool {
         self.role == TX_ROLE_OPEN
-    }
-
-    /// What a reader follows: an open run on through its gaps, of a live one what is seen.
-    pub fn traced(&self) -> &[Vec<Point>] {
-        if self.is_open() {
-            std::slice::from_ref(&self.points)
-        } else {
-            &self.shown
-        }
     }
 
     /// The straight pieces that are seen.

@@ -8,7 +8,7 @@ use super::shape::{Point, Rect};
 use super::signs::What;
 use super::svg::hundredths;
 use crate::check::Span;
-use crate::misread::shapes::{lettering, Band, Bar, Boxed, Name, Number, Round, Run as Seen, Shapes};
+use crate::misread::shapes::{lettering, Band, Bar, Boxed, Name, Number, Round, Run as Seen, Shapes, Tag};
 use crate::network::Network;
 use std::rc::Rc;
 
@@ -97,8 +97,14 @@ pub fn of(network: &Network, placed: &Placed, palette: &Palette, page: &Rect) ->
     shapes.crosses =
         placed.crosses.iter().map(|cross| (scene.runs[cross.run].branch, middle(cross.at, cross.arm))).collect();
     for name in &placed.station_names {
-        let whole = name.lines.iter().map(text).reduce(|a, b| a.and(&b));
-        shapes.names.extend(whole.map(|span| Name { station: name.station, span, led: name.leader.is_some() }));
+        let lines: Vec<Span> = name.lines.iter().map(text).collect();
+        let whole = lines.iter().copied().reduce(|a, b| a.and(&b));
+        let (station, led) = (name.station, name.leader.is_some());
+        shapes.names.extend(whole.map(|span| Name { station, span, lines, led }));
+    }
+    for name in &placed.bus_names {
+        let (bus, station) = (name.bus, scene.bars[name.bus].station);
+        shapes.tags.extend(name.line.as_ref().map(|line| Tag { bus, station, span: text(line) }));
     }
     shapes
 }

@@ -4,7 +4,7 @@ use super::lettering::{baseline, halves, height, shortened, width, Anchor, Keep,
 use super::near::Near;
 use super::scene::{Scene, Station};
 use super::seen;
-use super::shape::{Point, Rect};
+use super::shape::{distance, Point, Rect};
 use super::short_names::fits;
 use super::taken::Taken;
 use crate::misread::shapes::gap;
@@ -27,13 +27,16 @@ const GAP: f64 = 0.5;
 const BEARING: f64 = 0.15;
 
 /// How far from its box a name may stand where a line leads to it.
-const FARTHER: [f64; 3] = [2.5, 5.0, 8.0];
+const FARTHER: [f64; 4] = [2.5, 5.0, 8.0, 11.0];
 
 /// So much nearer, in millimetres, another box takes a name; some more than where it is found to be misread.
 const NEARER: f64 = 0.02;
 
 /// How little it is liked that a line has to lead from a name to its box.
 const LED: usize = 30;
+
+/// How little it is liked that letters hide a line.
+const HIDDEN: usize = 60;
 
 /// A way to write a name: its lines and size, and how little it is liked.
 struct Wording {
@@ -53,7 +56,7 @@ enum Side {
 }
 
 /// A place of a name: the side, which part of the spare width or height stands before the box's, and how little it is liked.
-const PLACES: [(Side, f64, usize); 10] = [
+const PLACES: [(Side, f64, usize); 12] = [
     (Side::Above, 0.5, 0),
     (Side::Above, 0.0, 1),
     (Side::Above, 1.0, 1),
@@ -62,9 +65,30 @@ const PLACES: [(Side, f64, usize); 10] = [
     (Side::Below, 1.0, 4),
     (Side::Right, 0.0, 9),
     (Side::Left, 0.0, 9),
+    (Side::Right, 0.5, 9),
+    (Side::Left, 0.5, 9),
     (Side::Right, 1.0, 10),
     (Side::Left, 1.0, 10),
 ];
+
+/// Places farther off: across from a corner of the box, and beside it.
+const ACROSS: [(Side, f64, usize); 12] = [
+    (Side::Above, -0.5, 12),
+    (Side::Above, 1.5, 12),
+    (Side::Below, -0.5, 14),
+    (Side::Below, 1.5, 14),
+    (Side::Right, 0.25, 14),
+    (Side::Left, 0.25, 14),
+    (Side::Right, 0.75, 14),
+    (Side::Left, 0.75, 14),
+    (Side::Above, -1.1, 18),
+    (Side::Above, 2.1, 18),
+    (Side::Below, -1.1, 20),
+    (Side::Below, 2.1, 20),
+];
+
+/// No name stands farther from its box, in millimetres.
+const FARTHEST: f64 = 12.0;
 
 struct Around<'a> {
     scene: &'a Scene,
@@ -103,10 +127,10 @@ impl Around<'_> {
         for wording in &wordings {
             self.tries(wording, station, 0.0, taken, &mut found);
         }
-        // Away from its box, a name is short of nothing but room.
+        // Away from its box, a name is short of nothing but room. It goes there rather than over a line.
         let small = wordings.iter().filter(|wording| wording.size == SMALLEST && !wording.shortened);
         for (far, wording) in FARTHER.into_iter().flat_map(|far| small.clone().map(move |wording| (far, wording))) {
-            if found.is_none() {
+            if found.as_ref().is_none_or(|(cost, _)| *cost >= HIDDEN) {
                 self.tries(wording, station, far, taken, &mut found);
             }
         }
@@ -116,7 +140,12 @@ impl Around<'_> {
 
     /// Looks for a better place of a wording, so far from its box.
     fn tries(&self, wording: &Wording, station: &Station, far: f64, taken: &Taken, found: &mut Option<Found>) {
-        for (side, part, dislike) in PLACES {
+        let across = if far > 0.0 { &ACROSS[..] } else { &[] };
+        for &(side, part, dislike) in PLACES.iter().chain(across) {
+            let least = wording.dislike + dislike + if far > 0.0 { LED } else { 0 };
+            if found.as_ref().is_some_and(|(cost, _)| *cost <= least) {
+                continue;
+            }
             let lines = wording.at(&station.rect, side, part, GAP + far);
             if !lines.iter().all(|line| taken.free(&line.rect())) {
                 continue;
@@ -124,11 +153,15 @@ impl Around<'_> {
             let covered: usize = lines.iter().map(|line| self.scene.through(self.pieces, &line.rect(), None)).sum();
             let led = far > 0.0 || self.nearer_to_another(&lines, station);
             let leader = led.then(|| leader(&lines, &station.rect, side));
-            if far > 0.0 && leader.is_some_and(|ends| self.in_another(ends, station.number)) {
+            let away = |[p, q]: [Point; 2]| distance(p, q) > FARTHEST || self.in_another([p, q], station.number);
+            if far > 0.0 && leader.is_some_and(away) {
                 continue;
             }
             let bends: usize = lines.iter().map(|line| self.scene.bends(self.pieces, &line.rect().grown(0.5))).sum();
-            let cost = wording.dislike + dislike + 3 * covered + 5 * bends + if led { LED } else { 0 };
+            let under = |line: &Line| self.scene.through(self.pieces, &line.capitals(), None);
+            let hidden: usize = if covered > 0 { lines.iter().map(under).sum() } else { 0 };
+            let liked = wording.dislike + dislike + if led { LED } else { 0 };
+            let cost = liked + 3 * covered + 5 * bends + HIDDEN * hidden;
             if found.as_ref().is_none_or(|(least, _)| cost < *least) {
                 let (station, shortened) = (station.number, wording.shortened);
                 *found = Some((cost, StationName { station, lines, shortened, leader }));
@@ -211,7 +244,7 @@ impl Wording {
         let anchor = match side {
             Side::Left => Anchor::End,
             Side::Right => Anchor::Start,
-            _ => [Anchor::Start, Anchor::Middle, Anchor::End][(2.0 * part) as usize],
+            _ => [Anchor::Start, Anchor::Middle, Anchor::End][(2.0 * part.clamp(0.0, 1.0)) as usize],
         };
         let lines = self.lines.iter().enumerate();
         lines

@@ -59,7 +59,7 @@ fn pieces(scene: &Scene) -> Vec<Piece> {
     let mut list = Vec::new();
     for (run, of) in scene.runs.iter().enumerate() {
         let mut start = 0.0;
-        for part in of.traced() {
+        for part in &of.shown {
             for two in part.windows(2) {
                 list.push(Piece { run, ends: [two[0], two[1]], start });
                 start += distance(two[0], two[1]);
@@ -174,7 +174,7 @@ pub fn found(scene: &Scene, widths: &[f64], page: &Rect) -> Vec<Stretch> {
             runs.push(run);
             runs.sort_unstable();
             runs.dedup();
-            let points = along(scene.runs[run].traced(), from, to);
+            let points = along(&scene.runs[run].shown, from, to);
             let there = [points[0], middle(&points), points[points.len() - 1]];
             let known =
                 |i: &&usize| there.iter().all(|&p| away(p, &list[**i].points) < 2.0 * reach(widths[run], widths[run]));

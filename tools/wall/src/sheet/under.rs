@@ -1,5 +1,5 @@
-//! What passes under a box has a gap there, wider than the box: an open branch, which runs straight, at the boxes of other
-//! stations, and a live line at these and at its own boxes beyond its rows.
+//! What passes under a box has a gap there, wider than the box: a line at the boxes of other stations and at its own beyond its
+//! rows, an open branch that runs straight from bar to bar at those of other stations.
 use super::near::Near;
 use super::scene::{Run, Scene, Station};
 use super::shape::{between, distance, Point, Rect};
@@ -10,22 +10,22 @@ pub const GAP: f64 = 1.2;
 /// Shorter parts aren't drawn.
 const LEAST: f64 = 0.3;
 
-/// A live line that is inside a box for less, in millimetres, only touches it.
+/// A line that is inside a box for less, in millimetres, only touches it.
 const TOUCHES: f64 = 0.3;
 
 /// Sets what is shown of each run.
 pub fn cut(scene: &mut Scene, boxes: &Near) {
     for i in 0..scene.runs.len() {
         let run = &scene.runs[i];
-        scene.runs[i].shown = match (run.is_open(), run.in_one_row()) {
-            (true, _) => parts(&scene.stations, boxes, run),
-            (false, true) => vec![run.points.clone()],
-            (false, false) => led(&scene.stations, boxes, run),
+        scene.runs[i].shown = match (run.points.len(), run.stations[0] == run.stations[1]) {
+            (_, true) => vec![run.points.clone()],
+            (2, _) if run.is_open() => parts(&scene.stations, boxes, run),
+            _ => led(&scene.stations, boxes, run),
         };
     }
 }
 
-/// The parts of an open run between the gaps; all of it inside its own stations' boxes.
+/// The parts of a straight open run between the gaps; all of it inside its own stations' boxes.
 fn parts(stations: &[Station], boxes: &Near, run: &Run) -> Vec<Vec<Point>> {
     let [p, q] = run.ends();
     let (mut own, mut gaps) = (Vec::new(), Vec::new());
@@ -45,7 +45,7 @@ fn parts(stations: &[Station], boxes: &Near, run: &Run) -> Vec<Vec<Point>> {
     pieces(&run.points, stops, &|at| within(&own, at) || !within(&gaps, at))
 }
 
-/// The parts of a live line between the gaps: at boxes of other stations, and at its own boxes beyond its rows.
+/// The parts of a line between the gaps: at boxes of other stations, and at its own boxes beyond its rows.
 fn led(stations: &[Station], boxes: &Near, run: &Run) -> Vec<Vec<Point>> {
     let count = run.points.len();
     let mut near: Vec<usize> = run.points.windows(2).flat_map(|two| boxes.along(two[0], two[1], GAP)).collect();

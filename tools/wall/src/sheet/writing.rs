@@ -8,7 +8,7 @@ use super::svg::{path, Attribute, Svg};
 const LEADER: &str = "#6b675e";
 
 /// A group of texts with a rim in the colour behind them, so that they can be read over lines.
-fn texts(id: &str, fill: &str, rim: &str, wide: &str) -> Vec<Attribute> {
+pub fn texts(id: &str, fill: &str, rim: &str, wide: &str) -> Vec<Attribute> {
     vec![
         ("id", id.to_string()),
         ("fill", fill.to_string()),
@@ -33,6 +33,7 @@ impl Body<'_> {
         }
         svg.close();
         self.numbers(svg);
+        self.switches(svg);
         svg.open("g", &texts("station-names", "#111111", "#ffffff", "0.6"));
         for name in &self.placed.station_names {
             let more = [("data-of", name.station.to_string())];
@@ -46,7 +47,8 @@ impl Body<'_> {
         svg.open("g", &texts("marks", "#111111", "#ffffff", "0.5"));
         for (i, mark) in self.placed.marks.iter().enumerate() {
             if let Some(guide) = mark.guide {
-                svg.leaf("path", &palette::stroke(path(&guide), LEADER, 0.18));
+                let key = ("data-leads-from", i.to_string());
+                svg.leaf("path", &[palette::stroke(path(&guide), LEADER, 0.18), vec![key]].concat());
             }
             mark.lines.iter().for_each(|line| svg.line(line, &[("data-mark", i.to_string())]));
         }

@@ -3,7 +3,7 @@
 use super::made::Dice;
 use std::fmt::Write;
 
-pub const KINDS: [&str; 8] = ["works", "mesh", "town", "many", "grid", "star", "ieee14", "ieee30"];
+pub const KINDS: [&str; 9] = ["works", "mesh", "town", "many", "grid", "star", "ieee14", "ieee30", "ieee118"];
 
 #[derive(Default)]
 struct Made {
@@ -36,8 +36,9 @@ pub fn network(kind: &str) -> Option<(String, String)> {
         "many" => many(),
         "grid" => grid(),
         "star" => star(),
-        "ieee14" => published(&IEEE14, &PLACES14),
-        "ieee30" => published(&IEEE30, &PLACES30),
+        "ieee14" => published(&IEEE14, &PLACES14, &LOW),
+        "ieee30" => published(&IEEE30, &PLACES30, &LOW),
+        "ieee118" => ieee118(),
         _ => return None,
     };
     Some(made.files())
@@ -93,7 +94,12 @@ fn works() -> Made {
         made.branch(&format!("{board}-{name} A"), &format!("{board} 11/1"), &format!("{name} 11"), true);
         made.branch(&format!("{board}-{name} B"), &format!("{board} 11/2"), &format!("{name} 11"), i % 3 > 0);
         if i >= 8 && i % 5 == 0 {
-            made.branch(&format!("{name} reserve"), &format!("Shop {:0>2} {kv}", i - 7), &format!("{name} {kv}"), false);
+            made.branch(
+                &format!("{name} reserve"),
+                &format!("Shop {:0>2} {kv}", i - 7),
+                &format!("{name} {kv}"),
+                false,
+            );
         }
     }
     made
@@ -251,7 +257,7 @@ fn star() -> Made {
     made
 }
 
-/// The branches of two published test systems, and about where their drawings have the buses.
+/// The branches of published test systems, and about where their drawings have the buses.
 const IEEE14: [(usize, usize); 20] = [
     (1, 2),
     (1, 5),
@@ -366,14 +372,62 @@ const PLACES30: [[i64; 2]; 30] = [
     [1380, 330],
 ];
 
-/// A station for each bus, in about the way the published drawings have it; every seventh branch is open.
-fn published(pairs: &[(usize, usize)], places: &[[i64; 2]]) -> Made {
+/// The branches of the system of 118 buses, seven of them double, and places of its buses by the lengths of the ways between
+/// them.
+const IEEE118: &str =
+    "1-2 1-3 4-5 3-5 5-6 6-7 8-9 8-5 9-10 4-11 5-11 11-12 2-12 3-12 7-12 11-13 12-14 13-15 14-15 12-16 15-17 16-17 \
+     17-18 18-19 19-20 15-19 20-21 21-22 22-23 23-24 23-25 26-25 25-27 27-28 28-29 30-17 8-30 26-30 17-31 29-31 23-32 \
+     31-32 27-32 15-33 19-34 35-36 35-37 33-37 34-36 34-37 38-37 37-39 37-40 30-38 39-40 40-41 40-42 41-42 43-44 \
+     34-43 44-45 45-46 46-47 46-48 47-49 42-49 42-49 45-49 48-49 49-50 49-51 51-52 52-53 53-54 49-54 49-54 54-55 \
+     54-56 55-56 56-57 50-57 56-58 51-58 54-59 56-59 56-59 55-59 59-60 59-61 60-61 60-62 61-62 63-59 63-64 64-61 \
+     38-65 64-65 49-66 49-66 62-66 62-67 65-66 66-67 65-68 47-69 49-69 68-69 69-70 24-70 70-71 24-72 71-72 71-73 \
+     70-74 70-75 69-75 74-75 76-77 69-77 75-77 77-78 78-79 77-80 77-80 79-80 68-81 81-80 77-82 82-83 83-84 83-85 \
+     84-85 85-86 86-87 85-88 85-89 88-89 89-90 89-90 90-91 89-92 89-92 91-92 92-93 92-94 93-94 94-95 80-96 82-96 \
+     94-96 80-97 80-98 80-99 92-100 94-100 95-96 96-97 98-100 99-100 100-101 92-102 101-102 100-103 100-104 103-104 \
+     103-105 100-106 104-105 105-106 105-107 105-108 106-107 108-109 103-110 109-110 110-111 110-112 17-113 32-113 \
+     32-114 27-115 114-115 68-116 12-117 75-118 76-118";
+const PLACES118: &str =
+    "0,1259 140,1406 229,1147 229,827 392,926 149,935 105,1175 660,898 508,665 333,474 304,1051 331,1291 482,1032 \
+     484,1216 682,1085 566,1363 808,1271 718,1183 795,994 885,1282 1021,1532 1296,1631 1334,1463 1532,1324 1161,1492 \
+     1047,1263 1046,1770 859,1909 747,1738 954,1056 854,1524 1110,1610 849,883 853,711 850,514 680,500 1025,753 \
+     1171,904 1031,574 1212,683 1282,539 1468,658 988,472 1245,419 1551,486 1746,513 1795,694 1862,539 1685,582 \
+     1817,432 1840,362 1994,174 1825,66 1680,294 1638,22 1714,99 1892,184 1879,87 1530,117 1386,0 1345,169 1447,271 \
+     1294,207 1344,481 1415,783 1495,563 1369,364 1664,895 1797,839 1698,1118 1762,1374 1631,1548 1857,1614 1835,1224 \
+     1867,1004 2078,1019 2050,864 2154,708 2276,864 2185,1047 1940,1018 2302,764 2497,604 2638,464 2745,620 2887,412 \
+     3043,255 2936,645 2904,822 3144,816 3058,1013 2820,1079 2797,958 2619,1084 2576,926 2408,965 2297,1083 2383,1203 \
+     2349,1258 2612,1268 2807,1268 3009,1169 2783,1452 2664,1461 2747,1671 2587,1521 2607,1749 2838,1891 3004,1824 \
+     2981,1580 3156,1703 3216,1542 912,1456 1172,1863 1071,2014 1608,1051 240,1510 1969,1190";
+
+/// The buses at the higher voltage of the small systems, and of the large one.
+const LOW: [usize; 8] = [1, 2, 3, 4, 5, 6, 7, 8];
+const HIGH118: [usize; 12] = [8, 9, 10, 26, 30, 38, 63, 64, 65, 68, 81, 116];
+
+fn ieee118() -> Made {
+    let pairs = |text: &str, between: char| -> Vec<(i64, i64)> {
+        let pair = |word: &str| {
+            let (a, b) = word.split_once(between).unwrap();
+            (a.parse().unwrap(), b.parse().unwrap())
+        };
+        text.split_whitespace().map(pair).collect()
+    };
+    let branches: Vec<(usize, usize)> =
+        pairs(IEEE118, '-').into_iter().map(|(a, b)| (a as usize, b as usize)).collect();
+    let places: Vec<[i64; 2]> = pairs(PLACES118, ',').into_iter().map(|(x, y)| [x, y]).collect();
+    assert_eq!((branches.len(), places.len()), (186, 118));
+    published(&branches, &places, &HIGH118)
+}
+
+/// A station for each bus, in about the way the published drawings have it; every seventh branch is open. These buses have the
+/// higher voltage.
+fn published(pairs: &[(usize, usize)], places: &[[i64; 2]], high: &[usize]) -> Made {
     let mut made = Made::default();
     for (i, &at) in places.iter().enumerate() {
-        made.bus(&format!("Bus {}", i + 1), &format!("Station {}", i + 1), if i < 8 { "132" } else { "33" }, at);
+        let kv = if high.contains(&(i + 1)) { "132" } else { "33" };
+        made.bus(&format!("Bus {}", i + 1), &format!("Station {}", i + 1), kv, at);
     }
     for (i, (a, b)) in pairs.iter().enumerate() {
-        made.branch(&format!("Line {a}-{b}"), &format!("Bus {a}"), &format!("Bus {b}"), i % 7 != 6);
+        let second = if pairs[..i].contains(&(*a, *b)) { " 2" } else { "" };
+        made.branch(&format!("Line {a}-{b}{second}"), &format!("Bus {a}"), &format!("Bus {b}"), i % 7 != 6);
     }
     made
 }
