@@ -103,8 +103,8 @@ impl Check<'_> {
         let under = |a: Point, b: Point| {
             let wide: Vec<&Boxed> = boxes.values().filter(|boxed| meets(&boxed.span.grown(UNDER), a, b)).collect();
             let near = |r: Point| wide.iter().any(|boxed| boxed.span.grown(UNDER).holds(&spot(r)));
-            let within =
-                |r: Point| own.iter().filter_map(|s| boxes.get(s)).any(|boxed| boxed.span.grown(-EDGE).holds(&spot(r)));
+            let inner = |boxed: &Boxed| boxed.span.grown(-TOUCHES);
+            let within = |r: Point| own.iter().filter_map(|s| boxes.get(s)).any(|boxed| inner(boxed).holds(&spot(r)));
             let steps = (b[0] - a[0]).hypot(b[1] - a[1]).ceil().clamp(2.0, 1e4) as usize;
             let part = |i: usize| i as f64 / steps as f64;
             let at = |i: usize| [a[0] + (b[0] - a[0]) * part(i), a[1] + (b[1] - a[1]) * part(i)];

@@ -27,7 +27,7 @@ const GAP: f64 = 0.5;
 const BEARING: f64 = 0.15;
 
 /// How far from its box a name may stand where a line leads to it.
-const FARTHER: [f64; 4] = [2.5, 5.0, 8.0, 11.0];
+const FARTHER: [f64; 3] = [2.5, 5.0, 8.0];
 
 /// So much nearer, in millimetres, another box takes a name; some more than where it is found to be misread.
 const NEARER: f64 = 0.02;
@@ -88,7 +88,7 @@ const ACROSS: [(Side, f64, usize); 12] = [
 ];
 
 /// No name stands farther from its box, in millimetres.
-const FARTHEST: f64 = 12.0;
+const FARTHEST: f64 = 11.0;
 
 struct Around<'a> {
     scene: &'a Scene,
