@@ -36,10 +36,11 @@ enum {
     TANSYGATE_TO_LENGTH = 3,          /* to and from differ in length */
     TANSYGATE_STATION_NUMBER = 4,     /* a station number of n or more */
     TANSYGATE_OPTION = 5,             /* an option is out of range */
-    TANSYGATE_TOO_FAR = 6,            /* a map point with a coordinate beyond 10^12 */
+    TANSYGATE_TOO_FAR = 6,            /* both coordinates of a bus are finite, one is beyond 10^12 */
     TANSYGATE_LIST_TOO_SHORT = 7,     /* a list is shorter than its needed length */
-    TANSYGATE_ILL_SIZED = 8,          /* the longest side of the stations' boxes is 0, or a corner, or in the
-                                         audit a piece's end, isn't within 2^40 times that side */
+    TANSYGATE_ILL_SIZED = 8,          /* the longest side of the occupied stations' boxes is 0, or a corner of
+                                         these, or in the audit a piece's end, divided by that side
+                                         isn't within 2^40 */
     TANSYGATE_MESH = 9,               /* the mesh fails its test */
     TANSYGATE_CROSSINGS = 10,         /* more crossings, cleared walks counted, than the crossing list holds */
     TANSYGATE_PIECES = 11,            /* more pieces than the piece lists hold */

@@ -27,12 +27,12 @@ pub enum Refusal {
     StationNumber = 4,
     /// An option is out of range.
     Option = 5,
-    /// A map point with a coordinate beyond 10^12.
+    /// Both coordinates of a bus are finite, one is beyond 10^12.
     TooFar = 6,
     /// A lent list is shorter than its needed length.
     ListTooShort = 7,
-    /// The longest side of the substations' boxes is 0, or a corner (or, in the audit, a segment's end) isn't
-    /// within 2^40 times that side.
+    /// The longest side of the occupied substations' boxes is 0, or a corner of these (or, in the audit, a
+    /// segment's end) divided by that side isn't within 2^40.
     IllSized = 8,
     /// The mesh is ill-formed.
     Mesh = 9,

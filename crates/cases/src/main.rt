@@ -33,12 +33,17 @@ impl Tally {
     }
 }
 
-// Whether the test on one line agrees; one whose name is unknown does not.
+// Whether the test on one line agrees; one whose name is unknown does not. The lists of a test lie
+// on the stack only while it runs.
+#[inline(never)]
 fn agrees(line: &[u8]) -> bool {
+    let Some(name) = line.get(..3) else {
+        return false;
+    };
     let digits = line.get(4..).unwrap_or(&[]);
-    let w = words(digits);
+    let mut w = [0; 32];
+    words(digits, &mut w);
     let count = digits.len().div_ceil(WORD);
-    let name = line.get(..3).unwrap_or(&[]);
     match name {
         b"hit" => planar::hit_agrees(&w),
         b"crs" => planar::cross_agrees(&w),

@@ -5,10 +5,12 @@ use text::stored::{float_at, padded, word_at};
 // How far one word of a line begins after another: sixteen digits and a space.
 pub(crate) const WORD: usize = 17;
 
-// The first 32 words of a line's digits, 0 past their end; a word that lacks digits is read as with
+// Writes the words of a line's digits over the front of 32; a word that lacks digits is read as with
 // zeros behind it.
-pub(crate) fn words(digits: &[u8]) -> [u64; 32] {
-    std::array::from_fn(|i| padded(digits.get(WORD * i..).unwrap_or(&[])))
+pub(crate) fn words(digits: &[u8], words: &mut [u64; 32]) {
+    for (word, field) in words.iter_mut().zip(digits.chunks(WORD)) {
+        *word = padded(field);
+    }
 }
 
 // Whether a float has the pattern `bits`, or both are NaNs.

@@ -29,23 +29,33 @@ fn copy_order(order: &[u32], numbers: &mut [u32])
     }
 }
 
-// Where a channel's crossings begin in the order by channel, by halving.
-fn start_of(keys: &[u64], order: &[u32], channel: usize) -> usize
-    requires { order.now ≡ round_of keys.now }
+// Where a channel's crossings begin in the order by channel: not before `first`, which is looked at
+// first.
+fn start_from(keys: &[u64], order: &[u32], first: usize, channel: usize) -> usize
+    requires by_channel { order.now ≡ round_of keys.now }
+    requires not_past { first ≤ first_at keys.now channel }
     ensures { result ≡ first_at keys.now channel }
 {
-    order.partition_point(|&x| (key_at(keys, x) as usize) < channel)
+    for j in first..order.len() {
+        if channel <= key_at(keys, order[j]) as usize {
+            return j;
+        }
+    }
+    order.len()
 }
 
 // Where each channel's crossings begin in the order by channel, one past the last channel included.
+// Each is looked for from the one before on: as many steps as there are channels and crossings.
 fn put_starts(branches: usize, channels: usize, keys: &[u64], order: &[u32], ends: &mut [u32])
     requires fits_u32 { length order.now < 2 ^ 32 }
     requires ends_room { 4 * (branches + channels) + 4 ≤ length ends.old }
     requires by_channel { order.now ≡ round_of keys.now }
     ensures { Started branches (channels + 1) keys.now ends.old ends.new }
 {
+    let mut first = 0;
     for c in 0..channels + 1 {
-        ends[4 * (branches + c) + 3] = start_of(keys, order, c) as u32;
+        first = start_from(keys, order, first, c);
+        ends[4 * (branches + c) + 3] = first as u32;
     }
 }
 

@@ -9,7 +9,7 @@ use lib.ListN.{length, get_or, set, length-set}
 use lib.Seq.{get_or-set_same, get_or-set_other}
 use lib.Ieee.{Float, nan}
 use Rattle.numbers.specs.Table.{table_from}
-use Rattle.numbers.proofs.order.Tables.{length_table, get_d_table, table_suc}
+use Rattle.numbers.proofs.order.Tables.{length_table, get_d_table, table_suc, table_ext}
 use Rattle.numbers.proofs.order.Strides.{table_push, table_set}
 use Rattle.plane.specs.declared.geometry.Point.{Point}
 use Rattle.plane.specs.declared.geometry.Box.{Box}
@@ -115,6 +115,14 @@ pub points_zero : (l : List Float) → points_in 0 l ≡ []
 unfolding points_in table_from
 points_zero l = refl
 
+pub points_suc : (k : ℕ) (l : List Float) → points_in (suc k) l ≡ points_in k l ++ (point_at l k ∷ [])
+unfolding points_in
+points_suc k l = table_suc (point_at l) k
+
+pub points_ext : (k : ℕ) (l m : List Float) → ((i : ℕ) → i < k → point_at l i ≡ point_at m i) → points_in k l ≡ points_in k m
+unfolding points_in
+points_ext k l m h = table_ext (point_at l) (point_at m) k h
+
 pub points_push : (k : ℕ) (l : List Float) (a b : Float) → 2 * k + 1 < length l → points_in (suc k) (put_point l k a b) ≡ points_in k l ++ (point a b ∷ [])
 unfolding points_in
 points_push k l a b h =
@@ -141,6 +149,14 @@ pub boxes_suc : (k : ℕ) (l : List Float) → boxes_in (suc k) l ≡ boxes_in k
 unfolding boxes_in
 boxes_suc k l = table_suc (box_at l) k
 
+pub boxes_ext : (k : ℕ) (l m : List Float) → ((i : ℕ) → i < k → box_at l i ≡ box_at m i) → boxes_in k l ≡ boxes_in k m
+unfolding boxes_in
+boxes_ext k l m h = table_ext (box_at l) (box_at m) k h
+
 pub boxes_push : (k : ℕ) (l : List Float) (b : Box) → 4 * k + 3 < length l → boxes_in (suc k) (put_box l k b) ≡ boxes_in k l ++ (b ∷ [])
 unfolding boxes_in
 boxes_push k l b h = table_push (box_at l) (box_at (put_box l k b)) k b (box_same l k b h) (λ j q. box_other l k j b (λ e. omega arith))
+
+pub boxes_set : (k i : ℕ) (l : List Float) (b : Box) → i < k → 4 * i + 3 < length l → boxes_in k (put_box l i b) ≡ set (boxes_in k l) i b
+unfolding boxes_in
+boxes_set k i l b g h = table_set (box_at l) (box_at (put_box l i b)) k i b g (box_same l i b h) (λ j q n. box_other l i j b n)

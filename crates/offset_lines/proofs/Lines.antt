@@ -1,14 +1,15 @@
 -- The lines of offsets, written one after the other, are those of their list. Assumes nothing.
-use mathlib.Core.Path.{◌≡◌, refl, sym, ap, ◌∙◌}
+use mathlib.Core.Path.{◌≡◌, refl, sym, ap, subst, ◌∙◌}
 use mathlib.Core.List.{List, [], ◌∷◌, ◌++◌, append_assoc, append-nil}
 use Prim.Native.Nat.{ℕ, ◌+◌}
 use native.Mathlib.Numerals.{add-one}
 use mir.ValLaws.{to_z-of_z}
+use lib.IntN.{ℤ}
 use Rattle.numbers.specs.Table.{table_from, table}
 use Rattle.numbers.proofs.order.Tables.{table_suc}
 use Rattle.text.specs.Spell.{signed_field}
 use Rattle.text.proofs.fields.Spelling.{put_over}
-use Rattle.text.proofs.listing.Writing.{put_none, write_laws}
+use Rattle.text.proofs.listing.Writing.{Wrote, wrote_two, put_none, write_laws}
 use Rattle.offsets.specs.declared.offset.Offset.{Offset}
 use Rattle.offsets.specs.Stages.OffsetList.{offset_at, offsets_in}
 use Rattle.offsets.proofs.Grids.{side_square}
@@ -17,6 +18,12 @@ use Rattle.offset_lines.specs.Stages.Text.{offset_names, offset_line, offset_lin
 pub line_parts : (o : Offset) → offset_line o ≡ signed_field 32 o.a ++ signed_field 10 o.b
 unfolding offset_line
 line_parts o = refl
+
+-- a line, from its two numbers
+pub wrote_offset : (l l' l'' : List ℕ) (at r r' : ℕ) (o : Offset) (x y : ℤ) → x ≡ o.a → y ≡ o.b → Wrote l at (signed_field 32 x) l' r → Wrote l' r (signed_field 10 y) l'' r'
+    → Wrote l at (offset_line o) l'' r'
+unfolding offset_line
+wrote_offset l l' l'' at r r' o x y e f h k = subst (λ (s : List ℕ). Wrote l at s l'' r') (cc (e, f)) (wrote_two l l' l'' (signed_field 32 x) (signed_field 10 y) at r r' h k)
 
 pub text_parts : (l : List Offset) → offset_text l ≡ offset_names ++ offset_lines l
 unfolding offset_text

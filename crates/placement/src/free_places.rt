@@ -19,7 +19,7 @@ use plane::proximity::overlaps;
 
 /// What a station's place is looked for with.
 #[derive(Clone, Copy)]
-pub(crate) struct Outline {
+pub struct Outline {
     /// Half the width of its box.
     pub w: f64,
     /// Half the height of its box.
@@ -33,7 +33,8 @@ pub(crate) struct Outline {
 /// The boxes of earlier stations, kept by their left cells of side `unit` (docs/RULES.md, 'Boxes
 /// in cell order').
 #[derive(Clone, Copy)]
-pub(crate) struct Earlier<'a> {
+pub struct Earlier<'a> {
+    /// The side of a cell.
     pub unit: f64,
     /// The boxes by station, four numbers of each.
     pub boxes: &'a [f64],
@@ -104,9 +105,10 @@ fn place(seed: Point, half_width: f64, half_height: f64, widening: f64, offset: 
 /// The offsets that a search tries, by a list of pairs, as the table has them: those outside the
 /// search are skipped.
 #[derive(Clone, Copy)]
-pub(crate) struct Tried<'a> {
+pub struct Tried<'a> {
     /// The pairs.
     pub pairs: &'a [Offset],
+    /// The search, at most 20.
     pub search: usize,
     pub ghost near: { search ≤ 20 },
 }

@@ -1,7 +1,8 @@
 //! Placement: the first free place of each station, and boxes.
 #![tactic(auto)]
 
-pub(crate) mod free_places;
+/// One station's place.
+pub mod free_places;
 pub mod plan;
 pub(crate) mod search;
 pub mod sized;

@@ -1,2 +1,3 @@
 -- Laws that the functions' proofs and the crates above use.
 pub mod Sides
+pub mod Apart

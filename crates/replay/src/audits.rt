@@ -70,7 +70,8 @@ fn audit_agrees(words: &[u64; 1024], left: Words, drawing: &Drawn<'_>) -> bool {
     }
 }
 
-// Lends the lists in the lengths of words 0 to 8.
+// Lends the lists in the lengths of words 0 to 8. They lie on the stack only while it runs.
+#[inline(never)]
 pub(crate) fn agrees(words: &[u64; 1024]) -> bool {
     let mut sub = [0; 4097];
     let mut kv = [0; 32];

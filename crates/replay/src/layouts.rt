@@ -139,7 +139,8 @@ fn drawn_agrees(call: Call, words: &[u64; 1024], left: Words, network: &Network<
     }
 }
 
-// Lends the lists in the lengths of words 8 to 15.
+// Lends the lists in the lengths of words 8 to 15. They lie on the stack only while it runs.
+#[inline(never)]
 pub(crate) fn agrees(call: Call, words: &[u64; 1024]) -> bool {
     let mut sub = [0; 4097];
     let mut kv = [0; 32];

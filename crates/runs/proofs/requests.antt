@@ -1,2 +1,3 @@
 -- Laws that the functions' proofs use.
 mod Made
+pub mod Requesting

@@ -6,3 +6,7 @@ use Rattle.boxes.specs.Length.{index_length}
 pub index_least : (n : ℕ) → n ≤ index_length n
 unfolding index_length
 index_least n = omega arith
+
+pub index_rises : (k n : ℕ) → k ≤ n → index_length k ≤ index_length n
+unfolding index_length
+index_rises k n h = omega arith

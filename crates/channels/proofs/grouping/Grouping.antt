@@ -10,14 +10,14 @@ use lib.Dec.{eqb, ltb}
 use lib.ListN.{length, get_or, take, drop, set, length-set, length-drop, drop_of_length-le}
 use lib.Seq.{drop-cons, take-suc, take_all, length-take-le, get_or-take, get_or-drop, get_or-set_same, get_or-set_other}
 use borrow.Author.Tests.{eq-eqb, ne_eqb}
-use Rattle.numbers.specs.Order.{keep}
+use Rattle.numbers.specs.Order.{key_at, keep}
 use Rattle.numbers.specs.Table.{table, which, strided}
 use Rattle.numbers.proofs.order.Laws.{keep_yes, keep_no}
 use Rattle.numbers.proofs.order.Merging.{le_or_lt}
 use Rattle.numbers.proofs.order.Tables.{how_many_le, table_ext}
 use Rattle.numbers.proofs.order.Strides.{is_table, strided_zero, strided_push, strided_other, strided_past, get_d_strided, length_strided}
 use Rattle.channels.specs.Round.{round_of, first_at, around}
-use Rattle.channels.proofs.half_edges.Rounds.{length_round, vertex_at, before_first, from_first, around_first}
+use Rattle.channels.proofs.half_edges.Rounds.{length_round, vertex_at, round_rises, first_is, before_first, from_first, around_first}
 use Rattle.channels.specs.Stages.Grouped.{start_in, member_in, Copied, Started, Grouped}
 
 -- ---- the order copied beside the crossings
@@ -65,6 +65,17 @@ round_long keys order q = ap length q ∙ length_round keys
 pub start_within : (keys order : List ℕ) → order ≡ round_of keys → (c : ℕ) → first_at keys c ≤ length order
 unfolding first_at
 start_within keys order q c = omega (arith, how_many_le (λ h. ltb (get_or keys h 0) c) (length keys), round_long keys order q)
+
+-- a channel's crossings begin where all before are of lower ones and the next isn't, or nowhere
+module _ (keys order : List ℕ) (q : order ≡ round_of keys) (c j : ℕ) where
+  pub found_here : (k : ℕ) → k ≡ key_at keys (get_or order j 0) → j < length order → c ≤ k → ((i : ℕ) → i < j → vertex_at keys i < c) → j ≡ first_at keys c
+  found_here k e l g h =
+      let here : k ≡ vertex_at keys j = e ∙ ap (λ (s : List ℕ). key_at keys (get_or s j 0)) q in
+      first_is keys c j (omega (arith, round_long keys order q)) h (λ i b u. omega (arith, round_rises keys j i b u, here))
+
+  pub found_none : length order ≤ j → ((i : ℕ) → i < j → vertex_at keys i < c) → length order ≡ first_at keys c
+  found_none l h =
+      first_is keys c (length order) (omega (arith, round_long keys order q)) (λ i b. h i (omega arith)) (λ i b u. absurd (omega (arith, round_long keys order q)))
 
 module _ (m : ℕ) (keys before : List ℕ) where
   pub start_none : Started m 0 keys before before
@@ -126,7 +137,7 @@ module _ (keys : List ℕ) where
   unfolding first_at
   first_in v = how_many_le _ (length keys)
 
-  first_rises : (v : ℕ) → first_at keys v ≤ first_at keys (v + 1)
+  pub first_rises : (v : ℕ) → first_at keys v ≤ first_at keys (v + 1)
   first_rises v =
       ⊎_elim (λ (h : first_at keys v ≤ first_at keys (v + 1)). h)
       (λ (h : first_at keys (v + 1) < first_at keys v).

@@ -2,17 +2,19 @@
 -- Assumes nothing.
 use Prim.Native.Nat.{ℕ, zero, suc, ◌+◌, ◌<◌, ◌≤◌}
 use mathlib.Core.Path.{◌≡◌, refl, sym, ap, ◌∙◌}
-use mathlib.Core.Bool.{Bool, true, false, ◌||◌}
+use mathlib.Core.Bool.{Bool, true, false, not, ◌||◌}
 use mathlib.Core.List.{List, [], ◌∷◌}
 use native.Mathlib.Numerals.{add-one}
 use native.Mathlib.Omega.{arith}
 use borrow.Author.Tests.{lt-ltb, le-ltb}
 use lib.Dec.{ltb}
+use lib.ListN.{length, get_or}
 use Rattle.std.specs.Bool.{MatchBool}
 use Rattle.std.specs.List.{list_any, range_with_len}
 use Rattle.numbers.specs.Order.{pick, count, up_from}
 use Rattle.numbers.specs.Table.{how_many}
 use Rattle.numbers.proofs.order.Tables.{how_many_zero, how_many_yes, how_many_no, how_many_mono}
+use Rattle.network.specs.Refusal.{is_voltage, stray_voltage}
 
 module _ (p : ℕ → Bool) where
   any_counted : (l : List ℕ) → list_any p l ≡ ltb 0 (count p l)
@@ -44,3 +46,15 @@ module _ (p : ℕ → Bool) where
       let m : how_many p (suc h.0) ≤ how_many p n = how_many_mono p (suc h.0) n h.1 in
       sym (lt-ltb 0 (how_many p n) (omega arith))
   found_or_none n false h = let z : how_many p n ≡ 0 = none_below n h in sym (le-ltb 0 (how_many p n) (omega arith))
+
+-- one voltage that is none makes a stray one
+module _ (kv : List ℕ) where
+  stray_at : ℕ → Bool
+  stray_at i = not (is_voltage (get_or kv i 0))
+
+  pub stray_found : (i : ℕ) (r : Bool) → i < length kv → r ≡ is_voltage (get_or kv i 0) → r ≡ false → true ≡ stray_voltage kv
+  unfolding stray_voltage stray_at
+  stray_found i r h e f =
+      let y : how_many stray_at (suc i) ≡ suc (how_many stray_at i) = how_many_yes stray_at i (ap not (sym e) ∙ ap not f) in
+      let m : how_many stray_at (suc i) ≤ how_many stray_at (length kv) = how_many_mono stray_at (suc i) (length kv) h in
+      sym (lt-ltb 0 (how_many stray_at (length kv)) (omega arith))

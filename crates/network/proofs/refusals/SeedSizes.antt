@@ -12,11 +12,12 @@ use borrow.Author.Tests.{ltb-false}
 use Rattle.numbers.specs.Ops.{f0}
 use Rattle.numbers.specs.Small.{abs_of, is_finite}
 use Rattle.numbers.specs.Size.{Within}
-use Rattle.numbers.proofs.float.SizeLaws.{within_weaken, sum_step, mean_within, exact_whole, limit_within}
+use Rattle.numbers.proofs.float.SizeLaws.{within_weaken, sum_step, mean_within, exact_whole, limit_within, limit_most}
 use Rattle.numbers.specs.Order.{pick}
 use Rattle.numbers.specs.Table.{how_many}
 use Rattle.numbers.proofs.order.Tables.{how_many_yes, how_many_no, how_many_le, how_many_mono}
 use Rattle.plane.specs.declared.geometry.Point.{Point}
+use Rattle.plane.proofs.geometry.PointSizes.{Near}
 use Rattle.plane.specs.Plane.{point, origin}
 use Rattle.network.specs.Words.{station_of, buses_in}
 use Rattle.network.specs.Refusal.{above, far_out, too_far}
@@ -126,3 +127,6 @@ module _ (sub : List ℕ) (xy : List Float) (few : length sub ≤ 4096) (near : 
   pub seed_times : (s : ℕ) → Times 1 (seed_of sub xy s)
   unfolding seed_of buses_in counted
   seed_times s = one (sum_to sub xy s (length sub)) (how_many (λ j. eqb (station_of sub j) s) (length sub)) (le_trans (how_many_le (λ j. eqb (station_of sub j) s) (length sub)) few) (sum_times s (length sub) (le_of_eq refl))
+
+  pub seed_near : (s : ℕ) → Near (1074 + 40) (seed_of sub xy s)
+  seed_near s = let h = seed_times s in record { x = limit_most (seed_of sub xy s).x h.x; y = limit_most (seed_of sub xy s).y h.y }

@@ -74,3 +74,57 @@ pub odd_neg : (d q k l : ℕ) → odd d true q k l ≡ neg (odd d false q k l)
 unfolding odd neg
 odd_neg d zero k l = refl
 odd_neg d (suc q) k l = refl
+
+-- finite numbers and sizes, by comparisons with the infinities and with 0
+below_inf : (x : Float) → lt x (inf false) ≡ true → lt (neg (inf false)) x ≡ is_finite x
+unfolding lt neg is_finite
+below_inf nan h = refl
+below_inf (inf true) h = refl
+below_inf (inf false) h = sym h
+below_inf (fin s m e) h = refl
+
+not_below_inf : (x : Float) → lt x (inf false) ≡ false → false ≡ is_finite x
+unfolding lt is_finite
+not_below_inf nan h = refl
+not_below_inf (inf s) h = refl
+not_below_inf (fin s m e) h = sym h
+
+pub finite_below : (x : Float) → lt x (of_bits binary64 0x7ff0_0000_0000_0000) ≡ true → lt (neg (of_bits binary64 0x7ff0_0000_0000_0000)) x ≡ is_finite x
+finite_below x = rw inf_bits (below_inf x)
+
+pub finite_above : (x : Float) → lt x (of_bits binary64 0x7ff0_0000_0000_0000) ≡ false → false ≡ is_finite x
+finite_above x = rw inf_bits (not_below_inf x)
+
+abs_neg : (x : Float) → lt x (fin false 0 (pos 0)) ≡ true → neg x ≡ abs_of x
+unfolding lt neg abs_of
+abs_neg nan h = refl
+abs_neg (inf true) h = refl
+abs_neg (inf false) h = absurd (true≢false (sym h))
+abs_neg (fin true m e) h = refl
+abs_neg (fin false m e) h = absurd (no_less (m * up e * 1) (0 * down e) (ltb-true _ _ h) (zero-mul (down e)))
+  where
+    no_less : (a b : ℕ) → a < b → b ≡ 0 → ⊥
+    no_less a b p q = omega arith
+
+none : (a b : ℕ) → a + b ≤ 0 → a ≡ b
+none a b h = omega arith
+
+and_false : (a b : Bool) → a ≡ true → b ≡ true → (a && b) ≡ false → ⊥
+and_false a b p q h = let z : true ≡ false = sym (ap (λ (t : Bool). t && b) p ∙ q) ∙ h in true≢false z
+
+abs_pos : (x : Float) → lt x (fin false 0 (pos 0)) ≡ false → eq x (fin false 0 (pos 0)) ≡ false → x ≡ abs_of x
+unfolding lt eq abs_of
+abs_pos nan h k = refl
+abs_pos (inf true) h k = absurd (true≢false h)
+abs_pos (inf false) h k = refl
+abs_pos (fin false m e) h k = refl
+abs_pos (fin true m e) h k =
+    let same : m * up e * 1 ≡ 0 * down e = none _ _ (ltb-false _ _ h) in
+    let none' : m * up e * 1 ≡ 0 = same ∙ zero-mul (down e) in
+    absurd (and_false (eqb (m * up e * 1) (0 * down e)) (eqb (m * up e * 1) 0) (eq-eqb _ _ same) (eq-eqb _ _ none') k)
+
+pub abs_below : (x : Float) → lt x (of_bits binary64 0) ≡ true → neg x ≡ abs_of x
+abs_below x = rw zero_bits (abs_neg x)
+
+pub abs_above : (x : Float) → lt x (of_bits binary64 0) ≡ false → eq x (of_bits binary64 0) ≡ false → x ≡ abs_of x
+abs_above x = rw zero_bits (abs_pos x)

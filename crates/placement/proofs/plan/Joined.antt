@@ -12,16 +12,21 @@ use Rattle.network.specs.declared.options.Options.{Options}
 use Rattle.network.specs.declared.words.Kind.{Kind}
 use Rattle.network.specs.Words.{bus_counts, kinds}
 use Rattle.network.specs.Seed as Seed
-use Rattle.network.specs.Views.{counts_in, columns_in, from_rows_in, to_rows_in, points_in}
+use Rattle.network.specs.Views.{counts_in, columns_in, order_in, from_rows_in, to_rows_in, points_in, boxes_in}
 use Rattle.stations.specs.Column as Column
 use Rattle.stations.specs.Row as Row
 use Rattle.stations.specs.Size as Size
 use Rattle.stations.specs.Unit as Unit
+use Rattle.stations.specs.declared.measures.Measures.{Measures}
 use Rattle.stations.specs.declared.measures.Typical.{Typical}
 use Rattle.stations.specs.Scale as Scale
 use Rattle.stations.specs.Stages.Views.{sizes_in, scales_in, row_counts_in}
 use Rattle.stations.proofs.sizes.Blocks.{sizes_view}
-use Rattle.placement.specs.Stages.Plan.{Interiors}
+use Rattle.offsets.specs.Offset.{offsets}
+use Rattle.placement.specs.Turns.{placement_order}
+use Rattle.placement.specs.Place as Place
+use Rattle.placement.specs.Stages.Views.{half_sides_listed}
+use Rattle.placement.specs.Stages.Plan.{Interiors, Settled}
 
 module _ (o : Options) (sub kv : List ℕ) (from to : List ℤ) (service : List ℕ) (xy : List Float) (k : ℕ) where
   ks : List Kind
@@ -58,3 +63,16 @@ module _ (o : Options) (sub kv : List ℕ) (from to : List ℤ) (service : List 
         spacing = sp ∙ cc (p, c);
         side = sd ∙ cc (c, v);
       }
+
+pub settled_joined : (sub kv : List ℕ) (k r : ℕ) (measures : Measures) (search : ℕ) (blocks : List Float) (seeds : List Point) (st : List ℕ) (places frames : List Float)
+    → counts_in k st ≡ bus_counts sub
+    → order_in r st ≡ placement_order sub kv (bus_counts sub)
+    → points_in k places ≡ Place.places (half_sides_listed measures k blocks) (offsets search) seeds (order_in r st)
+    → boxes_in k frames ≡ Place.boxes (half_sides_listed measures k blocks) (counts_in k st) (points_in k places)
+    → Settled sub kv k measures search blocks seeds st places frames
+settled_joined sub kv k r measures search blocks seeds st places frames cs od ps bs =
+    record {
+      counts = cs;
+      placed = ps ∙ cc od;
+      boxes = bs ∙ cc cs;
+    }

@@ -82,6 +82,10 @@ module _ (m : ℕ) (corners : List ℕ) where
     abbrev first : List ℕ
     first = stamp m (suc k) (half_edges_from corners from to) noted
 
+    pub with_length : length (with_marks corners m h k ends) ≡ length ends
+    unfolding with_marks
+    with_length = length_stamp m (suc k) (half_edges_from corners to from) first ∙ length_stamp m (suc k) (half_edges_from corners from to) noted ∙ length-set ends (4 * (m + k) + 2) h
+
     pub with_beside : take (4 * m) (with_marks corners m h k ends) ≡ take (4 * m) ends
     unfolding with_marks
     with_beside =

@@ -18,6 +18,13 @@ keyed a b k = eqb k.low a && eqb k.high b
 pub same_key : (a b : ℕ) (k : Keyed) → k.low ≡ a → k.high ≡ b → keyed a b k ≡ true
 same_key a b k p q = simp (eq-eqb k.low a p, eq-eqb k.high b q)
 
+pub other_key : (a b : ℕ) (k : Keyed) → (k.low ≡ a → k.high ≡ b → ⊥) → keyed a b k ≡ false
+other_key a b k n = go (keyed a b k) refl
+  where
+    go : (t : Bool) → keyed a b k ≡ t → t ≡ false
+    go false e = refl
+    go true e = let w = both (eqb k.low a) (eqb k.high b) e in absurd (n (eqb-true _ _ w.0) (eqb-true _ _ w.1))
+
 pub number_le : (a b : ℕ) (ks : List Keyed) → number_of a b ks ≤ length ks
 unfolding number_of
 number_le a b [] = zero-le

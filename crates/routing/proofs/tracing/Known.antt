@@ -1,5 +1,5 @@
 -- Every channel is that of a half-edge of the mesh, so there are at most as many channels as half-edges. Assumes nothing.
-use mathlib.Core.Path.{◌≡◌, sym, ◌∙◌, subst}
+use mathlib.Core.Path.{◌≡◌, sym, ap, ◌∙◌, subst}
 use mathlib.Core.Logic.{⊎_elim}
 use mathlib.Core.Bool.{true}
 use mathlib.Core.List.{List, [], ◌∷◌, ◌++◌}
@@ -14,8 +14,9 @@ use Rattle.network.proofs.mesh.Meshes.{Sound, mesh_sound}
 use Rattle.network.proofs.mesh.Pigeons.{channels_few}
 use Rattle.channels.specs.Trace.{traced}
 use Rattle.channels.proofs.walk.Walks.{traced_in}
-use Rattle.routing.specs.Route.{MeshScene, Routing, Keyed, RoutedLine, number_of, vertex_of, centre_at, make_channel, with_channel, cross, cross_all, add_walk, add_branch, traced_to, routing}
-use Rattle.routing.proofs.crossings.Numbers.{same_key, number_le, number_front, number_new, with_old, with_new, made_low, made_high}
+use Rattle.routing.specs.Route.{MeshScene, Routing, Keyed, RoutedLine, no_channel, number_of, vertex_of, centre_at, make_channel, with_channel, cross, cross_all, add_walk, add_branch, traced_to, routing}
+use Rattle.routing.specs.Stages.Views.{HalfEdged}
+use Rattle.routing.proofs.crossings.Numbers.{same_key, number_le, number_front, number_new, number_keyed, with_old, with_new, made_low, made_high}
 
 module _ (S : MeshScene) where
   abbrev low_of : ℕ → ℕ
@@ -81,3 +82,12 @@ module _ (S : MeshScene) where
     -- at most as many channels as the mesh is long
     pub routing_few : length (routing S).channels ≤ length S.corners
     routing_few = channels_few S.corners (λ a b. number_of a b (routing S).channels) (length (routing S).channels) known
+
+    -- each between the vertices of a half-edge of the mesh
+    pub channel_edge : (c : ℕ) → c < length (routing S).channels → (h : ℕ) × HalfEdged S.corners (get_or (routing S).channels c no_channel) h
+    channel_edge c l =
+        let w = known c l in
+        let ks = (routing S).channels in
+        let q : number_of (low_of w.0) (high_of w.0) ks ≡ c = w.2 in
+        let z = number_keyed (low_of w.0) (high_of w.0) ks (omega arith) in
+        (w.0, record { inside = w.1; low = sym z.0 ∙ ap (λ (i : ℕ). (get_or ks i no_channel).low) q; high = sym z.1 ∙ ap (λ (i : ℕ). (get_or ks i no_channel).high) q })

@@ -12,7 +12,7 @@ use lib.IntN.{ℤ, pos, negsuc, nat_abs}
 use lib.Signed.{lt_z}
 use lib.Ieee.{Float, nan, inf, fin, eq, is_nan, of_bits, to_bits, binary64}
 use lib.ListN.{length, set, drop, length-append}
-use lib.Seq.{sets, sets-eq, set_comm}
+use lib.Seq.{sets, sets-eq, length-sets, set_comm}
 use borrow.Author.Tests.{lt-ltb, le-ltb, ltb-true}
 use Rattle.numbers.specs.Over.{over}
 use Rattle.text.proofs.fields.Fields.{on_test}
@@ -32,6 +32,19 @@ set_past : (s l : List ℕ) (i j x : ℕ) → j + length s ≤ i → sets (set l
 set_past [] l i j x h = refl
 set_past (y ∷ s) l i j x h =
     ap (λ (t : List ℕ). sets t (suc j) s) (set_comm l i j x y (λ e. absurd (omega (arith, e)))) ∙ set_past s (set l j y) i (suc j) x (omega arith)
+
+set_before : (s l : List ℕ) (i j x : ℕ) → i < j → sets (set l i x) j s ≡ set (sets l j s) i x
+set_before [] l i j x h = refl
+set_before (y ∷ s) l i j x h =
+    ap (λ (t : List ℕ). sets t (suc j) s) (set_comm l i j x y (λ e. absurd (omega (arith, e)))) ∙ set_before s (set l j y) i (suc j) x (omega arith)
+
+pub put_front : (l : List ℕ) (i x : ℕ) (s : List ℕ) → set (put_at l (i + 1) s) i x ≡ put_at l i (x ∷ s)
+unfolding put_at
+put_front l i x s = ap (λ (n : ℕ). set (sets l n s) i x) (add-one i) ∙ sym (set_before s l i (suc i) x (omega arith))
+
+pub length_put : (l : List ℕ) (i : ℕ) (s : List ℕ) → length (put_at l i s) ≡ length l
+unfolding put_at
+length_put l i s = length-sets l i s
 
 pub put_over : (l s : List ℕ) → length s ≤ length l → put_at l 0 s ≡ over s l
 unfolding put_at over

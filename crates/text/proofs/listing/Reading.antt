@@ -27,6 +27,10 @@ over_more s l n d x e h =
     ap (λ t. set (s ++ t) n x) (drop-cons l (length s) d k) ∙ set_at s _ _ x n e ∙ sym (append_snoc s x (drop (suc (length s)) l))
     ∙ ap (λ m. (s ++ (x ∷ [])) ++ drop m l) (sym j)
 
+pub length_over : {A : Type 0} (s l : List A) → length s ≤ length l → length (over s l) ≡ length l
+unfolding over
+length_over s l h = simp (length-append, length-drop) (omega arith)
+
 -- a text that begins with some bytes has as many
 pub begins_length : (w l : List ℕ) → begins w l ≡ true → length w ≤ length l
 unfolding begins

@@ -24,6 +24,16 @@ put_none l i = refl
 pub put_next : (a b l : List ℕ) (i j : ℕ) → j ≡ i + length a → put_at (put_at l i a) j b ≡ put_at l i (a ++ b)
 put_next a b l i j e = ap (λ (n : ℕ). put_at (put_at l i a) n b) e ∙ put_two a b l i
 
+-- s is written into l from `at` on, and then the list is l' and the next place r
+abbrev pub Wrote : List ℕ → ℕ → List ℕ → List ℕ → ℕ → Type 0
+Wrote l at s l' r = (r ≡ at + length s) × (l' ≡ put_at l at s)
+
+pub wrote_two : (l l' l'' a b : List ℕ) (at r r' : ℕ) → Wrote l at a l' r → Wrote l' r b l'' r' → Wrote l at (a ++ b) l'' r'
+wrote_two l l' l'' a b at r r' h k = (
+  omega (arith, h.0, k.0, length-append a b),
+  k.1 ∙ ap (λ (n : ℕ). put_at l' n b) h.0 ∙ ap (λ (t : List ℕ). put_at t (at + length a) b) h.1 ∙ put_two a b l at,
+)
+
 -- ---- lengths
 pub number_room : (stop n : ℕ) → n < 2 ^ 32 → length (number_field stop n) ≤ 11
 number_room stop n h = omega (arith, number_length stop n, u32_places n h)
@@ -83,6 +93,12 @@ take_over s l = take-append_seam s (drop (length s) l)
 pub over_room : {A : Type 0} (s l : List A) → length s ≤ length (over s l)
 unfolding over
 over_room s l = omega (arith, length-append s (drop (length s) l))
+
+-- A list keeps its length where what is written over it is no longer.
+pub written_fits : {A : Type 0} (new old list : List A) → list ≡ over new old → length list ≡ length old → length new ≤ length old
+unfolding over
+written_fits new old list e h =
+    let k : length list ≡ length new + length (drop (length new) old) = ap length e ∙ length-append new (drop (length new) old) in omega (arith, k, h)
 
 -- a writer that is lent as much of a list as a text's length takes the text that was written over its front
 pub ruleset front_laws = (take_over, over_room, common_steps)

@@ -1,0 +1,2 @@
+-- What options in range promise.
+pub mod Ranges
